@@ -6,11 +6,11 @@ use Rattle.std.proofs.lemmas.Bool.{and_from, and_parts, cases_Bool, eqb-true, le
 use Rattle.std.proofs.lemmas.Slice.Eq.{bytes_eq-Decides}
 use Rattle.std.proofs.Math.Dec.{leb, ltb}
 use Rattle.cfi_graph.specs.declared.line.GraphLine.{GraphLine}
-use Rattle.cfi_graph.specs.declared.line.GraphLine.TheVariants.{SystemCalls, Class, CallClass, JumpClass, Site, Edge, Call}
+use Rattle.cfi_graph.specs.declared.line.GraphLine.TheVariants.{Calls, Class, CallClass, JumpClass, Site, Edge, Call}
 use Rattle.cfi_graph.specs.declared.line.SiteKind.{SiteKind}
 use Rattle.cfi_graph.specs.declared.line.SiteKind.TheVariants as kind
 use Rattle.cfi_graph.specs.declared.line.Sort.{Sort}
-use Rattle.cfi_graph.specs.declared.line.Sort.TheVariants.{Both, Calls, Jumps}
+use Rattle.cfi_graph.specs.declared.line.Sort.TheVariants as sorts
 use Rattle.cfi_graph.specs.declared.line.Key.{Key}
 use Rattle.cfi_graph.specs.declared.line.Key.TheVariants.{Head, Label, Address}
 use Rattle.cfi_graph.specs.Calls.{calls_of, line_after}
@@ -28,7 +28,7 @@ use Rattle.cfi_graph.proofs.Whole.{rises_after, spellings}
 
 -- a line is a list of system calls
 abbrev is_list : GraphLine → Bool
-is_list (SystemCalls numbers) = true
+is_list (Calls numbers) = true
 is_list (Class label targets) = false
 is_list (CallClass label targets) = false
 is_list (JumpClass label targets) = false
@@ -38,9 +38,9 @@ is_list (Call from to) = false
 
 -- a line above another is no list
 other_after : (before : Key) (l : GraphLine) → key_below before (key_of l) ≡ true → is_list l ≡ false
-other_after Head (SystemCalls numbers) e = absurd cc
-other_after (Label k) (SystemCalls numbers) e = absurd cc
-other_after (Address a) (SystemCalls numbers) e = absurd cc
+other_after Head (Calls numbers) e = absurd cc
+other_after (Label k) (Calls numbers) e = absurd cc
+other_after (Address a) (Calls numbers) e = absurd cc
 other_after before (Class label targets) e = refl
 other_after before (CallClass label targets) e = refl
 other_after before (JumpClass label targets) e = refl
@@ -78,16 +78,16 @@ module _ (version len : ℕ) (small : len ≤ 0x100000) where
       rw (name_back sort fits, label_back label p.0, addresses_back len targets small p.1) refl
     where
       name_back : (sort : Sort) → is_sort_of version sort ≡ true → sort_named version (class_name sort) ≡ Some sort
-      name_back Both fits = rw fits refl
-      name_back Calls fits = rw fits refl
-      name_back Jumps fits = rw fits refl
+      name_back sorts.Both fits = rw fits refl
+      name_back sorts.Calls fits = rw fits refl
+      name_back sorts.Jumps fits = rw fits refl
 
   named_back : (l : GraphLine) → is_list l ≡ false → fits_version version (class_in l) ≡ true → line_in_range len l ≡ true → line_of version (words_of_line l) ≡ Some l
   unfolding line_of
-  named_back (SystemCalls numbers) other fits e = absurd cc
-  named_back (Class label targets) other fits e = class_back Both label targets fits e
-  named_back (CallClass label targets) other fits e = class_back Calls label targets fits e
-  named_back (JumpClass label targets) other fits e = class_back Jumps label targets fits e
+  named_back (Calls numbers) other fits e = absurd cc
+  named_back (Class label targets) other fits e = class_back sorts.Both label targets fits e
+  named_back (CallClass label targets) other fits e = class_back sorts.Calls label targets fits e
+  named_back (JumpClass label targets) other fits e = class_back sorts.Jumps label targets fits e
   named_back (Site a kind.Call label) other fits e =
       let p = and_parts (is_code_address len a) (is_label label) e in
       rw (address_back len a small p.0, label_back label p.1) refl
@@ -110,19 +110,19 @@ kind_plain kind.Call = refl
 kind_plain kind.Jump = refl
 
 name_plain : (sort : Sort) → plain (class_name sort) ≡ true
-name_plain Both = refl
-name_plain Calls = refl
-name_plain Jumps = refl
+name_plain sorts.Both = refl
+name_plain sorts.Calls = refl
+name_plain sorts.Jumps = refl
 
 class_plain : (sort : Sort) (label : ℕ) (targets : List ℕ) → list_all plain (words_of_class sort label targets) ≡ true
 class_plain sort label targets =
     and_from _ _ (name_plain sort) (and_from _ _ (hex_plain 5 label) (targets_plain targets))
 
 words_plain : (l : GraphLine) → is_list l ≡ false → list_all plain (words_of_line l) ≡ true
-words_plain (SystemCalls numbers) other = absurd cc
-words_plain (Class label targets) other = class_plain Both label targets
-words_plain (CallClass label targets) other = class_plain Calls label targets
-words_plain (JumpClass label targets) other = class_plain Jumps label targets
+words_plain (Calls numbers) other = absurd cc
+words_plain (Class label targets) other = class_plain sorts.Both label targets
+words_plain (CallClass label targets) other = class_plain sorts.Calls label targets
+words_plain (JumpClass label targets) other = class_plain sorts.Jumps label targets
 words_plain (Site a k label) other =
     and_from _ _ (hex_plain 8 a) (and_from _ _ (kind_plain k) (and_from _ true (hex_plain 5 label) refl))
 words_plain (Edge from to) other = and_from _ _ (hex_plain 8 from) (and_from _ true (hex_plain 8 to) refl)
@@ -134,10 +134,10 @@ class_words_back sort label targets =
     words_back (class_name sort) (hex_text 5 label ∷ map (hex_text 8) targets) (class_plain sort label targets)
 
 line_words_back : (l : GraphLine) → is_list l ≡ false → words_of (spaced (words_of_line l)) ≡ words_of_line l
-line_words_back (SystemCalls numbers) other = absurd cc
-line_words_back (Class label targets) other = class_words_back Both label targets
-line_words_back (CallClass label targets) other = class_words_back Calls label targets
-line_words_back (JumpClass label targets) other = class_words_back Jumps label targets
+line_words_back (Calls numbers) other = absurd cc
+line_words_back (Class label targets) other = class_words_back sorts.Both label targets
+line_words_back (CallClass label targets) other = class_words_back sorts.Calls label targets
+line_words_back (JumpClass label targets) other = class_words_back sorts.Jumps label targets
 line_words_back (Site a k label) other =
     words_back (codes "site") (hex_text 8 a ∷ kind_name k ∷ hex_text 5 label ∷ []) (words_plain (Site a k label) refl)
 line_words_back (Edge from to) other =
@@ -235,7 +235,7 @@ module _ (version len : ℕ) where
   listed_back (Site address k label) lines e is = absurd cc
   listed_back (Edge from to) lines e is = absurd cc
   listed_back (Call from to) lines e is = absurd cc
-  listed_back (SystemCalls numbers) lines e is =
+  listed_back (Calls numbers) lines e is =
       let range = and_parts (are_calls numbers) (list_all (line_in_range len) lines) is.range in
       let rise = and_parts (is_rising nat_lt numbers) (list_all targets_rise lines) is.targets in
       let are = accepts version len (length_small len is.length) (Some Head) lines (others_after Head lines is.order) is.sorts range.1 rise.1 is.order in
@@ -289,7 +289,7 @@ second_lacks len =
 -- no line of a graph has a newline
 all_lack : (len : ℕ) (lines : List GraphLine) → list_all (line_in_range len) lines ≡ true → is_rising key_below (map key_of lines) ≡ true → list_all (lacks 10) (spellings lines ++ [] ∷ []) ≡ true
 all_lack len [] range order = refl
-all_lack len (SystemCalls numbers ∷ lines) range order =
+all_lack len (Calls numbers ∷ lines) range order =
     let p = and_parts (are_calls numbers) (list_all (line_in_range len) lines) range in
     and_from _ _ (spaced_line (words_of_calls numbers) (calls_plain numbers p.0)) (lines_lack lines (others_after Head lines order))
 all_lack len (Class label targets ∷ lines) range order = lines_lack (Class label targets ∷ lines) (others_after (Label label) lines order)

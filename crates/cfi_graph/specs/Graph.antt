@@ -5,9 +5,9 @@ use Rattle.std.specs.List.{list_all}
 use Rattle.rv_word.specs.MemoryMap.{CODE_START, CODE_SIZE}
 use Rattle.rv_word.specs.Numbers.{MOST_NUMBERS}
 use Rattle.cfi_graph.specs.declared.line.GraphLine.{GraphLine}
-use Rattle.cfi_graph.specs.declared.line.GraphLine.TheVariants.{SystemCalls, Class, CallClass, JumpClass, Site, Edge, Call}
+use Rattle.cfi_graph.specs.declared.line.GraphLine.TheVariants.{Calls, Class, CallClass, JumpClass, Site, Edge, Call}
 use Rattle.cfi_graph.specs.declared.line.Sort.{Sort}
-use Rattle.cfi_graph.specs.declared.line.Sort.TheVariants.{Both, Calls, Jumps}
+use Rattle.cfi_graph.specs.declared.line.Sort.TheVariants as sorts
 use Rattle.cfi_graph.specs.declared.line.Key.{Key}
 use Rattle.cfi_graph.specs.declared.line.Key.TheVariants.{Head, Label, Address}
 
@@ -24,10 +24,10 @@ pub record ClassLine : Type 0 where
 
 -- the class of a line, where it is a class's
 abbrev pub class_in : GraphLine → Option ClassLine
-class_in (SystemCalls numbers) = None
-class_in (Class label targets) = Some (record { sort = Both; label = label; targets = targets })
-class_in (CallClass label targets) = Some (record { sort = Calls; label = label; targets = targets })
-class_in (JumpClass label targets) = Some (record { sort = Jumps; label = label; targets = targets })
+class_in (Calls numbers) = None
+class_in (Class label targets) = Some (record { sort = sorts.Both; label = label; targets = targets })
+class_in (CallClass label targets) = Some (record { sort = sorts.Calls; label = label; targets = targets })
+class_in (JumpClass label targets) = Some (record { sort = sorts.Jumps; label = label; targets = targets })
 class_in (Site address kind label) = None
 class_in (Edge from to) = None
 class_in (Call from to) = None
@@ -35,7 +35,7 @@ class_in (Call from to) = None
 -- the numbers of the system calls that the program may make: those of the first line, where it is a list of them
 abbrev pub calls_in : List GraphLine → Option (List ℕ)
 calls_in [] = None
-calls_in (SystemCalls numbers ∷ lines) = Some numbers
+calls_in (Calls numbers ∷ lines) = Some numbers
 calls_in (Class label targets ∷ lines) = None
 calls_in (CallClass label targets ∷ lines) = None
 calls_in (JumpClass label targets ∷ lines) = None
@@ -45,15 +45,15 @@ calls_in (Call from to ∷ lines) = None
 
 -- the line of a class of a sort
 abbrev pub line_of_class : Sort → ℕ → List ℕ → GraphLine
-line_of_class Both label targets = Class label targets
-line_of_class Calls label targets = CallClass label targets
-line_of_class Jumps label targets = JumpClass label targets
+line_of_class sorts.Both label targets = Class label targets
+line_of_class sorts.Calls label targets = CallClass label targets
+line_of_class sorts.Jumps label targets = JumpClass label targets
 
 -- Versions. The classes of version 1 serve computed calls and jumps alike; those of version 2 serve either
 abbrev pub is_sort_of : ℕ → Sort → Bool
-is_sort_of version Both = version == 1
-is_sort_of version Calls = version == 2
-is_sort_of version Jumps = version == 2
+is_sort_of version sorts.Both = version == 1
+is_sort_of version sorts.Calls = version == 2
+is_sort_of version sorts.Jumps = version == 2
 
 -- a line may stand in a graph of a version
 abbrev pub fits_version : ℕ → Option ClassLine → Bool
@@ -81,7 +81,7 @@ are_calls numbers =
     nat_lt 0 (length numbers) && nat_le (length numbers) MOST_NUMBERS && list_all (λ n. nat_lt n (2 ^ 11)) numbers
 
 abbrev pub line_in_range : ℕ → GraphLine → Bool
-line_in_range len (SystemCalls numbers) = are_calls numbers
+line_in_range len (Calls numbers) = are_calls numbers
 line_in_range len (Class label targets) = class_in_range len label targets
 line_in_range len (CallClass label targets) = class_in_range len label targets
 line_in_range len (JumpClass label targets) = class_in_range len label targets
@@ -97,7 +97,7 @@ is_rising below (x ∷ y ∷ rest) = below x y && is_rising below (y ∷ rest)
 
 -- the list of system calls stands first; a class line is ordered by its label, any other by its first address
 abbrev pub key_of : GraphLine → Key
-key_of (SystemCalls numbers) = Head
+key_of (Calls numbers) = Head
 key_of (Class label targets) = Label label
 key_of (CallClass label targets) = Label label
 key_of (JumpClass label targets) = Label label
@@ -119,7 +119,7 @@ key_below (Address a) (Address b) = nat_lt a b
 
 -- the addresses of a class rise, and so do the numbers of system calls
 abbrev pub targets_rise : GraphLine → Bool
-targets_rise (SystemCalls numbers) = is_rising nat_lt numbers
+targets_rise (Calls numbers) = is_rising nat_lt numbers
 targets_rise (Class label targets) = is_rising nat_lt targets
 targets_rise (CallClass label targets) = is_rising nat_lt targets
 targets_rise (JumpClass label targets) = is_rising nat_lt targets
@@ -141,7 +141,7 @@ abbrev pub is_class : GraphLine → Bool
 is_class line = is_some (class_in line)
 
 abbrev pub is_site : GraphLine → Bool
-is_site (SystemCalls numbers) = false
+is_site (Calls numbers) = false
 is_site (Class label targets) = false
 is_site (CallClass label targets) = false
 is_site (JumpClass label targets) = false

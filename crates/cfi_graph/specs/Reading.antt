@@ -9,7 +9,7 @@ use Rattle.text_lines.specs.declared.end.TextEnd.TheVariants.{Line}
 use Rattle.text_lines.specs.Lines.{lines_of, words_of}
 use Rattle.text_lines.specs.Reading.{LineRules, if_right, one_named, read, whole}
 use Rattle.cfi_graph.specs.declared.line.GraphLine.{GraphLine}
-use Rattle.cfi_graph.specs.declared.line.GraphLine.TheVariants.{SystemCalls}
+use Rattle.cfi_graph.specs.declared.line.GraphLine.TheVariants.{Calls}
 use Rattle.cfi_graph.specs.declared.line.Key.{Key}
 use Rattle.cfi_graph.specs.declared.line.Key.TheVariants.{Head}
 use Rattle.cfi_graph.specs.Calls.{Listed, calls_of, judged_calls, line_after}
@@ -35,7 +35,7 @@ graph_rules version len = record {
 -- the line of a list of system calls, and its key, if there is one
 abbrev pub calls_lines : Option (List ℕ) → List GraphLine
 calls_lines None = []
-calls_lines (Some calls) = SystemCalls calls ∷ []
+calls_lines (Some calls) = Calls calls ∷ []
 
 abbrev pub calls_key : Option (List ℕ) → Option Key
 calls_key None = None

@@ -6,11 +6,11 @@ use Rattle.std.specs.List.{flat_map}
 use Rattle.text_lines.specs.Hex.{hex_text}
 use Rattle.text_lines.specs.Lines.{spaced}
 use Rattle.cfi_graph.specs.declared.line.GraphLine.{GraphLine}
-use Rattle.cfi_graph.specs.declared.line.GraphLine.TheVariants.{SystemCalls, Class, CallClass, JumpClass, Site, Edge, Call}
+use Rattle.cfi_graph.specs.declared.line.GraphLine.TheVariants.{Calls, Class, CallClass, JumpClass, Site, Edge, Call}
 use Rattle.cfi_graph.specs.declared.line.SiteKind as kinds
 use Rattle.cfi_graph.specs.declared.line.SiteKind.TheVariants as kind
 use Rattle.cfi_graph.specs.declared.line.Sort.{Sort}
-use Rattle.cfi_graph.specs.declared.line.Sort.TheVariants.{Both, Calls, Jumps}
+use Rattle.cfi_graph.specs.declared.line.Sort.TheVariants as sorts
 use Rattle.cfi_graph.specs.Graph.{GraphParts}
 
 abbrev pub kind_name : kinds.SiteKind → List ℕ
@@ -19,9 +19,9 @@ kind_name kind.Jump = codes "jump"
 
 -- the first word of a class's line
 abbrev pub class_name : Sort → List ℕ
-class_name Both = codes "class"
-class_name Calls = codes "callclass"
-class_name Jumps = codes "jumpclass"
+class_name sorts.Both = codes "class"
+class_name sorts.Calls = codes "callclass"
+class_name sorts.Jumps = codes "jumpclass"
 
 abbrev pub words_of_class : Sort → ℕ → List ℕ → List (List ℕ)
 words_of_class sort label targets = class_name sort ∷ hex_text 5 label ∷ map (hex_text 8) targets
@@ -30,10 +30,10 @@ abbrev pub words_of_calls : List ℕ → List (List ℕ)
 words_of_calls numbers = codes "calls" ∷ map decimal numbers
 
 abbrev pub words_of_line : GraphLine → List (List ℕ)
-words_of_line (SystemCalls numbers) = words_of_calls numbers
-words_of_line (Class label targets) = words_of_class Both label targets
-words_of_line (CallClass label targets) = words_of_class Calls label targets
-words_of_line (JumpClass label targets) = words_of_class Jumps label targets
+words_of_line (Calls numbers) = words_of_calls numbers
+words_of_line (Class label targets) = words_of_class sorts.Both label targets
+words_of_line (CallClass label targets) = words_of_class sorts.Calls label targets
+words_of_line (JumpClass label targets) = words_of_class sorts.Jumps label targets
 words_of_line (Site address k label) = codes "site" ∷ hex_text 8 address ∷ kind_name k ∷ hex_text 5 label ∷ []
 words_of_line (Edge from to) = codes "edge" ∷ hex_text 8 from ∷ hex_text 8 to ∷ []
 words_of_line (Call from to) = codes "call" ∷ hex_text 8 from ∷ hex_text 8 to ∷ []

@@ -111,7 +111,7 @@ impl Graph {
         ensures { result ≡ calls_in self.now.lines }
     {
         match self.lines.as_slice().first()? {
-            GraphLine::SystemCalls(numbers) => Some(*numbers),
+            GraphLine::Calls(numbers) => Some(*numbers),
             _ => None,
         }
     }

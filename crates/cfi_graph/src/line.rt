@@ -42,7 +42,7 @@ impl Sort {
 #[derive(Drop)]
 pub enum GraphLine {
     /// The numbers of the system calls that the program may make.
-    SystemCalls(Numbers),
+    Calls(Numbers),
     /// A class that serves calls and jumps: its label, and the addresses of its targets.
     Class(u32, Places),
     /// A class that serves calls alone: its label, and the addresses of its targets.
@@ -88,7 +88,7 @@ impl GraphLine {
         ensures { result ≡ key_of self.now }
     {
         match self {
-            GraphLine::SystemCalls(_) => Key::Head,
+            GraphLine::Calls(_) => Key::Head,
             GraphLine::Class(label, _) => Key::Label(*label),
             GraphLine::CallClass(label, _) => Key::Label(*label),
             GraphLine::JumpClass(label, _) => Key::Label(*label),

@@ -87,7 +87,7 @@ fn begun(
         lines: Vec::new(alloc),
     };
     if let Some(numbers) = calls {
-        form.lines.push(GraphLine::SystemCalls(numbers))?;
+        form.lines.push(GraphLine::Calls(numbers))?;
         form.before = Some(Key::Head);
     }
     Ok(form)

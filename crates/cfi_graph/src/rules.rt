@@ -72,7 +72,7 @@ pub(crate) fn line_in_range(len: u32, line: &GraphLine) -> bool
     ensures { result ≡ line_in_range len line.now }
 {
     match line {
-        GraphLine::SystemCalls(numbers) => are_calls(numbers),
+        GraphLine::Calls(numbers) => are_calls(numbers),
         GraphLine::Class(label, targets)
         | GraphLine::CallClass(label, targets)
         | GraphLine::JumpClass(label, targets) => class_in_range(len, *label, targets.as_slice()),
@@ -115,7 +115,7 @@ fn targets_rise(line: &GraphLine) -> bool
     ensures { result ≡ targets_rise line.now }
 {
     match line {
-        GraphLine::SystemCalls(numbers) => calls_rise(numbers),
+        GraphLine::Calls(numbers) => calls_rise(numbers),
         GraphLine::Class(_, targets)
         | GraphLine::CallClass(_, targets)
         | GraphLine::JumpClass(_, targets) => is_rising(targets.as_slice()),

@@ -101,7 +101,7 @@ fn push_words(alloc: Global, out: &mut Vec<u8>, line: &GraphLine) -> Result<(), 
     ensures { OnOk result (out.new.items ≡ out.old.items ++ spaced (words_of_line line.now)) }
 {
     match line {
-        GraphLine::SystemCalls(numbers) => push_list(alloc, out, numbers),
+        GraphLine::Calls(numbers) => push_list(alloc, out, numbers),
         GraphLine::Class(label, targets) => {
             push_class(out, Sort::Both, *label, targets.as_slice())
         }

@@ -70,7 +70,7 @@ place_lines layout labels k (item ∷ items) = with_line (line_for layout labels
 -- the line of a list of system calls, if there is one
 abbrev pub call_lines : Option (List ℕ) → List GraphLine
 call_lines None = []
-call_lines (Some calls) = line.SystemCalls calls ∷ []
+call_lines (Some calls) = line.Calls calls ∷ []
 
 -- the lines before those of addresses, under these labels of the classes
 abbrev pub head_lines : ProgramAtMap → List ℕ → List GraphLine

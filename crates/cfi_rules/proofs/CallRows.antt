@@ -8,7 +8,7 @@ use Rattle.rv_instr.specs.declared.instr.ImmediateOp.TheVariants.{Addi}
 use Rattle.rv_code.specs.Decode.{decoded}
 use Rattle.rv_code.specs.Encode.{code_of}
 use Rattle.cfi_graph.specs.declared.line.GraphLine.{GraphLine}
-use Rattle.cfi_graph.specs.declared.line.GraphLine.TheVariants.{SystemCalls, Class, Call}
+use Rattle.cfi_graph.specs.declared.line.GraphLine.TheVariants.{Calls, Class, Call}
 use Rattle.cfi_graph.specs.Graph.{calls_in}
 use Rattle.cfi_unit.specs.declared.unit.Unit as U
 use Rattle.cfi_unit.specs.declared.unit.Unit.TheVariants as V
@@ -32,7 +32,7 @@ abbrev calling : U.Unit → List U.Unit
 calling call = V.Plain (Immediate Addi 17 0 64) ∷ call ∷ V.Stop ∷ []
 
 abbrev listed : List GraphLine
-listed = SystemCalls (64 ∷ 93 ∷ []) ∷ []
+listed = Calls (64 ∷ 93 ∷ []) ∷ []
 
 abbrev guarded : List U.Unit
 guarded = calling (V.Guarded (64 ∷ 93 ∷ []))
@@ -41,7 +41,7 @@ guarded_code : code_from 0x40000040 guarded ≡ 0x04000893 ∷ 0x04000f93 ∷ 0x
 unfolding code_of code_from words_of
 guarded_code = refl
 
-guarded_lines : placed_lines version_1 0x40000040 guarded listed ≡ SystemCalls (64 ∷ 93 ∷ []) ∷ Call 0x4000000c 0x40000040 ∷ []
+guarded_lines : placed_lines version_1 0x40000040 guarded listed ≡ Calls (64 ∷ 93 ∷ []) ∷ Call 0x4000000c 0x40000040 ∷ []
 unfolding lines_from
 guarded_lines = refl
 

@@ -9,10 +9,10 @@ use Rattle.rv_word.specs.MemoryMap.{CODE_START, IsProfile, Profile}
 use Rattle.rv_word.proofs.Cases.{cases_Option}
 use Rattle.rv_word.proofs.Versions.{LaidOut, laid_out}
 use Rattle.cfi_graph.specs.declared.line.GraphLine.{GraphLine}
-use Rattle.cfi_graph.specs.declared.line.GraphLine.TheVariants.{SystemCalls, Class, CallClass, JumpClass, Site, Edge, Call}
+use Rattle.cfi_graph.specs.declared.line.GraphLine.TheVariants.{Calls, Class, CallClass, JumpClass, Site, Edge, Call}
 use Rattle.cfi_graph.specs.declared.line.Key.TheVariants.{Address}
 use Rattle.cfi_graph.specs.declared.line.SiteKind.{SiteKind}
-use Rattle.cfi_graph.specs.declared.line.Sort.TheVariants.{Both, Calls, Jumps}
+use Rattle.cfi_graph.specs.declared.line.Sort.TheVariants as sorts
 use Rattle.cfi_graph.specs.declared.line.SiteKind.TheVariants as K
 use Rattle.cfi_graph.specs.Graph.{ClassLine, IsGraph, class_in, fits_version, is_code_address, is_label, is_rising, key_below, key_of, line_in_range, targets_rise}
 use Rattle.cfi_unit.specs.declared.unit.Unit as U
@@ -93,7 +93,7 @@ lines_rise (u ∷ us) bound at below =
 
 -- heads come before what has an address
 head_below : (line : GraphLine) (a : ℕ) → is_head line ≡ true → key_below (key_of line) (Address a) ≡ true
-head_below (SystemCalls numbers) a head = refl
+head_below (Calls numbers) a head = refl
 head_below (Class label targets) a head = refl
 head_below (CallClass label targets) a head = refl
 head_below (JumpClass label targets) a head = refl
@@ -114,11 +114,11 @@ heads_rise (line ∷ next ∷ heads) bound to rest all order above =
 -- a class's label is one
 line_label : (len : ℕ) (line : GraphLine) (class : ClassLine) → class_in line ≡ Some class → line_in_range len line ≡ true → is_label class.label ≡ true
 line_label len (Class k ts) class e range =
-    ap (λ (c : ClassLine). is_label c.label) (sym (same_Some (record { sort = Both; label = k; targets = ts }) class e)) ∙ (and_parts (is_label k) (list_all (is_code_address len) ts) range).0
+    ap (λ (c : ClassLine). is_label c.label) (sym (same_Some (record { sort = sorts.Both; label = k; targets = ts }) class e)) ∙ (and_parts (is_label k) (list_all (is_code_address len) ts) range).0
 line_label len (CallClass k ts) class e range =
-    ap (λ (c : ClassLine). is_label c.label) (sym (same_Some (record { sort = Calls; label = k; targets = ts }) class e)) ∙ (and_parts (is_label k) (list_all (is_code_address len) ts) range).0
+    ap (λ (c : ClassLine). is_label c.label) (sym (same_Some (record { sort = sorts.Calls; label = k; targets = ts }) class e)) ∙ (and_parts (is_label k) (list_all (is_code_address len) ts) range).0
 line_label len (JumpClass k ts) class e range =
-    ap (λ (c : ClassLine). is_label c.label) (sym (same_Some (record { sort = Jumps; label = k; targets = ts }) class e)) ∙ (and_parts (is_label k) (list_all (is_code_address len) ts) range).0
+    ap (λ (c : ClassLine). is_label c.label) (sym (same_Some (record { sort = sorts.Jumps; label = k; targets = ts }) class e)) ∙ (and_parts (is_label k) (list_all (is_code_address len) ts) range).0
 line_label len other class e range = absurd (cc)
 
 class_label : (len : ℕ) (classes : List GraphLine) (l : ℕ) → list_all (line_in_range len) classes ≡ true → is_some (class_with classes l) ≡ true → is_label l ≡ true

@@ -4,9 +4,9 @@ use Rattle.std.specs.Prelude.{slice_get, option_and_then, if◌then◌else◌}
 use Rattle.std.proofs.lemmas.Bool.{and_parts, cases_Bool, cases_order, ltb-true, ltb-false, eqb-true, eq-eqb, false≢true}
 use Rattle.std.proofs.lemmas.Option.{same_Some}
 use Rattle.cfi_graph.specs.declared.line.GraphLine.{GraphLine}
-use Rattle.cfi_graph.specs.declared.line.GraphLine.TheVariants.{SystemCalls, Class, CallClass, JumpClass, Site, Edge, Call}
+use Rattle.cfi_graph.specs.declared.line.GraphLine.TheVariants.{Calls, Class, CallClass, JumpClass, Site, Edge, Call}
 use Rattle.cfi_graph.specs.declared.line.Sort.{Sort}
-use Rattle.cfi_graph.specs.declared.line.Sort.TheVariants.{Both, Calls, Jumps}
+use Rattle.cfi_graph.specs.declared.line.Sort.TheVariants as sorts
 use Rattle.cfi_graph.specs.declared.line.Key.{Key}
 use Rattle.cfi_graph.specs.declared.line.Key.TheVariants.{Head, Label, Address}
 use Rattle.cfi_graph.specs.Graph.{class_in, is_rising, key_below, key_of}
@@ -124,7 +124,7 @@ before_middle lines key m x r e b i y f k =
 pub line_at-with : (lines : List GraphLine) (a : ℕ) → line_at lines a ≡ line_with lines (Address a)
 unfolding line_at line_with
 line_at-with [] a = refl
-line_at-with (SystemCalls numbers ∷ lines) a = line_at-with lines a
+line_at-with (Calls numbers ∷ lines) a = line_at-with lines a
 line_at-with (Class label targets ∷ lines) a = line_at-with lines a
 line_at-with (CallClass label targets ∷ lines) a = line_at-with lines a
 line_at-with (JumpClass label targets ∷ lines) a = line_at-with lines a
@@ -146,10 +146,10 @@ class_or sort label targets line lines l is key rest =
 pub class_with-with : (lines : List GraphLine) (l : ℕ) → class_with lines l ≡ option_and_then class_in (line_with lines (Label l))
 unfolding class_with line_with
 class_with-with [] l = refl
-class_with-with (SystemCalls numbers ∷ lines) l = class_with-with lines l
-class_with-with (Class label targets ∷ lines) l = class_or Both label targets (Class label targets) lines l refl refl (class_with-with lines l)
-class_with-with (CallClass label targets ∷ lines) l = class_or Calls label targets (CallClass label targets) lines l refl refl (class_with-with lines l)
-class_with-with (JumpClass label targets ∷ lines) l = class_or Jumps label targets (JumpClass label targets) lines l refl refl (class_with-with lines l)
+class_with-with (Calls numbers ∷ lines) l = class_with-with lines l
+class_with-with (Class label targets ∷ lines) l = class_or sorts.Both label targets (Class label targets) lines l refl refl (class_with-with lines l)
+class_with-with (CallClass label targets ∷ lines) l = class_or sorts.Calls label targets (CallClass label targets) lines l refl refl (class_with-with lines l)
+class_with-with (JumpClass label targets ∷ lines) l = class_or sorts.Jumps label targets (JumpClass label targets) lines l refl refl (class_with-with lines l)
 class_with-with (Site address kind label ∷ lines) l = class_with-with lines l
 class_with-with (Edge from to ∷ lines) l = class_with-with lines l
 class_with-with (Call from to ∷ lines) l = class_with-with lines l

@@ -9,9 +9,9 @@ use Rattle.std.proofs.lemmas.Option.{none-some, same_Some}
 use Rattle.rv_word.proofs.Cases.{cases_Option}
 use Rattle.std.proofs.lemmas.List.Sorted.{searched}
 use Rattle.cfi_graph.specs.declared.line.GraphLine.{GraphLine}
-use Rattle.cfi_graph.specs.declared.line.GraphLine.TheVariants.{SystemCalls, Class, CallClass, JumpClass, Site, Edge, Call}
+use Rattle.cfi_graph.specs.declared.line.GraphLine.TheVariants.{Calls, Class, CallClass, JumpClass, Site, Edge, Call}
 use Rattle.cfi_graph.specs.declared.line.SiteKind.{SiteKind}
-use Rattle.cfi_graph.specs.declared.line.Sort.TheVariants.{Both, Calls, Jumps}
+use Rattle.cfi_graph.specs.declared.line.Sort.TheVariants as sorts
 use Rattle.cfi_graph.specs.Graph.{ClassLine, class_in, is_rising, targets_rise}
 use Rattle.cfi_unit.specs.declared.target_word.TargetWord.{TargetWord}
 use Rattle.cfi_rules.specs.Lines.{class_with, is_among, if_serves, or_class, targets_for}
@@ -20,10 +20,10 @@ rises_in : (found class : ClassLine) → is_rising nat_lt found.targets ≡ true
 rises_in found class r e = ap (λ (c : ClassLine). is_rising nat_lt c.targets) (sym (same_Some found class e)) ∙ r
 
 line_rises : (line : GraphLine) (class : ClassLine) → targets_rise line ≡ true → class_in line ≡ Some class → is_rising nat_lt class.targets ≡ true
-line_rises (SystemCalls numbers) class r e = absurd (none-some class e)
-line_rises (Class label members) class r e = rises_in (record { sort = Both; label = label; targets = members }) class r e
-line_rises (CallClass label members) class r e = rises_in (record { sort = Calls; label = label; targets = members }) class r e
-line_rises (JumpClass label members) class r e = rises_in (record { sort = Jumps; label = label; targets = members }) class r e
+line_rises (Calls numbers) class r e = absurd (none-some class e)
+line_rises (Class label members) class r e = rises_in (record { sort = sorts.Both; label = label; targets = members }) class r e
+line_rises (CallClass label members) class r e = rises_in (record { sort = sorts.Calls; label = label; targets = members }) class r e
+line_rises (JumpClass label members) class r e = rises_in (record { sort = sorts.Jumps; label = label; targets = members }) class r e
 line_rises (Site address kind label) class r e = absurd (none-some class e)
 line_rises (Edge from to) class r e = absurd (none-some class e)
 line_rises (Call from to) class r e = absurd (none-some class e)

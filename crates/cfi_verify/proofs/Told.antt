@@ -8,7 +8,7 @@ use Rattle.rv_word.specs.MemoryMap.{CODE_START, Profile, lies_within, START}
 use Rattle.rv_word.proofs.Versions.{LaidOut}
 use Rattle.rv_code.specs.Decode.{decoded}
 use Rattle.cfi_graph.specs.declared.line.GraphLine.{GraphLine}
-use Rattle.cfi_graph.specs.declared.line.GraphLine.TheVariants.{SystemCalls, Class, CallClass, JumpClass, Site, Edge, Call}
+use Rattle.cfi_graph.specs.declared.line.GraphLine.TheVariants.{Calls, Class, CallClass, JumpClass, Site, Edge, Call}
 use Rattle.cfi_graph.specs.Graph.{ClassLine, GraphParts, calls_in, class_in}
 use Rattle.cfi_unit.specs.declared.target_word.TargetWord.{TargetWord}
 use Rattle.cfi_unit.specs.declared.target_word.TargetWord.TheVariants.{First, Second}
@@ -400,7 +400,7 @@ module _ (p : Profile) (laid : LaidOut p) where
         (λ (c : ClassLine). ap (λ b. is_among a c.targets && not b) (borne_told (read_of c.sort) a c.label))
 
     unused_told : (a : ℕ) (line : GraphLine) → is_unused (place_at p words a) line ≡ is_unused_at p t a line
-    unused_told a (SystemCalls numbers) = refl
+    unused_told a (Calls numbers) = refl
     unused_told a (Class label targets) = refl
     unused_told a (CallClass label targets) = refl
     unused_told a (JumpClass label targets) = refl
@@ -409,7 +409,7 @@ module _ (p : Profile) (laid : LaidOut p) where
     unused_told a (Call from to) = ap (λ o. not (is_some o)) (call_told a)
 
     lone_told : (a : ℕ) (line : GraphLine) → is_lone_site (place_at p words a) line ≡ is_lone_at p t a line
-    lone_told a (SystemCalls numbers) = refl
+    lone_told a (Calls numbers) = refl
     lone_told a (Class label targets) = refl
     lone_told a (CallClass label targets) = refl
     lone_told a (JumpClass label targets) = refl

@@ -5,11 +5,11 @@ use Rattle.std.specs.List.{list_all}
 use Rattle.std.proofs.lemmas.Bool.{and_from, and_parts}
 use Rattle.cfi_graph.specs.Calls.{may_be_calls}
 use Rattle.cfi_graph.specs.declared.line.GraphLine.{GraphLine}
-use Rattle.cfi_graph.specs.declared.line.GraphLine.TheVariants.{SystemCalls, Class, CallClass, JumpClass}
+use Rattle.cfi_graph.specs.declared.line.GraphLine.TheVariants.{Calls, Class, CallClass, JumpClass}
 use Rattle.cfi_graph.specs.declared.line.Key.TheVariants.{Head}
 use Rattle.cfi_graph.specs.declared.line.SiteKind.{SiteKind}
 use Rattle.cfi_graph.specs.declared.line.Sort.{Sort}
-use Rattle.cfi_graph.specs.declared.line.Sort.TheVariants.{Both, Calls, Jumps}
+use Rattle.cfi_graph.specs.declared.line.Sort.TheVariants as sorts
 use Rattle.cfi_graph.specs.Graph.{ClassLine, IsGraph, are_calls, calls_in, class_in, is_class, is_rising, key_below, key_of, line_in_range, line_of_class, targets_rise}
 use Rattle.cfi_map.specs.GraphAtMap.{call_lines, class_lines}
 use Rattle.cfi_map.specs.LabelOf.{Tagged, tagged}
@@ -48,7 +48,7 @@ heads_class m j class e = call_class m.layout.closed.calls (written_classes m) j
 
 -- lines of classes and of system calls are heads
 class_head : (line : GraphLine) → is_class line ≡ true → is_head line ≡ true
-class_head (SystemCalls numbers) e = refl
+class_head (Calls numbers) e = refl
 class_head other e = e
 
 classes_head : (lines : List GraphLine) → list_all is_class lines ≡ true → list_all is_head lines ≡ true
@@ -67,9 +67,9 @@ heads_all m =
 
 -- the list is told by the first line alone
 sort_tells : (sort : Sort) (label : ℕ) (targets : List ℕ) (lines : List GraphLine) → calls_in (line_of_class sort label targets ∷ lines) ≡ None
-sort_tells Both label targets lines = refl
-sort_tells Calls label targets lines = refl
-sort_tells Jumps label targets lines = refl
+sort_tells sorts.Both label targets lines = refl
+sort_tells sorts.Calls label targets lines = refl
+sort_tells sorts.Jumps label targets lines = refl
 
 classes_tell : (gates labels : List ℕ) (ts : List Tagged) → calls_in (class_lines gates labels ts) ≡ None
 unfolding class_lines

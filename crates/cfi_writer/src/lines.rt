@@ -78,7 +78,7 @@ impl<'c, 'a, 'b> Chosen<'c, 'a, 'b> {
         ensures { OnOk result (lines.new.items ≡ lines.old.items ++ call_lines self.now.layout.closed.calls) }
     {
         if let Some(calls) = self.closed().calls() {
-            lines.push(GraphLine::SystemCalls(calls))?;
+            lines.push(GraphLine::Calls(calls))?;
         }
         Ok(())
     }
