@@ -18,7 +18,8 @@ from verify import best_times, found, peak_memory
 
 LD = "riscv64-linux-gnu-ld"
 COUNTS = "10,100,1000"
-NAMES = "1000,10000,100000"
+NAMES = "1000000,2000000,4000000"
+FAMILIES = ("one name", "one string", "two strings", "local")
 EACH = 10  # functions of an object
 AUIPC_RA, JALR_RA, RETURN, ADDI, SD, LD_RA, BACK = 0x00000097, 0x000080E7, 0x00008067, 0xFF010113, 0x00113423, 0x00813083, 0x01010113
 CALL_PLT = 19
@@ -47,12 +48,19 @@ def ending(number):
                         Section(SYMTAB, symbol(0, 0, 0, 0) + symbol(1, FUNC, 1, 0, 4), link=3, info=1, align=8, entry=24), Section(STRTAB, names)])
 
 
-def one_long_name(count, length):
-    """An object whose symbols, weak and in no section, share one name of so many bytes."""
-    names = b"\0" + b"n" * length + b"\0f\0"
-    symbols = symbol(0, 0, 0, 0) + symbol(length + 2, FUNC, 1, 0, 4) + symbol(1, 0x20, 0, 0) * count
+def long_names(family, size):
+    """An object of some `size` bytes, half of them symbols in no section and half the strings that their names stand in: one name
+    of all; names that are each other's ends, in one string or in two equal ones by turns; local symbols of one name."""
+    count, long = size // 48, size // 2
+    strings = 2 if family == "two strings" else 1
+    each = long // strings
+    names = b"\0" + (b"n" * each + b"\0") * strings
+    step = each * strings // count if family in ("one string", "two strings") else 0
+    begins = [1 + k % strings * (each + 1) + k // strings * step for k in range(count)]
+    symbols = symbol(0, 0, 0, 0) + symbol(len(names), FUNC, 1, 0, 4)
+    symbols += b"".join(symbol(begin, 0 if family == "local" else 0x20, 0, 0) for begin in begins)
     return object_file([Section(PROGBITS, words(RETURN), CODE, align=4), Section(SYMTAB, symbols, link=3, info=1, align=8, entry=24),
-                        Section(STRTAB, names)])
+                        Section(STRTAB, names + b"f\0")])
 
 
 def put(folder, name, content):
@@ -87,12 +95,13 @@ def alone(program, folder, runs):
         os.path.getsize(path), times[0].processor, times[1].processor, times[0].processor / times[1].processor))
 
 
-def hostile(program, folder, count, length, runs):
-    path = put(folder, "hostile.o", one_long_name(count, length))
+def hostile(program, folder, family, size, runs):
+    path = put(folder, "hostile.o", long_names(family, size))
     outputs = [os.path.join(folder, "hostile.%s" % name) for name in ("img", "graph", "map")]
     link, rewrite = [program, "link", "plain", "f", "none", *outputs, path], [program, "rewrite", path, "f", "none", *outputs]
     times = best_times([link, rewrite], runs, [None] * 2)
-    print("%8d %10d  %9.1f  %9.1f" % (count, length, times[0].processor, times[1].processor))
+    print("%-12s %10d  %9.1f  %9.1f  %9d" % (
+        family, os.path.getsize(path), times[0].processor, times[1].processor, peak_memory(link) // 1024))
 
 
 def main():
@@ -100,7 +109,7 @@ def main():
     parser.add_argument("--program", help="the rvcfi that is timed; it is built where none is named and there is none")
     parser.add_argument("--runs", type=int, default=9)
     parser.add_argument("--counts", default=COUNTS, help="of objects")
-    parser.add_argument("--names", default=NAMES, help="of symbols with one long name")
+    parser.add_argument("--names", default=NAMES, help="bytes of objects with long names")
     parser.add_argument("--keep", help="a folder in which the files stay")
     options = parser.parse_args()
     for tool in (LD, GCC[0]):
@@ -115,10 +124,10 @@ def main():
         for count in options.counts.split(","):
             joined(program, folder, int(count), options.runs)
         alone(program, folder, options.runs)
-        print("%8s %10s  %9s  %9s" % ("symbols", "long", "link", "rewrite"))
-        for count in options.names.split(","):
-            for length in (1000, 10000):
-                hostile(program, folder, int(count), length, max(1, options.runs // 3))
+        print("%-12s %10s  %9s  %9s  %9s" % ("long names", "bytes", "link", "rewrite", "peak KiB"))
+        for family in FAMILIES:
+            for size in options.names.split(","):
+                hostile(program, folder, family, int(size), max(1, options.runs // 3))
 
 
 if __name__ == "__main__":

@@ -218,6 +218,13 @@ impl<'a> Object<'a> {
         self.lookup.symbol(k)
     }
 
+    /// The table of the symbols' names.
+    pub fn symbol_names(&self) -> &'a [u8]
+        ensures { result.now ≡ symbol_names self.now }
+    {
+        self.lookup.symbol_names()
+    }
+
     /// The table of the symbols' names from the name of the symbol with the number `k` on, to the table's end. The name
     /// is what stands there before the first NUL. It costs no search for that NUL, which is there unless `k` is 0.
     pub fn symbol_name_rest(&self, k: u64) -> &'a [u8]

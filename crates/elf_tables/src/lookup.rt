@@ -144,6 +144,13 @@ impl<'a> Lookup<'a> {
         self.symbol_names.get(entry.name)
     }
 
+    /// The table of the symbols' names.
+    pub fn symbol_names(&self) -> &'a [u8]
+        ensures { result.now ≡ symbol_names self.now }
+    {
+        self.symbol_names.bytes()
+    }
+
     /// The table of the symbols' names from this symbol's name on, to its end. No name's end is looked for.
     pub fn symbol_name_rest(&self, entry: &SymbolEntry) -> &'a [u8]
         ensures { result.now ≡ drop entry.now.name (symbol_names self.now) }

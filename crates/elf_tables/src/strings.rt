@@ -35,6 +35,13 @@ impl<'a> Strings<'a> {
         }
     }
 
+    /// The bytes of the table.
+    pub(crate) fn bytes(&self) -> &'a [u8]
+        ensures { result.now ≡ self.now }
+    {
+        self.bytes
+    }
+
     /// Whether a string begins at `at`.
     pub(crate) fn has(&self, at: u32) -> bool
         ensures { result ≡ is_some (string_at self.now at) }

@@ -16,7 +16,7 @@ use elf_object::Object;
 use obj_join::Definers;
 use obj_program::Items;
 use obj_rules::ItemFault;
-use obj_said::{joined_input, symbols_of};
+use obj_said::{joined_input, name_numbers, symbols_of};
 use std::alloc::Global;
 
 /// The code of objects is whole words, in sections whose indices have 16 bits.
@@ -81,7 +81,8 @@ pub(crate) fn finished<'a>(alloc: Global, objects: &[Object<'a>]) -> Result<Item
     ensures { IsFinished objects.now result }
 {
     let symbols = symbols_of(alloc, objects)?;
-    let definers = Definers::of(alloc, &symbols)?;
+    let names = name_numbers(alloc, objects)?;
+    let definers = Definers::of(alloc, &symbols, &names)?;
     match definers.duplicate() {
         Some(name) => Err(JoinEnd::Duplicate(name)),
         None => program(alloc, objects, &definers),

@@ -1,5 +1,5 @@
 -- Symbols by their numbers among those of all objects.
-use Rattle.std.specs.Prelude.{ℕ, Bool, true, false, if◌then◌else◌, List, [], ◌∷◌, slice_index_or}
+use Rattle.std.specs.Prelude.{ℕ, Bool, true, false, if◌then◌else◌, List, [], ◌∷◌, map, slice_index_or}
 use Rattle.obj_join.specs.declared.standing.Standing.{Standing}
 use Rattle.obj_join.specs.declared.standing.Standing.TheVariants.{IsNone}
 use Rattle.obj_join.specs.Said.{SymbolSaid}
@@ -18,3 +18,6 @@ is_some_symbol other = true
 -- a number that meets a test, as a list of it
 abbrev pub number_if : (ℕ → Bool) → ℕ → List ℕ
 number_if test n = if test n then n ∷ [] else []
+
+abbrev pub names_of : List SymbolSaid → List (List ℕ)
+names_of symbols = map (λ s. s.name) symbols

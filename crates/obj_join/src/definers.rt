@@ -3,7 +3,8 @@
 ghost use Rattle.std.specs.Prelude.{◌≡◌, ◌&&◌, ◌||◌, ◌<◌, not, IfOk, if◌then◌else◌, is_none, is_some, length, option_map, unwrap_or};
 ghost use Rattle.std.specs.Option.{option_or};
 ghost use Rattle.obj_input.specs.Listed.{listed};
-ghost use Rattle.obj_join.specs.Symbols.{is_some_symbol, symbol};
+ghost use Rattle.elf_names.specs.Numbers.{AreApart};
+ghost use Rattle.obj_join.specs.Symbols.{is_some_symbol, names_of, symbol};
 ghost use Rattle.obj_join.specs.Definer.{definer, first_called, is_common, is_private, is_shared, is_strong, is_weak, resolved};
 ghost use Rattle.obj_join.specs.Duplicate.{duplicate, is_other, is_second};
 ghost use Rattle.obj_join.specs.Found.{is_found};
@@ -17,14 +18,15 @@ use std::alloc::Global;
 use std::collections::BTreeMap;
 use std::marker::Model;
 
-/// Symbols, numbered from 0, with the first of each name in each rank.
+/// Symbols, numbered from 0, with the numbers of their names and the first of each name in each rank.
 #[derive(Drop)]
 pub struct Definers<'s, 'a> {
     symbols: &'s [Symbol<'a>],
-    strong: BTreeMap<&'a [u8], u64>,
-    common: BTreeMap<&'a [u8], u64>,
-    weak: BTreeMap<&'a [u8], u64>,
-    private: BTreeMap<&'a [u8], u64>,
+    names: &'s [u64],
+    strong: BTreeMap<u64, u64>,
+    common: BTreeMap<u64, u64>,
+    weak: BTreeMap<u64, u64>,
+    private: BTreeMap<u64, u64>,
 }
 
 impl<'s, 'a> Model for Definers<'s, 'a> {
@@ -36,20 +38,27 @@ impl<'s, 'a> Model for Definers<'s, 'a> {
 
     ghost view = { λ d. d.symbols.now };
 
-    ghost invariant = { λ d. AreFirsts d.symbols.now d.strong d.common d.weak d.private };
+    ghost invariant = { λ d. AreFirsts d.symbols.now d.names.now d.strong d.common d.weak d.private };
 }
 
 impl<'s, 'a> Definers<'s, 'a> {
-    /// Those of these symbols.
-    pub fn of(alloc: Global, symbols: &'s [Symbol<'a>]) -> Result<Definers<'s, 'a>, NoMemory>
+    /// Those of these symbols, where `names` has the number of each one's name.
+    #[tactic(auto, using(crate::proofs::Noted::names_counted))]
+    pub fn of(
+        alloc: Global,
+        symbols: &'s [Symbol<'a>],
+        names: &'s [u64],
+    ) -> Result<Definers<'s, 'a>, NoMemory>
+        requires { AreApart (names_of symbols.now) names.now }
         ensures { IfOk result (λ d. d ≡ symbols.now) }
     {
-        let strong = index_of(alloc, Rank::Strong, symbols)?;
-        let common = index_of(alloc, Rank::Common, symbols)?;
-        let weak = index_of(alloc, Rank::Weak, symbols)?;
-        let private = index_of(alloc, Rank::Private, symbols)?;
+        let strong = index_of(alloc, Rank::Strong, symbols, names)?;
+        let common = index_of(alloc, Rank::Common, symbols, names)?;
+        let weak = index_of(alloc, Rank::Weak, symbols, names)?;
+        let private = index_of(alloc, Rank::Private, symbols, names)?;
         Ok(Definers {
             symbols,
+            names,
             strong,
             common,
             weak,
@@ -80,41 +89,69 @@ impl<'s, 'a> Definers<'s, 'a> {
         &symbols[number as usize]
     }
 
-    /// The first weak definition of a name.
-    fn weak(&self, name: &[u8]) -> Option<u64>
-        ensures { result ≡ first_called is_weak self.now name.now }
+    /// The first symbol that defines the name of the one with this number strongly.
+    fn strong(&self, number: u64) -> Option<u64>
+        requires { number < length self.now }
+        ensures { result ≡ first_called is_strong self.now (symbol self.now number).name }
     {
-        look_up(&self.weak, name)
+        look_up(&self.strong, self.names[number as usize])
     }
 
-    /// The first common block of a name, or else its first weak definition.
-    fn common_or_weak(&self, name: &[u8]) -> Option<u64>
-        ensures { result ≡ option_or (first_called is_common self.now name.now) (first_called is_weak self.now name.now) }
+    /// The first common block of its name.
+    fn common(&self, number: u64) -> Option<u64>
+        requires { number < length self.now }
+        ensures { result ≡ first_called is_common self.now (symbol self.now number).name }
     {
-        match look_up(&self.common, name) {
-            Some(number) => Some(number),
-            None => self.weak(name),
+        look_up(&self.common, self.names[number as usize])
+    }
+
+    /// The first weak definition of its name.
+    fn weak(&self, number: u64) -> Option<u64>
+        requires { number < length self.now }
+        ensures { result ≡ first_called is_weak self.now (symbol self.now number).name }
+    {
+        look_up(&self.weak, self.names[number as usize])
+    }
+
+    /// The first private symbol of its name.
+    fn private(&self, number: u64) -> Option<u64>
+        requires { number < length self.now }
+        ensures { result ≡ first_called is_private self.now (symbol self.now number).name }
+    {
+        look_up(&self.private, self.names[number as usize])
+    }
+
+    /// The first common block of its name, or else its first weak definition.
+    fn common_or_weak(&self, number: u64) -> Option<u64>
+        requires { number < length self.now }
+        ensures { result ≡ option_or (first_called is_common self.now (symbol self.now number).name) (first_called is_weak self.now (symbol self.now number).name) }
+    {
+        match self.common(number) {
+            Some(first) => Some(first),
+            None => self.weak(number),
         }
     }
 
-    /// The symbol that defines a name.
+    /// The symbol that defines the name of the one with this number.
     #[tactic(auto, unfolding(crate::specs::Definer::definer))]
-    pub fn definer(&self, name: &[u8]) -> Option<u64>
-        ensures { result ≡ definer self.now name.now }
+    fn definer(&self, number: u64) -> Option<u64>
+        requires { number < length self.now }
+        ensures { result ≡ definer self.now (symbol self.now number).name }
     {
-        match look_up(&self.strong, name) {
-            Some(number) => Some(number),
-            None => self.common_or_weak(name),
+        match self.strong(number) {
+            Some(first) => Some(first),
+            None => self.common_or_weak(number),
         }
     }
 
-    /// Which symbol this one is, which has this number.
-    fn resolved_symbol(&self, symbol: &Symbol, number: u64) -> u64
-        ensures { result ≡ (if is_shared symbol.now then unwrap_or (definer self.now symbol.now.name) number else if is_some_symbol symbol.now.standing then number else 0) }
+    /// Which symbol the one with this number is, which is this one.
+    fn resolved_symbol(&self, it: &Symbol, number: u64) -> u64
+        requires { number < length self.now }
+        ensures { result ≡ (if is_shared it.now then unwrap_or (definer self.now (symbol self.now number).name) number else if is_some_symbol it.now.standing then number else 0) }
     {
-        if symbol.is_shared() {
-            self.definer(symbol.name()).unwrap_or(number)
-        } else if symbol.is_some() {
+        if it.is_shared() {
+            self.definer(number).unwrap_or(number)
+        } else if it.is_some() {
             number
         } else {
             0
@@ -142,11 +179,12 @@ impl<'s, 'a> Definers<'s, 'a> {
         Ok(numbers)
     }
 
-    /// Whether another symbol than the one with this number defines its name strongly before it.
-    fn is_other(&self, symbol: &Symbol, number: u64) -> bool
-        ensures { result ≡ is_other number (first_called is_strong self.now symbol.now.name) }
+    /// Whether another symbol than the one with this number is the first that defines its name strongly.
+    fn is_other(&self, number: u64) -> bool
+        requires { number < length self.now }
+        ensures { result ≡ is_other number (first_called is_strong self.now (symbol self.now number).name) }
     {
-        match look_up(&self.strong, symbol.name()) {
+        match self.strong(number) {
             Some(first) => number != first,
             None => false,
         }
@@ -157,8 +195,7 @@ impl<'s, 'a> Definers<'s, 'a> {
         requires { number < length self.now }
         ensures { result ≡ is_second self.now number }
     {
-        let symbol = self.symbol(number);
-        symbol.has_rank(Rank::Strong) && self.is_other(symbol, number)
+        self.symbol(number).has_rank(Rank::Strong) && self.is_other(number)
     }
 
     /// The name of the first symbol that defines it strongly though another one before it does.
@@ -174,21 +211,15 @@ impl<'s, 'a> Definers<'s, 'a> {
         None
     }
 
-    /// Whether a private symbol has this name.
-    fn has_private(&self, name: &[u8]) -> bool
-        ensures { result ≡ is_some (first_called is_private self.now name.now) }
+    /// Whether its name may find the symbol with this number, which is this one.
+    fn finds(&self, it: &Symbol, number: u64) -> bool
+        requires { number < length self.now }
+        ensures { result ≡ (if is_shared it.now then is_some (definer self.now (symbol self.now number).name) || is_none (first_called is_private self.now (symbol self.now number).name) else is_none (definer self.now (symbol self.now number).name)) }
     {
-        look_up(&self.private, name).is_some()
-    }
-
-    /// Whether its name may find this symbol.
-    fn finds(&self, symbol: &Symbol) -> bool
-        ensures { result ≡ (if is_shared symbol.now then is_some (definer self.now symbol.now.name) || is_none (first_called is_private self.now symbol.now.name) else is_none (definer self.now symbol.now.name)) }
-    {
-        if symbol.is_shared() {
-            self.definer(symbol.name()).is_some() || !self.has_private(symbol.name())
+        if it.is_shared() {
+            self.definer(number).is_some() || self.private(number).is_none()
         } else {
-            self.definer(symbol.name()).is_none()
+            self.definer(number).is_none()
         }
     }
 
@@ -199,6 +230,6 @@ impl<'s, 'a> Definers<'s, 'a> {
         ensures { result ≡ is_named (is_found self.now) self.now number }
     {
         let symbol = self.symbol(number);
-        symbol.is_some() && self.finds(symbol)
+        symbol.is_some() && self.finds(symbol, number)
     }
 }

@@ -1,6 +1,6 @@
-//! The first symbol of each name in a rank.
+//! The first symbol of each name in a rank, where names have numbers.
 
-ghost use Rattle.std.specs.Prelude.{◌≡◌, ℕ, List, length, IfOk, OnOk};
+ghost use Rattle.std.specs.Prelude.{◌≡◌, ℕ, length, IfOk, OnOk};
 ghost use Rattle.obj_join.specs.Ranked.{first_ranked, looked_up, noted};
 
 use crate::rank::Rank;
@@ -9,26 +9,27 @@ use rv_word::NoMemory;
 use std::alloc::Global;
 use std::collections::BTreeMap;
 
-/// The number that a name has in an index.
-pub(crate) fn look_up(index: &BTreeMap<&[u8], u64>, name: &[u8]) -> Option<u64>
-    ensures { result ≡ looked_up name.now index.now }
+/// The symbol that the name with this number has in an index.
+pub(crate) fn look_up(index: &BTreeMap<u64, u64>, name: u64) -> Option<u64>
+    ensures { result ≡ looked_up name index.now }
 {
-    index.get(name).copied()
+    index.get(&name).copied()
 }
 
-/// Adds the symbol with this number to the index of a rank, unless it has another rank or its name is there.
-fn note<'a>(
-    index: &mut BTreeMap<&'a [u8], u64>,
+/// Adds the symbol with this number to the index of a rank, unless it has another rank or its name, which has this number
+/// too, is there.
+fn note(
+    index: &mut BTreeMap<u64, u64>,
     rank: Rank,
-    symbol: &Symbol<'a>,
+    symbol: &Symbol,
+    name: u64,
     number: u64,
 ) -> Result<(), NoMemory>
-    ensures { OnOk result ((name : List ℕ) → looked_up name index.new ≡ noted rank symbol.now number (looked_up name index.old) name) }
+    ensures { OnOk result ((other : ℕ) → looked_up other index.new ≡ noted rank symbol.now name number (looked_up other index.old) other) }
 {
     if !symbol.has_rank(rank) {
         return Ok(());
     }
-    let name = symbol.name();
     if look_up(index, name).is_some() {
         return Ok(());
     }
@@ -36,18 +37,20 @@ fn note<'a>(
     Ok(())
 }
 
-/// The first symbol of each name that has this rank.
+/// The first symbol of each name that has this rank, where `names` has the number of each symbol's name.
 #[tactic(auto, unfolding(least::specs::First::first_below))]
-pub(crate) fn index_of<'a>(
+pub(crate) fn index_of(
     alloc: Global,
     rank: Rank,
-    symbols: &[Symbol<'a>],
-) -> Result<BTreeMap<&'a [u8], u64>, NoMemory>
-    ensures { IfOk result (λ index. (name : List ℕ) → looked_up name index ≡ first_ranked rank symbols.now name (length symbols.now)) }
+    symbols: &[Symbol],
+    names: &[u64],
+) -> Result<BTreeMap<u64, u64>, NoMemory>
+    requires { length names.now ≡ length symbols.now }
+    ensures { IfOk result (λ index. (name : ℕ) → looked_up name index ≡ first_ranked rank symbols.now names.now name (length symbols.now)) }
 {
     let mut index = BTreeMap::new(alloc);
     for (number, symbol) in symbols.iter().enumerate() {
-        note(&mut index, rank, symbol, number as u64)?;
+        note(&mut index, rank, symbol, names[number], number as u64)?;
     }
     Ok(index)
 }

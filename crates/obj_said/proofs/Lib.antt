@@ -3,3 +3,4 @@ mod Slotted
 pub mod Whole
 mod Sectioned
 mod Composed
+mod Named

@@ -1,0 +1,5 @@
+mod Blocks
+mod Grown
+pub mod Spelled
+mod Apart
+mod Marked
