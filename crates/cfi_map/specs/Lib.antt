@@ -9,5 +9,6 @@ pub mod Sizes
 pub mod Shorts
 pub mod Placing
 pub mod Source
+pub mod World
 pub mod Untame
 pub mod SourceStep

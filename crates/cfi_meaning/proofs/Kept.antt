@@ -1,20 +1,22 @@
 -- Meaning kept, by induction on the source machine's steps.
-use Rattle.std.proofs.Common.{◌≡◌, ℕ, ◌+◌, ◌≤◌, ◌⊎◌, false, inl, inr, List, [], length, Some, None, sym, ap, subst, ◌∙◌, arith}
+use Rattle.std.proofs.Common.{◌≡◌, ℕ, ◌+◌, ◌≤◌, ◌⊎◌, true, false, inl, inr, List, [], length, Option, Some, None, refl, sym, ap, subst, ◌∙◌, arith}
 use Rattle.std.proofs.lemmas.Bool.{cases_Bool}
 use Rattle.rv_word.specs.Image.{Contents}
 use Rattle.rv_word.specs.MemoryMap.{DATA_START, Profile}
 use Rattle.rv_word.specs.Memory.{placed, zeros}
 use Rattle.rv_instr.specs.Registers.{cleared}
 use Rattle.rv_code.specs.State.{After, last_exit}
+use Rattle.cfi_map.specs.Placement.{whole_at}
 use Rattle.cfi_map.specs.Source.{Source, init_here, source_start}
 use Rattle.cfi_map.specs.SourceStep.{SourceAfter, StepTurn, after_steps, breaks, exits, ran, source_step, untame}
 use Rattle.cfi_map.specs.declared.reason.Reason.{Reason}
+use Rattle.cfi_map.proofs.LaterRuns.{past, past_few, past_some}
 use Rattle.cfi_runs.specs.Own.{Own, own_start}
 use Rattle.cfi_runs.specs.WholeRun.{RunsTo, own_shared, undisturbed}
-use Rattle.cfi_writer.specs.Units.{Choice, entry_gate}
+use Rattle.cfi_writer.specs.Units.{Choice, entry_gate, is_later_at}
 use Rattle.cfi_writer.proofs.Grouping.{other_first}
 use Rattle.cfi_meaning.specs.ImageOf.{IsImageOf}
-use Rattle.cfi_meaning.specs.LaterStores.{is_at_later}
+use Rattle.cfi_meaning.specs.LaterStores.{IsPastFirst, is_at_later}
 use Rattle.cfi_meaning.specs.Matches.{Matches, address_of, own_of}
 use Rattle.cfi_meaning.specs.Meaning.{Answers, EndsAs, MeaningKept}
 use Rattle.cfi_meaning.specs.PlaceSteps.{PlacesRun, holds_store, place_step}
@@ -55,7 +57,28 @@ module _ (m : Choice) (image : Contents) (of : IsImageOf m image) (input : List 
   going n st e =
       let first = (there m image of input n st e).leader in
       let (steps, few, same) = goes first.steps first.state first.runs (at_no_later m first.state.place of.accepted first.place) in
-      ap last_exit (first.events ∙ sym same.events) ∙ same.going
+      ap last_exit (first.world.events ∙ sym same.events) ∙ same.going
+
+  -- at a later store it is a few steps past the first of its group
+  past_first : (n : ℕ) (st : Source) → after_steps m.layout n start ≡ Some st → is_at_later m.layout st.place ≡ true →
+      (place : Option ℕ) → st.place ≡ place → IsPastFirst m.layout input n st
+  past_first n st e later None at = let wrong : false ≡ true = ap (is_at_later m.layout) (sym at) ∙ later in absurd (cc)
+  past_first n st e later (Some j) at =
+      let leader = (there m image of input n st e).leader in
+      let is_so : is_later_at m j ≡ true = sym (at_later_is m j of.accepted) ∙ ap (is_at_later m.layout) (sym at) ∙ later in
+      let some = past_some m.layout (whole_at m.whole) input of.accepted.groups of.accepted.sound j is_so in
+      let few = past_few m.layout (whole_at m.whole) input of.accepted.groups of.accepted.sound (Some j) in
+      let counted : n ≡ leader.steps + past m.layout (whole_at m.whole) input (Some j) =
+      leader.counted ∙ ap (λ (o : Option ℕ). leader.steps + past m.layout (whole_at m.whole) input o) at in
+      record {
+        steps = leader.steps;
+        fewer = omega (arith, some, counted);
+        near = omega (arith, few, counted);
+        first = leader.state;
+        runs = leader.runs;
+        no_later = at_no_later m leader.state.place of.accepted leader.place;
+        same = leader.world;
+      }
 
   ended : (turn : StepTurn) (next : Source) (after : After) → Answers m.layout image turn next after → EndsAs m.layout turn next after
   ended ran next after answer = tt
@@ -107,4 +130,5 @@ meaning_kept m image input of init = record {
   goes = λ n st e free. goes m image of input init n st e free;
   ends = λ n st e. ends_so m image of input init n st e (stepped m image of st);
   stays = step_kept m image of;
+  later = λ n st e later. past_first m image of input init n st e later st.place refl;
 }

@@ -197,7 +197,7 @@ module _ (m : Choice) (ok : IsAccepted m) (image : Contents) (input : List ℕ) 
         let least = first.few in
         let rises = bound_rises (length m.layout.closed.sides) (last_words p) first.steps most (omega arith) in
         let more = added here.0 (most_steps m.layout most) (omega arith) here.2.turn in
-        (more.0, more.1 ∙ ap (λ (old : List Event). old ++ more.0) (here.2.events ∙ sym first.events))
+        (more.0, more.1 ∙ ap (λ (old : List Event). old ++ more.0) (here.2.events ∙ sym first.world.events))
 
     never : (r : SourceRun) → Where m.layout start 0 r → (d : Difference) → told r ≡ differs d → ⊥
     never r (on_way t e) d differ =

@@ -1,7 +1,7 @@
 -- Meaning kept: after n tame steps of the source machine, none of which ends the run, the undisturbed run of the image is at a
 -- matching state within 21 n + 13 steps, unless the program is at a later store of a group; and where the next step ends the run, the
 -- image's has ended alike within 21 (n + 1) + 13 in all. An image for several harts runs with one alone, and for 13 reads 17; with a graph of version 2 for 21 reads 22.
-use Rattle.std.specs.Prelude.{◌≡◌, ℕ, ◌+◌, ◌≤◌, false, Some, List, length}
+use Rattle.std.specs.Prelude.{◌≡◌, ℕ, ◌+◌, ◌≤◌, true, false, Some, List, length}
 use Rattle.rv_word.specs.Image.{Contents}
 use Rattle.rv_code.specs.State.{After}
 use Rattle.rv_code.specs.Step.{step}
@@ -16,7 +16,7 @@ use Rattle.cfi_meaning.specs.PlacesKept.{most_steps}
 use Rattle.cfi_map.specs.Source.{Source, init_here, source_start}
 use Rattle.cfi_map.specs.SourceStep.{StepTurn, after_steps, breaks, exits, ran, source_step}
 use Rattle.cfi_meaning.specs.Matches.{Matches}
-use Rattle.cfi_meaning.specs.LaterStores.{LeadsOver, is_at_later}
+use Rattle.cfi_meaning.specs.LaterStores.{IsPastFirst, LeadsOver, is_at_later}
 
 -- the image has ended as the source machine's step did: with its status, or at a break in no handler. Of a step that goes on or is
 -- untame this says nothing
@@ -47,6 +47,9 @@ pub record KeepsMeaning (layout : ProgramAtMap) (image : Contents) (input : List
       RunsTo layout.profile image input (most_steps layout (n + 1)) (EndsAs layout (source_step layout st).turn (source_step layout st).state)
   -- and the states that match are the right ones: from any of them the next step is kept
   pub stays : KeepsStep layout image
+  -- and at a later store of a group the program is a few steps past a state that a state of the image matches, with the same events
+  pub later : (n : ℕ) (st : Source) → after_steps layout n (source_start layout input) ≡ Some st → is_at_later layout st.place ≡ true →
+      IsPastFirst layout input n st
 
 abbrev pub MeaningKept : Type 0
 MeaningKept =
