@@ -1,18 +1,22 @@
 -- What a command line is taken for, by how `clap` reads it.
 use Rattle.std.proofs.Common.{◌≡◌, ◌∙◌, ℕ, List, None, Some, Ok, Err, ap, sym}
 use Rattle.std.specs.Option.{option_map}
-use Rattle.tool_words.specs.Plain.{TakesPlain}
+use Rattle.tool_words.specs.Plain.{TakesMarked, TakesPlain}
 use Rattle.tool_words.specs.Reading.{Gives, reading, request_of as words_of}
 use Rattle.tool_words.specs.declared.asked.Asked.{Asked}
 use Rattle.tool_words.specs.declared.end.WordsEnd.{WordsEnd}
 use Rattle.tool_words.specs.declared.end.WordsEnd.TheVariants.{Help, Version, Refused, NoMemory}
-use Rattle.cfi_tool.specs.Request.{IsKept, IsRight, IsWordsEnd, TakenPlainly, asked, if_request, request_of, taken, taken_by, untaken}
+use Rattle.cfi_tool.specs.Request.{IsKept, IsRight, IsWordsEnd, TakenMarked, TakenPlainly, asked, if_request, request_of, taken, taken_by, untaken}
 use Rattle.cfi_tool.specs.declared.request.Request as R
 
 module _ (words : List (List ℕ)) where
   pub taken_plainly : TakesPlain words → TakenPlainly words
   unfolding taken
   taken_plainly takes program name own plain are = ap taken_by (takes program name own plain are)
+
+  pub taken_marked : TakesMarked words → TakenMarked words
+  unfolding taken
+  taken_marked takes program name before after known plain are = ap taken_by (takes program name before after known plain are)
 
   pub kept : (given : Asked) (request : R.Request) → Gives (reading words) (Ok given) → option_map asked (Some request) ≡ request_of (words_of given)
       → IsRight (asked request) → IsKept (taken words) request

@@ -1,10 +1,11 @@
 -- What the words of a command line ask for. Which words are taken, and which word is which, is what `clap` says of the command line.
-use Rattle.std.specs.Prelude.{◌≡◌, ◌⊎◌, ℕ, ◌≤◌, if◌then◌else◌, List, [], ◌∷◌, codes, ⊤, Option, Some, None, option_map}
+use Rattle.std.specs.Prelude.{◌≡◌, ◌⊎◌, ℕ, ◌≤◌, if◌then◌else◌, true, List, [], ◌∷◌, ◌++◌, codes, ⊤, Option, Some, None, option_map}
+use Rattle.std.specs.List.{list_all}
 use Rattle.std.specs.Str.{bytes_eq}
 use Rattle.text_lines.specs.Decimal.{MAX_STEP}
 use Rattle.tool_words.specs.Reading as reads
 use Rattle.tool_words.specs.Reading.{Reading, reading}
-use Rattle.tool_words.specs.Plain.{IsPlainRequest}
+use Rattle.tool_words.specs.Plain.{IsAmong, IsPlainRequest, commands, is_plain}
 use Rattle.tool_words.specs.declared.end.WordsEnd.{WordsEnd}
 use Rattle.tool_words.specs.declared.end.WordsEnd.TheVariants as ends
 use Rattle.tool_commands.specs.Compare.{CompareWords, compare_asked, compare_link_words, compare_names, compare_words}
@@ -61,6 +62,13 @@ abbrev pub TakenPlainly : List (List ℕ) → Type 0
 TakenPlainly words =
     (program name : List ℕ) (own : List (List ℕ)) → IsPlainRequest name own → words ≡ program ∷ name ∷ own
     → taken words ≡ if_request (request_of (name ∷ own))
+
+-- so are they with a `--` before, between or behind these words, where those before it are such and those behind it are any, also empty or
+-- with a hyphen first
+abbrev pub TakenMarked : List (List ℕ) → Type 0
+TakenMarked words =
+    (program name : List ℕ) (before after : List (List ℕ)) → IsAmong commands name (before ++ after) → list_all is_plain before ≡ true
+    → words ≡ program ∷ name ∷ before ++ codes "--" ∷ after → taken words ≡ if_request (request_of (name ∷ before ++ after))
 
 -- a program's name, `verify` and two names, which may stand behind `--`
 abbrev pub Verifies : List (List ℕ) → VerifyWords → Type 0

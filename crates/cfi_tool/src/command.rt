@@ -14,7 +14,7 @@ ghost use Rattle.cfi_tool.specs.Explains.{Explains, IsPart, IsReadFault, IsTooLo
 ghost use Rattle.cfi_tool.specs.Finishing.{IsShort, IsStopped};
 ghost use Rattle.tool_words.specs.Reading.{spelled};
 ghost use Rattle.cfi_tool.specs.Outcomes.{outcome_outputs, outcome_status, outcome_text};
-ghost use Rattle.cfi_tool.specs.Request.{Request, TakenPlainly, Verifies, WritesNone, asks, compare, demo, rewrite, run, taken, untaken, verify};
+ghost use Rattle.cfi_tool.specs.Request.{Request, TakenMarked, TakenPlainly, Verifies, WritesNone, asks, compare, demo, rewrite, run, taken, untaken, verify};
 ghost use Rattle.tool_common.specs.Writes.{AreApart, KeepsReads, Wrote};
 ghost use Rattle.cfi_tool.specs.declared.outcome.Outcome.{Outcome};
 
@@ -39,6 +39,7 @@ fn command<'a, F: Files>(
     ensures counted { CountsReads F.Files files.old files.new (IsReadFault result) (IsTooLongFile result) }
     ensures apart { IfOk result (λ outcome. AreApart (outcome_outputs outcome)) }
     ensures plain { TakenPlainly (spelled words.now) }
+    ensures marked { TakenMarked (spelled words.now) }
     ensures unwritten { WritesNone (taken (spelled words.now)) → IfOk result (λ outcome. outcome_outputs outcome ≡ []) }
 {
     let request = match requested(alloc, words) {
@@ -117,6 +118,13 @@ pub fn rvcfi<F: Files, K: Sink>(alloc: Global, words: &[String], files: &mut F, 
     ensures file_faults_later { F.write_faults files.old ≤ F.write_faults files.new }
     ensures write_faults_later { K.faults out.old ≤ K.faults out.new }
 
+    // To understand this contract read first, in this order: `Files` and `Sink` of tool_io, what is told of files and of an output; in specs/
+    // `taken` of Request, what the words ask for, and `names_of`, the files that are read for it; `Outcome` of outcome.rt, what a command line
+    // comes to, and of Outcomes its `outcome_status`, `outcome_text` and `outcome_outputs`; `Explains`, an outcome's cause, which for a command's
+    // own is `ExplainsVerdict` or `ExplainsRun` of cfi_pairs, `ExplainsRewrite`, `ExplainsCompare` or `ExplainsDemo` of tool_commands; `Wrote` of
+    // tool_common and `Appends` of std, what is written and put. Then the next clause says it all, but for 4 and 5; those after it say what
+    // follows of single statuses, and when each may come.
+
     // All but 4 and 5: the status and the text of an outcome that has its cause, and its files, if it has any.
     ensures told { result ≢ 4 → result ≢ 5 → (outcome : Outcome)
         × (result ≡ outcome_status outcome)
@@ -160,6 +168,9 @@ pub fn rvcfi<F: Files, K: Sink>(alloc: Global, words: &[String], files: &mut F, 
 
     // A program's name, a command's name and exactly its words, none empty and none with a hyphen first, are always taken.
     ensures plain { TakenPlainly (spelled words.now) }
+
+    // So are they with a `--` among or around these words: those behind it may be empty or have a hyphen first.
+    ensures marked { TakenMarked (spelled words.now) }
 
     // 2, and no other, where the words are not taken.
     ensures usage { result ≡ 2 → taken (spelled words.now) ≡ untaken }

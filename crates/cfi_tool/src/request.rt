@@ -2,7 +2,7 @@ ghost use Rattle.std.specs.Prelude.{◌≡◌, IfOk, IfErr, IfSome, MatchResult,
 ghost use Rattle.tool_io.specs.Reading.{CountsReads, IsOnlyRead};
 ghost use Rattle.cfi_tool.specs.Explains.{ExplainsRequest};
 ghost use Rattle.tool_common.specs.Reads.{IsFault, IsStop, IsTooLong};
-ghost use Rattle.cfi_tool.specs.Request.{IsKept, IsRight, IsWordsEnd, TakenPlainly, asked, names_of, request_of, taken};
+ghost use Rattle.cfi_tool.specs.Request.{IsKept, IsRight, IsWordsEnd, TakenMarked, TakenPlainly, asked, names_of, request_of, taken};
 ghost use Rattle.tool_words.specs.Reading.{request_of as words_of, spelled};
 
 use crate::outcome::Outcome;
@@ -28,9 +28,10 @@ pub(crate) enum Request<'a> {
 }
 
 /// What the words of a command line ask for.
-#[tactic(auto, using(crate::proofs::Taken::taken_plainly, crate::proofs::Taken::kept, crate::proofs::Taken::not_kept, crate::proofs::Taken::words_end))]
+#[tactic(auto, using(crate::proofs::Taken::taken_plainly, crate::proofs::Taken::taken_marked, crate::proofs::Taken::kept, crate::proofs::Taken::not_kept, crate::proofs::Taken::words_end))]
 pub(crate) fn requested<'a>(alloc: Global, words: &'a [String]) -> Result<Request<'a>, WordsEnd>
     ensures plain { TakenPlainly (spelled words.now) }
+    ensures marked { TakenMarked (spelled words.now) }
     ensures taken { MatchResult result (IsKept (taken (spelled words.now))) (IsWordsEnd (taken (spelled words.now))) }
 {
     let asked = read_words(alloc, words)?;
