@@ -10,7 +10,7 @@ use Rattle.cfi_harden.specs.Given.{IsGiven, RefusesGiven}
 use Rattle.cfi_writer.specs.Hardened.{HardenedParts}
 use Rattle.cfi_harden.specs.Hardened.{IsHardened, IsHardenedOf, IsWrittenOf}
 use Rattle.cfi_harden.specs.Request.{ProgramRequest, Request, program_request}
-use Rattle.cfi_harden.specs.Prepared.{IsPrepared, IsPreparedOf, IsWrongPolicy, PreparedParts}
+use Rattle.cfi_harden.specs.Prepared.{IsPreparedOf, IsWrongPolicy, PreparedParts}
 
 -- of a program
 abbrev pub RefusesProgram : ProgramRequest → Refusal → Type 0
@@ -54,11 +54,6 @@ abbrev pub PreparesProgram : ProgramRequest → Result PreparedParts HardenEnd �
 PreparesProgram request (Ok prepared) = IsPreparedOf request prepared
 PreparesProgram request (Err (Refused refusal)) = RefusesProgram request refusal × IsEarly refusal
 PreparesProgram request (Err NoMemory) = Unit {0}
-
-abbrev pub Prepares : Request → Result PreparedParts HardenEnd → Type 0
-Prepares request (Ok prepared) = IsPrepared request prepared
-Prepares request (Err (Refused refusal)) = Refuses request refusal × IsEarly refusal
-Prepares request (Err NoMemory) = Unit {0}
 
 -- what a prepared program comes to
 abbrev pub HardensPrepared : PreparedParts → Result HardenedParts HardenEnd → Type 0

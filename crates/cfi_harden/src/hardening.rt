@@ -25,7 +25,7 @@ fn labels_of(alloc: Global, prepared: &Prepared) -> Result<Vec<u32>, NoMemory>
     requires room { sum (whole_sizes prepared.now.program prepared.now.closed) < CODE_SIZE }
     ensures { IfOk result (λ v. AreGiven prepared.now.program prepared.now.closed v.items) }
 {
-    class_labels(alloc, &prepared.items, &prepared.closed)
+    class_labels(alloc, prepared.items, &prepared.closed)
 }
 
 /// Places a prepared program, with labels, and writes it.
@@ -40,7 +40,7 @@ fn placed_and_written(alloc: Global, prepared: &Prepared) -> Result<Hardened, Ha
     Ok(hardened)
 }
 
-/// Hardens a program that `prepare` or `prepare_program` gave: its image, its graph and its map, or the first that stands against placing it.
+/// Hardens a program that `prepare_program` gave: its image, its graph and its map, or the first that stands against placing it.
 pub fn harden_prepared(alloc: Global, prepared: &Prepared) -> Result<Hardened, HardenEnd>
     requires { IsOfRequest prepared.now }
     ensures placed { HardensPrepared prepared.now result }
@@ -56,11 +56,11 @@ pub fn harden_prepared(alloc: Global, prepared: &Prepared) -> Result<Hardened, H
 pub fn harden_program(
     alloc: Global,
     form: Form,
-    items: Items,
+    items: &Items,
     entry: &str,
     policy: Option<&[u8]>,
 ) -> Result<Hardened, HardenEnd>
-    ensures { HardensProgram (record { form = form; program = items.entry; entry = entry.now; policy = option_copied policy.entry }) result }
+    ensures { HardensProgram (record { form = form; program = items.now; entry = entry.now; policy = option_copied policy.entry }) result }
 {
     let prepared = prepare_program(alloc, form, items, entry, policy)?;
     harden_prepared(alloc, &prepared)

@@ -5,7 +5,7 @@
 
 pub use hardening::{harden_prepared, harden_program};
 pub use joined::{JoinedEnd, joined_program};
-pub use prepared::{Prepared, prepare, prepare_program, program_of};
+pub use prepared::{Prepared, prepare_program, program_of};
 pub use refusal::{HardenEnd, Refusal};
 pub use room::has_data_room;
 

@@ -2,8 +2,8 @@ ghost use Rattle.std.specs.Prelude.{option_copied};
 ghost use Rattle.rv_word.specs.Form.{graph_version};
 ghost use Rattle.cfi_harden.specs.Given.{alone};
 ghost use Rattle.cfi_harden.specs.Preparing.{Enters, Reads};
-ghost use Rattle.cfi_harden.specs.Refused.{Prepares, PreparesProgram};
-ghost use Rattle.cfi_harden.specs.Request.{ProgramRequest, Request};
+ghost use Rattle.cfi_harden.specs.Refused.{PreparesProgram};
+ghost use Rattle.cfi_harden.specs.Request.{ProgramRequest};
 
 use crate::closing::closed_under;
 use crate::refusal::{HardenEnd, Refusal};
@@ -16,22 +16,22 @@ use rv_word::Form;
 use std::alloc::Global;
 use std::marker::Model;
 
-/// A program with its closed graph under a policy and the place where it is entered, and the form in which it is to be
-/// written.
+/// A program, which is lent, with its closed graph under a policy and the place where it is entered, and the form in which it is
+/// to be written.
 #[derive(Drop)]
-pub struct Prepared<'a> {
+pub struct Prepared<'a, 'b> {
     pub form: Form,
-    pub items: Items<'a>,
+    pub items: &'a Items<'b>,
     pub closed: Closed,
     pub entry: u64,
 }
 
-impl<'a> Model for Prepared<'a> {
+impl<'a, 'b> Model for Prepared<'a, 'b> {
     ghost use Rattle.cfi_harden.specs.Prepared.{PreparedParts};
 
     ghost Value = { PreparedParts };
 
-    ghost view = { λ p. record { form = p.form; program = p.items; closed = p.closed; entry = p.entry } };
+    ghost view = { λ p. record { form = p.form; program = p.items.now; closed = p.closed; entry = p.entry } };
 }
 
 /// The program of an object, or what is wrong with the object.
@@ -64,35 +64,20 @@ fn entered(
 /// A program with its closed graph under a policy, if there is one, entered at the first symbol of a name, to be written in a
 /// form.
 #[tactic(auto, using(crate::proofs::Preparing::is_prepared, crate::proofs::Preparing::not_entered))]
-pub fn prepare_program<'a>(
+pub fn prepare_program<'a, 'b>(
     alloc: Global,
     form: Form,
-    items: Items<'a>,
+    items: &'a Items<'b>,
     entry: &str,
     policy: Option<&[u8]>,
-) -> Result<Prepared<'a>, HardenEnd>
-    ensures { PreparesProgram (record { form = form; program = items.entry; entry = entry.now; policy = option_copied policy.entry }) result }
+) -> Result<Prepared<'a, 'b>, HardenEnd>
+    ensures { PreparesProgram (record { form = form; program = items.now; entry = entry.now; policy = option_copied policy.entry }) result }
 {
-    let (entry, closed) = entered(alloc, form, &items, entry, policy)?;
+    let (entry, closed) = entered(alloc, form, items, entry, policy)?;
     Ok(Prepared {
         form,
         items,
         closed,
         entry,
     })
-}
-
-/// The same of the program of an object.
-#[tactic(auto, using(crate::proofs::Preparing::prepares, crate::proofs::Preparing::not_read))]
-pub fn prepare<'a>(
-    alloc: Global,
-    form: Form,
-    object: &'a [u8],
-    entry: &str,
-    policy: Option<&[u8]>,
-) -> Result<Prepared<'a>, HardenEnd>
-    ensures { Prepares (record { form = form; given = alone object.now; entry = entry.now; policy = option_copied policy.entry }) result }
-{
-    let items = program_of(alloc, object)?;
-    prepare_program(alloc, form, items, entry, policy)
 }

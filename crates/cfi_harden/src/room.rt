@@ -1,6 +1,7 @@
 //! Whether data and code have room.
 
-ghost use Rattle.std.specs.Prelude.{◌↔◌, ◌<◌, IsTrue};
+ghost use Rattle.std.specs.Prelude.{◌≡◌, ◌↔◌, ◌<◌, IsTrue};
+ghost use Rattle.rv_word.specs.Form.{graph_version};
 ghost use Rattle.obj_program.specs.Program.{count};
 ghost use Rattle.cfi_harden.specs.Fitting.{FitsOr};
 ghost use Rattle.cfi_harden.specs.Room.{HasDataRoom};
@@ -28,12 +29,13 @@ pub fn has_data_room(items: &Items) -> bool
 /// A placement of a prepared program in which its data have room and no value leaves its range.
 pub(crate) fn spaced_in_room<'a, 'b>(
     alloc: Global,
-    prepared: &'a Prepared<'b>,
+    prepared: &'a Prepared<'a, 'b>,
 ) -> Result<Spacing<'a, 'b>, HardenEnd>
-    requires { prepared.now.entry < count prepared.now.program }
+    requires version { prepared.now.closed.version ≡ graph_version prepared.now.form }
+    requires entry { prepared.now.entry < count prepared.now.program }
     ensures { FitsOr prepared.now result }
 {
-    let items = &prepared.items;
+    let items = prepared.items;
     let spacing = place_program(
         alloc,
         prepared.form,

@@ -41,5 +41,5 @@ pub(crate) fn words_fit_in(prepared: &Prepared)
     ensures fits_maps { FitsMaps prepared.now.program }
     ensures words { (k : ℕ) → k < count prepared.now.program → (item_of prepared.now.program k).word < 2 ^ 32 }
 {
-    program_words_fit(&prepared.items);
+    program_words_fit(prepared.items);
 }

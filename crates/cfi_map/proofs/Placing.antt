@@ -1,6 +1,7 @@
 -- How many gates and words a placement has, which word stands at a place, its words while a loop makes them.
 use Rattle.std.proofs.Common.{◌≡◌, ℕ, suc, ◌+◌, ◌<◌, ◌≤◌, Bool, Option, List, [], ◌∷◌, ◌++◌, length, get_or, drop, drop-cons, refl, sym, ap, ◌∙◌, add-one, append_assoc}
 use Rattle.std.proofs.lemmas.List.{append-nil, drop_all}
+use Rattle.rv_word.specs.declared.form.Form.{Form}
 use Rattle.obj_program.specs.declared.item.Item.{Item}
 use Rattle.obj_program.specs.Program.{count}
 use Rattle.cfi_closed.specs.Closed.{Side}
@@ -25,8 +26,8 @@ as_many_words sides k (gate ∷ gates) = ap suc (as_many_words sides (k + 1) gat
 pub words_counted : (layout : ProgramAtMap) → length layout.gates ≡ count layout.program → length (words_at layout) ≡ count layout.program
 words_counted layout counted = as_many_words layout.closed.sides 0 layout.gates ∙ counted
 
-pub words_kept : (layout : ProgramAtMap) (words : List ℕ) → IsMapped layout words → length (words_at layout) ≡ count layout.program
-words_kept layout words is = words_counted layout is.counted
+pub words_kept : (form : Form) (layout : ProgramAtMap) (words : List ℕ) → IsMapped form layout words → length (words_at layout) ≡ count layout.program
+words_kept form layout words is = words_counted layout is.counted
 
 pub drop_step : {X : Type 0} (xs : List X) (k : ℕ) (d : X) → k < length xs → drop k xs ≡ get_or xs k d ∷ drop (k + 1) xs
 drop_step xs k d lt = rw (add-one, drop-cons xs k d) refl

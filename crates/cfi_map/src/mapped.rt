@@ -2,7 +2,7 @@
 
 ghost use Rattle.std.specs.Prelude.{◌≡◌, ◌<◌, ◌≤◌, ◌^◌, ℕ, true, false, IfOk, IfSome, Some, is_some, length, slice_index};
 ghost use Rattle.std.specs.List.Sorted.{IsStrictlyIncreasing};
-ghost use Rattle.rv_word.specs.Form.{profile_for};
+ghost use Rattle.rv_word.specs.Form.{graph_version, profile_for};
 ghost use Rattle.rv_word.specs.MemoryMap.{IsProfile};
 ghost use Rattle.obj_program.specs.AtMap.{instr_at};
 ghost use Rattle.obj_program.specs.DataAtMap.{data_at, init_size};
@@ -43,7 +43,7 @@ impl<'a, 'b> Model for Mapped<'a, 'b> {
 
     ghost view = { λ m. program_at m.form m.items.now m.closed.now m.gates.items m.entry };
 
-    ghost invariant = { λ m. IsMapped (program_at m.form m.items.now m.closed.now m.gates.items m.entry) m.words.items };
+    ghost invariant = { λ m. IsMapped m.form (program_at m.form m.items.now m.closed.now m.gates.items m.entry) m.words.items };
 }
 
 /// The words of places with these gates.
@@ -100,6 +100,7 @@ impl<'a, 'b> Mapped<'a, 'b> {
         gates: Vec<u64>,
         entry: u64,
     ) -> Result<Mapped<'a, 'b>, NoMemory>
+        requires version { closed.now.version ≡ graph_version form }
         requires counted { length gates.items ≡ count items.now }
         requires near { (k : ℕ) → slice_index gates.items k < 2 ^ 32 }
         requires rising { IsStrictlyIncreasing gates.items }
@@ -132,9 +133,10 @@ impl<'a, 'b> Mapped<'a, 'b> {
         self.items.count()
     }
 
-    /// The form in which it is written.
+    /// The form in which it is written: the only one for images of its profile and for graphs of its closed graph's version.
     pub fn form(&self) -> Form
-        ensures { self.now.profile ≡ profile_for result }
+        ensures profile { self.now.profile ≡ profile_for result }
+        ensures version { self.now.closed.version ≡ graph_version result }
     {
         self.form
     }

@@ -1,6 +1,7 @@
 //! Where each place's gate and unit stand.
 
 ghost use Rattle.std.specs.Prelude.{◌≡◌, ℕ, ◌<◌, ◌≤◌, ◌^◌, false, IfOk, MatchResult};
+ghost use Rattle.rv_word.specs.Form.{graph_version};
 ghost use Rattle.rv_word.specs.MemoryMap.{CODE_SIZE};
 ghost use Rattle.obj_program.specs.Program.{count};
 ghost use Rattle.cfi_layout.specs.Starts.{flag};
@@ -132,6 +133,7 @@ fn spaced<'a, 'b>(
     leads: &[bool],
     placement: &Placement,
 ) -> Result<Spacing<'a, 'b>, NoMemory>
+    requires version { closed.now.version ≡ graph_version form }
     requires leads { AreLeads (entries items.now closed.now entry) leads.now }
     requires shortened { IsShortened form items.now closed.now leads.now placement.now }
     requires entry { entry < count items.now }
@@ -154,7 +156,8 @@ pub fn place_program<'a, 'b>(
     closed: &'a Closed,
     entry: u64,
 ) -> Result<Spacing<'a, 'b>, PlaceEnd>
-    requires { entry < count items.now }
+    requires version { closed.now.version ≡ graph_version form }
+    requires entry { entry < count items.now }
     ensures { MatchResult result
         (λ s. IsPlacementOf form items.now closed.now entry s)
         (λ e. PlaceEnds form items.now closed.now e) }

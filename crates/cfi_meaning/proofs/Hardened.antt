@@ -1,17 +1,15 @@
 -- A hardened program of a request is an image of an accepted choice, at the gates of its map.
-use Rattle.std.proofs.Common.{◌≡◌, ℕ, List, [], Option, sym, ap, subst, ◌∙◌, unwrap_or}
+use Rattle.std.proofs.Common.{◌≡◌, ℕ, List, [], Option, refl, sym, ap, subst, ◌∙◌, unwrap_or}
 use Rattle.rv_word.specs.Image.{Contents}
 use Rattle.rv_word.specs.Form.{image_version}
 use Rattle.cfi_map.specs.GraphAtMap.{ProgramAtMap, program_at}
 use Rattle.cfi_map.specs.LegalMap.{IsLegalMap}
 use Rattle.cfi_map.specs.Source.{init_here}
-use Rattle.cfi_writer.specs.Hardened.{HardenedParts, chosen}
-use Rattle.cfi_harden.specs.Hardened.{IsHardenedOf}
-use Rattle.cfi_harden.specs.Request.{ProgramRequest}
+use Rattle.cfi_writer.specs.Hardened.{chosen}
 use Rattle.cfi_writer.specs.Units.{Choice}
 use Rattle.cfi_harden.proofs.Ready.{written_accepted}
 use Rattle.cfi_meaning.specs.ImageOf.{IsImageOf}
-use Rattle.cfi_meaning.specs.Hardened.{HardenedKeepsMeaning, HardenedNeverDiffers, HoldsAtMap}
+use Rattle.cfi_meaning.specs.Hardened.{HardenedKeepsMeaning, HardenedNeverDiffers, HoldsOf, HoldsOfWritten}
 use Rattle.cfi_meaning.specs.Meaning.{KeepsMeaning}
 use Rattle.cfi_meaning.specs.NeverDiffers.{NoRunDiffers}
 use Rattle.cfi_meaning.proofs.Kept.{meaning_kept}
@@ -20,19 +18,18 @@ use Rattle.cfi_meaning.proofs.NeverDiffers.{never_differs}
 -- what holds of each image of an accepted choice with its data
 module _ (Holds : ProgramAtMap → Contents → Type 0)
     (each : (m : Choice) (image : Contents) → IsImageOf m image → image.init ≡ init_here m.layout → Holds m.layout image) where
-  pub at_map : (request : ProgramRequest) (h : HardenedParts) → IsHardenedOf request h → HoldsAtMap Holds request h
-  at_map request h (p, prepared, (s, labels, code, init, placed, room, in_range, written)) =
+  at_map : HoldsOfWritten (HoldsOf Holds)
+  at_map request p h prepared (s, labels, code, init, placed, room, in_range, written) =
       let m = chosen s labels in
       let image : Contents = record { version = image_version p.form; code = code; init = init } in
       let accepted = written_accepted request p s labels code init h prepared (record { placed = placed; room = room; in_range = in_range }) written in
       record {
-        p = p;
         contents = image;
-        prepared = prepared;
-        map = subst (λ (l : ProgramAtMap). IsLegalMap l.program l.closed l.entry h.map) placed.of written.map;
-        version = ap image_version prepared.form;
-        map_form = written.map_form ∙ prepared.form;
+        bytes = written.bytes;
+        version = refl;
         image = written.image;
+        map = subst (λ (l : ProgramAtMap). IsLegalMap l.program l.closed l.entry h.map) placed.of written.map;
+        map_form = written.map_form;
         holds = subst (λ (l : ProgramAtMap). Holds l image)
             (placed.of ∙ ap (λ (gates : List ℕ). program_at p.form p.program p.closed gates p.entry) (sym written.gates))
             (each m image (record { accepted = accepted; bytes = written.bytes; code = written.code_is })

@@ -7,20 +7,27 @@ use Rattle.cfi_harden.specs.declared.refusal.HardenEnd.{HardenEnd}
 use Rattle.cfi_harden.specs.declared.refusal.HardenEnd.TheVariants as ends
 use Rattle.cfi_writer.specs.Hardened.{HardenedParts}
 use Rattle.cfi_harden.specs.Preparing.{Reads}
-use Rattle.cfi_harden.specs.Refused.{Hardens, HardensProgram}
+use Rattle.cfi_harden.specs.Prepared.{IsOfRequest, PreparedParts}
+use Rattle.cfi_harden.specs.Refused.{Hardens, HardensPrepared, HardensProgram}
 use Rattle.cfi_harden.specs.Request.{ProgramRequest, Request, program_request}
 use Rattle.cfi_harden.proofs.Preparing.{hardens_given}
-use Rattle.cfi_meaning.specs.Hardened.{HardenedKeepsMeaning, HardenedNeverDiffers, KeepsMeaningAtMap, NeverDiffersAtMap}
+use Rattle.cfi_meaning.specs.Hardened.{HardenedKeepsMeaning, HardenedNeverDiffers, HoldsOfWritten, KeepsMeaningAtMap, NeverDiffersAtMap}
 
 pub keeps_meaning : (request : ProgramRequest) (result : Result HardenedParts HardenEnd) → HardenedKeepsMeaning → HardensProgram request result →
     IfOk result (λ (h : HardenedParts). KeepsMeaningAtMap request h)
-keeps_meaning request (Ok h) law hardens = law request h hardens
+keeps_meaning request (Ok h) law (p, prepared, written) = (p, prepared, law request p h prepared written)
 keeps_meaning request (Err end) law hardens = tt
 
 pub never_differs : (request : ProgramRequest) (result : Result HardenedParts HardenEnd) → HardenedNeverDiffers → HardensProgram request result →
     IfOk result (λ (h : HardenedParts). NeverDiffersAtMap request h)
-never_differs request (Ok h) law hardens = law request h hardens
+never_differs request (Ok h) law (p, prepared, written) = (p, prepared, law request p h prepared written)
 never_differs request (Err end) law hardens = tt
+
+-- and of what a prepared program comes to
+pub holds_of : (Of : PreparedParts → HardenedParts → Type 0) (p : PreparedParts) (result : Result HardenedParts HardenEnd) → HoldsOfWritten Of → IsOfRequest p →
+    HardensPrepared p result → IfOk result (λ (h : HardenedParts). Of p h)
+holds_of Of p (Ok h) law (request, prepared) written = law request p h prepared written
+holds_of Of p (Err end) law of hardens = tt
 
 -- where no program is given
 pub not_read : (request : Request) (end : HardenEnd) → Reads request.given (Err end) → Hardens request (Err end)

@@ -4,7 +4,7 @@ ghost use Rattle.cfi_harden.specs.Given.{alone};
 ghost use Rattle.cfi_harden.specs.Prepared.{IsOfRequest, IsPreparedOf};
 ghost use Rattle.cfi_harden.specs.Refused.{Hardens, HardensPrepared, HardensProgram};
 ghost use Rattle.cfi_harden.specs.Request.{ProgramRequest, program_request};
-ghost use Rattle.cfi_meaning.specs.Hardened.{KeepsMeaningAtMap, NeverDiffersAtMap};
+ghost use Rattle.cfi_meaning.specs.Hardened.{KeepsMeaningAtMap, KeepsMeaningOf, NeverDiffersAtMap, NeverDiffersOf};
 
 use cfi_harden::{HardenEnd, Prepared, harden_prepared, harden_program, program_of};
 use cfi_meaning::laws::{hardened_keeps_meaning, hardened_never_differs};
@@ -38,7 +38,7 @@ pub fn rewrite_as(
     ensures never_differs { IfOk result (λ h. NeverDiffersAtMap (program_request (record { form = form; given = alone object.now; entry = entry.now; policy = option_copied policy.entry })) h) }
 {
     let items = program_of(alloc, object)?;
-    rewrite_program(alloc, form, items, entry, policy)
+    rewrite_joined(alloc, form, &items, entry, policy)
 }
 
 /// Hardens an object for one hart.
@@ -56,32 +56,32 @@ pub fn rewrite(
 }
 
 /// Hardens a program in a form: that of one object, as `rewrite_as` does (`cfi_harden::program_of`), or of several that are joined
-/// (`cfi_harden::joined_program`).
-pub fn rewrite_program(
+/// (`cfi_harden::joined_program`). It is lent, so that the same one can be hardened in several forms.
+pub fn rewrite_joined(
     alloc: Global,
     form: Form,
-    items: Items,
+    items: &Items<'_>,
     entry: &str,
     policy: Option<&[u8]>,
 ) -> Result<Hardened, HardenEnd>
-    ensures hardens { HardensProgram (record { form = form; program = items.entry; entry = entry.now; policy = option_copied policy.entry }) result }
-    ensures meaning_kept { IfOk result (λ h. KeepsMeaningAtMap (record { form = form; program = items.entry; entry = entry.now; policy = option_copied policy.entry }) h) }
-    ensures never_differs { IfOk result (λ h. NeverDiffersAtMap (record { form = form; program = items.entry; entry = entry.now; policy = option_copied policy.entry }) h) }
+    ensures hardens { HardensProgram (record { form = form; program = items.now; entry = entry.now; policy = option_copied policy.entry }) result }
+    ensures meaning_kept { IfOk result (λ h. KeepsMeaningAtMap (record { form = form; program = items.now; entry = entry.now; policy = option_copied policy.entry }) h) }
+    ensures never_differs { IfOk result (λ h. NeverDiffersAtMap (record { form = form; program = items.now; entry = entry.now; policy = option_copied policy.entry }) h) }
 {
     hardened_keeps_meaning();
     hardened_never_differs();
     harden_program(alloc, form, items, entry, policy)
 }
 
-/// Hardens a program that `cfi_harden::prepare` gave: its image, its graph and its map, or the first that stands against placing
-/// it.
-pub fn rewrite_prepared(alloc: Global, prepared: &Prepared) -> Result<Hardened, HardenEnd>
+/// Hardens a program that `cfi_harden::prepare_program` gave: its image, its graph and its map, or the first that stands against
+/// placing it.
+pub fn rewrite_prepared(alloc: Global, prepared: &Prepared<'_, '_>) -> Result<Hardened, HardenEnd>
     requires { IsOfRequest prepared.now }
     ensures placed { HardensPrepared prepared.now result }
-    // For each request of which it is the prepared program, this is what `rewrite_program` promises.
+    // For each request of which it is the prepared program, this is what `rewrite_joined` promises.
     ensures hardens { (request : ProgramRequest) → IsPreparedOf request prepared.now → HardensProgram request result }
-    ensures meaning_kept { (request : ProgramRequest) → IsPreparedOf request prepared.now → IfOk result (λ h. KeepsMeaningAtMap request h) }
-    ensures never_differs { (request : ProgramRequest) → IsPreparedOf request prepared.now → IfOk result (λ h. NeverDiffersAtMap request h) }
+    ensures meaning_kept { IfOk result (λ h. KeepsMeaningOf prepared.now h) }
+    ensures never_differs { IfOk result (λ h. NeverDiffersOf prepared.now h) }
 {
     hardened_keeps_meaning();
     hardened_never_differs();

@@ -1,5 +1,6 @@
 //! How a run of a source machine ends, as text: the calls it made, its end or the reason against its next step, and its steps.
 ghost use Rattle.std.specs.Prelude.{◌≡◌, ◌+◌, ◌≤◌, true, is_some, IfSome};
+ghost use Rattle.rv_word.specs.Form.{graph_version};
 ghost use Rattle.rv_word.specs.MemoryMap.{DATA_END, DATA_START};
 ghost use Rattle.obj_program.specs.DataAtMap.{init_size};
 ghost use Rattle.cfi_flow.specs.Policy.{instruction_at};
@@ -135,7 +136,9 @@ fn entry(items: &Items, name: &[u8]) -> Option<(u32, u64)>
 }
 
 /// Whether a program with its closed graph runs at a map as is asked.
-fn is_told_at(alloc: Global, items: &Items, closed: &Closed, map: &Map, asked: &Asked<'_>) -> bool {
+fn is_told_at(alloc: Global, items: &Items, closed: &Closed, map: &Map, asked: &Asked<'_>) -> bool
+    requires { closed.now.version ≡ graph_version map.now.form }
+{
     let Some(entry) = entry(items, asked.entry) else {
         return false;
     };
@@ -159,7 +162,9 @@ fn policy_of(alloc: Global, text: &[u8]) -> Option<Policy> {
 }
 
 /// The closed graph of a program under a policy, for a form.
-fn closed_of(alloc: Global, form: Form, items: &Items, policy: &Policy) -> Option<Closed> {
+fn closed_of(alloc: Global, form: Form, items: &Items, policy: &Policy) -> Option<Closed>
+    ensures { IfSome result (λ closed. closed.version ≡ graph_version form) }
+{
     match raw_graph(alloc, items, policy) {
         Ok(raw) => close(alloc, form, &raw).ok(),
         Err(_) => None,
@@ -178,7 +183,7 @@ fn is_told_under(alloc: Global, items: &Items, policy: &Policy, asked: &Asked<'_
 }
 
 /// Whether a program runs as is asked.
-pub(crate) fn is_told(alloc: Global, items: &Items, asked: &Asked<'_>) -> bool {
+pub fn is_told(alloc: Global, items: &Items, asked: &Asked<'_>) -> bool {
     match policy_of(alloc, asked.policy) {
         Some(policy) => is_told_under(alloc, items, &policy, asked),
         None => false,

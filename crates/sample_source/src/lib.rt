@@ -2,7 +2,7 @@
 //! against their next step, and what is wrong with a map. They stand here alone, since several crates of tests use them.
 #![tactic(auto)]
 
-pub use ended::Asked;
+pub use ended::{Asked, is_told};
 pub use files::{Given, is_file, runs_as};
 pub use maps::map;
 pub use sample_hardened::Source;

@@ -1,6 +1,7 @@
 //! A program at a map, made ready to run.
 
 ghost use Rattle.std.specs.Prelude.{◌≡◌, ◌<◌, ◌≤◌, ◌+◌, ◌^◌, ℕ, List, None, Some, true, false, IfOk, IfErr, MatchResult, is_some, length, slice_index};
+ghost use Rattle.rv_word.specs.Form.{graph_version};
 ghost use Rattle.rv_word.specs.MemoryMap.{DATA_END, DATA_START, profile_of};
 ghost use Rattle.rv_code.specs.Decode.{decoded};
 ghost use Rattle.obj_program.specs.DataAtMap.{init_size};
@@ -68,6 +69,7 @@ fn mapped<'a, 'b>(
     map: &Map,
     entry: u64,
 ) -> Result<Mapped<'a, 'b>, NoMemory>
+    requires version { closed.now.version ≡ graph_version map.now.form }
     requires legal { IsLegalMap items.now closed.now entry map.now }
     requires entry { entry < count items.now }
     ensures { IfOk result (λ m. m ≡ program_at map.now.form items.now closed.now (gates_of map.now.lines) entry) }
@@ -84,6 +86,7 @@ fn placed<'a, 'b>(
     map: &Map,
     entry: u64,
 ) -> Result<Placed<'a, 'b>, SourceEnd>
+    requires version { closed.now.version ≡ graph_version map.now.form }
     requires legal { IsLegalMap items.now closed.now entry map.now }
     requires entry { entry < count items.now }
     ensures { MatchResult result (λ p. AreAt items.now closed.now map.now entry p) (λ e. Ends items.now closed.now entry map.now e) }
@@ -128,6 +131,7 @@ impl<'a, 'b> SourceRun<'a, 'b> {
         entry: (u32, u64),
         input: &[u8],
     ) -> Result<SourceRun<'a, 'b>, SourceEnd>
+        requires version { closed.now.version ≡ graph_version map.now.form }
         requires entry { is_some (instruction_at items.now (entry.0, entry.1)) ≡ true }
         requires data { DATA_START + init_size items.now ≤ DATA_END }
         ensures { (place : ℕ) → instruction_at items.now (entry.0, entry.1) ≡ Some place → MatchResult result

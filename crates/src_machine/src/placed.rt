@@ -1,5 +1,5 @@
 ghost use Rattle.std.specs.Prelude.{◌≡◌, ◌<◌, ◌≤◌, ◌^◌, true, false, IfOk, IfSome, Some, is_some, length, option_and_then, slice_index};
-ghost use Rattle.rv_word.specs.Form.{profile_for};
+ghost use Rattle.rv_word.specs.Form.{graph_version, profile_for};
 ghost use Rattle.obj_program.specs.DataAtMap.{data_at, init_size};
 ghost use Rattle.obj_program.specs.MapFit.{EndsLast};
 ghost use Rattle.obj_program.specs.Program.{count, is_end, item_of};
@@ -56,7 +56,8 @@ impl<'a, 'b> Placed<'a, 'b> {
 
     /// The form in which it is written.
     pub(crate) fn form(&self) -> Form
-        ensures { self.now.profile ≡ profile_for result }
+        ensures profile { self.now.profile ≡ profile_for result }
+        ensures version { self.now.closed.version ≡ graph_version result }
     {
         self.mapped.form()
     }

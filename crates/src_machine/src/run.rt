@@ -1,5 +1,5 @@
 ghost use Rattle.std.specs.Prelude.{◌≡◌, ◌<◌, ◌≤◌, ◌+◌, ◌^◌, IfOk, OnErr, length};
-ghost use Rattle.rv_word.specs.Form.{profile_for};
+ghost use Rattle.rv_word.specs.Form.{graph_version, profile_for};
 ghost use Rattle.rv_machine.specs.Parts.{shared_in};
 ghost use Rattle.src_machine.specs.Running.{IsStep, IsUnchanged, counted};
 
@@ -55,9 +55,10 @@ impl<'a, 'b> SourceRun<'a, 'b> {
         self.placed.most_lead()
     }
 
-    /// The form of its map.
+    /// The form of its map: the only one for images of its profile and for graphs of its closed graph's version.
     pub fn form(&self) -> Form
-        ensures { self.now.layout.profile ≡ profile_for result }
+        ensures profile { self.now.layout.profile ≡ profile_for result }
+        ensures version { self.now.layout.closed.version ≡ graph_version result }
     {
         self.placed.form()
     }

@@ -2,7 +2,7 @@
 
 use crate::told::{joined, told_of, told_of_end};
 use cfi_map_text::write_map;
-use cfi_rewrite::rewrite_program;
+use cfi_rewrite::rewrite_joined;
 use elf_bytes::{bytes_at, u16_at, u64_at};
 use obj_items::Join;
 use obj_program::Items;
@@ -162,7 +162,7 @@ const LAST_LINES: &[u8] =
 
 /// Whether a program's map has these last lines.
 fn ends_so(alloc: Global, items: Items) -> bool {
-    let Ok(hardened) = rewrite_program(alloc, Form::Plain, items, "main", None) else {
+    let Ok(hardened) = rewrite_joined(alloc, Form::Plain, &items, "main", None) else {
         return false;
     };
     match write_map(alloc, &hardened.map) {

@@ -1,25 +1,27 @@
-//! Objects as one program in each form of hardening: image, graph, map and a run.
+//! Objects as one program in each form of hardening: image, graph, map and runs, of what is hardened and of the program itself.
 
 use crate::told::joined;
 use cfi_graph::write_graph;
 use cfi_map_text::write_map;
-use cfi_rewrite::{Hardened, rewrite_program};
+use cfi_rewrite::{Hardened, rewrite_joined};
 use cfi_script::Script;
 use cfi_step::{RunEnd, RunReport};
 use cfi_verify::verify;
 use elf_image::read_image;
+use obj_program::Items;
 use rv_word::{Form, Image, NoMemory};
 use sample_hardened::put;
 use sample_links::{Objects, Run, SUMS, Sum, Sums, WORKED, Worked, files};
 use sample_programs::{code, code_of_harts};
 use sample_runs::run_of;
+use sample_source::{Asked, is_told};
 use std::alloc::{AllocError, Global};
 
 /// What objects become in a form, which is entered at `main`.
 fn hardened(alloc: Global, form: Form, objects: Objects) -> Option<Hardened> {
     let files = files(alloc, objects)?;
     match joined(alloc, &files) {
-        Ok(items) => rewrite_program(alloc, form, items, "main", None).ok(),
+        Ok(items) => rewrite_joined(alloc, form, &items, "main", None).ok(),
         Err(_) => None,
     }
 }
@@ -93,19 +95,48 @@ fn is_worked(alloc: Global, hardened: &Hardened, row: &Worked) -> bool {
         && runs_so(alloc, hardened, &image, row.7)
 }
 
-/// Whether objects become what a row says.
-fn become_worked(alloc: Global, row: &Worked) -> bool {
-    match hardened(alloc, row.0, row.1) {
-        Some(hardened) => is_worked(alloc, &hardened, row),
-        None => false,
+/// Whether a program becomes what a row says, and runs so at the row's map before it is hardened.
+fn becomes(alloc: Global, items: &Items, row: &Worked, told: &str) -> bool {
+    let asked = Asked {
+        entry: b"main",
+        policy: b"",
+        map: row.6,
+        input: b"",
+        output: b"",
+        told,
+    };
+    match rewrite_joined(alloc, row.0, items, "main", None) {
+        Ok(hardened) => is_worked(alloc, &hardened, row) && is_told(alloc, items, &asked),
+        Err(_) => false,
     }
 }
 
-#[test]
-fn hardens_objects(rt: HostRuntime) {
-    for (k, row) in WORKED.iter().enumerate() {
-        assert!(rt; become_worked(rt.alloc(), row), "{}, {k}", row.0.name());
+/// Whether it becomes what each row says.
+fn becomes_each(alloc: Global, items: &Items, rows: &[Worked], told: &str) -> bool {
+    for row in rows {
+        if !becomes(alloc, items, row, told) {
+            return false;
+        }
     }
+    true
+}
+
+/// Whether these objects, which are joined once, are a program of which this holds.
+fn become_each(alloc: Global, objects: Objects, rows: &[Worked], told: &str) -> bool {
+    let Some(files) = files(alloc, objects) else {
+        return false;
+    };
+    match joined(alloc, &files) {
+        Ok(items) => becomes_each(alloc, &items, rows, told),
+        Err(_) => false,
+    }
+}
+
+/// The source machine's steps are the instructions of the objects in the order in which they run, and that of the closing.
+#[test]
+fn hardens_one_program_in_each_form(rt: HostRuntime) {
+    assert!(rt; become_each(rt.alloc(), Objects::Pair, &WORKED[..4], "exit 3 after 9"));
+    assert!(rt; become_each(rt.alloc(), Objects::Table, &WORKED[4..], "exit 4 after 6"));
 }
 
 /// The FNV-1a hash of bytes, with 64 bits.

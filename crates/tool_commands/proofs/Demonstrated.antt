@@ -1,9 +1,9 @@
 -- What a demonstration needs of a hardened program: its program runs at its map, and no run of that differs from the image's.
-use Rattle.std.proofs.Common.{◌≡◌, ◌∙◌, ℕ, List, [], length, Option, None, ap, ap₂, refl, subst, sym, unwrap_or}
-use Rattle.rv_word.specs.Form.{image_version}
+use Rattle.std.proofs.Common.{◌≡◌, ◌∙◌, ℕ, List, [], length, None, ap, ap₂, refl, subst, sym}
+use Rattle.rv_word.specs.Form.{graph_version, image_version}
 use Rattle.rv_word.specs.declared.form.Form.{Form}
 use Rattle.elf_image.specs.Spelling.{spelling}
-use Rattle.rv_word.specs.Image.{Contents, IsImageSize, image_profile}
+use Rattle.rv_word.specs.Image.{Contents, IsImageSize, IsVersion, image_profile}
 use Rattle.rv_word.specs.MemoryMap.{profile_of}
 use Rattle.cfi_map_text.specs.Map.{MapParts}
 use Rattle.cfi_map.specs.GraphAtMap.{ProgramAtMap, program_at}
@@ -12,16 +12,15 @@ use Rattle.cfi_map.specs.Placing.{IsPlacementOf, Spaced}
 use Rattle.cfi_map.specs.Source.{first_astray}
 use Rattle.obj_program.specs.Program.{Program}
 use Rattle.cfi_rules.specs.Rules.{IsWellFormed}
-use Rattle.cfi_writer.specs.Hardened.{HardenedParts, chosen}
+use Rattle.cfi_writer.specs.Hardened.{HardenedParts}
 use Rattle.cfi_harden.specs.Hardened.{IsWrittenOf}
 use Rattle.cfi_harden.specs.Prepared.{IsPrepared, IsPreparedOf, PreparedParts}
 use Rattle.cfi_harden.specs.Refused.{Refuses}
 use Rattle.cfi_harden.specs.Request.{ProgramRequest, Request}
 use Rattle.cfi_harden.specs.declared.refusal.Refusal.{Refusal}
-use Rattle.cfi_harden.proofs.Ready.{written_accepted}
 use Rattle.cfi_meaning.specs.Compared as runs
+use Rattle.cfi_meaning.specs.Hardened.{NeverDiffersOf}
 use Rattle.cfi_meaning.specs.NeverDiffers.{NoRunDiffers}
-use Rattle.cfi_meaning.proofs.NeverDiffers.{never_differs}
 use Rattle.src_machine.specs.Running.{SourceParts}
 use Rattle.gen_hardened.specs.Laws.{DemoIsNeverRefused, entered}
 use Rattle.cfi_compare.specs.Told.{told_answer}
@@ -49,7 +48,9 @@ module _ (request : ProgramRequest) (p : PreparedParts) (prepared : IsPreparedOf
   pub can_run : CanRunAt p h.map
   can_run =
       let (s, labels, code, init, placed, room, in_range, written) = hardened in
+      let (raw, drawn, closed) = prepared.closed.drawn in
       record {
+        version = closed.version_is ∙ ap graph_version (sym written.map_form);
         legal = subst (λ (l : ProgramAtMap). IsLegalMap l.program l.closed l.entry h.map) placed.of written.map;
         room = room;
         in_range = subst (λ (l : ProgramAtMap). first_astray l ≡ None) (at_gates s placed written.map_form written.gates) in_range;
@@ -62,17 +63,15 @@ module _ (request : ProgramRequest) (p : PreparedParts) (prepared : IsPreparedOf
       let same : image ≡ own = own_image image is code init written.bytes.size written.image in
       subst (λ (x : Contents). IsWellFormed (image_profile x) x h.graph) (sym same) written.well_formed
 
-  pub none_differs : (image : Contents) → IsImageIn h.image image → NoneDiffers p h.map image
-  none_differs image is =
-      let (s, labels, code, init, placed, room, in_range, written) = hardened in
-      let own : Contents = record { version = image_version p.form; code = code; init = init } in
-      let same : image ≡ own = own_image image is code init written.bytes.size written.image in
-      let accepted = written_accepted request p s labels code init h prepared (record { placed = placed; room = room; in_range = in_range }) written in
-      let never : NoRunDiffers s.layout own = never_differs (chosen s labels) own (record { accepted = accepted; bytes = written.bytes; code = written.code_is })
-      (sym (ap (λ (o : Option (List ℕ)). unwrap_or o []) written.init_is)) in
-      let there : NoRunDiffers (at_map p h.map) own =
-      subst (λ (l : ProgramAtMap). NoRunDiffers l own) (at_gates s placed written.map_form written.gates) never in
-      subst (λ (x : Contents). NoRunDiffers (at_map p h.map) x) (sym same) there
+-- the image of a prepared program is what the file contains, so no run differs from its
+pub none_differs : (p : PreparedParts) (h : HardenedParts) → NeverDiffersOf p h → (image : Contents) → IsImageIn h.image image → NoneDiffers p h.map image
+none_differs p h never image is =
+    let own = never.contents in
+    let same : image ≡ own =
+    is.only own.version own.code own.init (subst IsVersion (sym never.version) (known_version p.form)) never.bytes.size never.image in
+    let there : NoRunDiffers (at_map p h.map) own =
+    subst (λ (f : Form). NoRunDiffers (program_at f p.program p.closed (gates_of h.map.lines) p.entry) own) (sym never.map_form) never.holds in
+    subst (λ (x : Contents). NoRunDiffers (at_map p h.map) x) (sym same) there
 
 -- a generated object is not refused
 pub unrefused : DemoIsNeverRefused → (object : List ℕ) → IsDrawn object → (refusal : Refusal) → Refuses (entered object) refusal → ⊥

@@ -1,5 +1,6 @@
 -- A program at the map that a text spells, and what comes of it and of a file that should be an image.
-use Rattle.std.proofs.Common.{◌≡◌, ◌+◌, ◌≤◌, ℕ, List, MatchResult, Option, Some, None, Result, Ok, Err, inl, inr, sym, ap, subst, arith}
+use Rattle.std.proofs.Common.{◌≡◌, ◌+◌, ◌≤◌, ℕ, List, MatchResult, Option, Some, None, Result, Ok, Err, inl, inr, sym, ap, subst, ◌∙◌, arith}
+use Rattle.rv_word.specs.Form.{graph_version}
 use Rattle.rv_word.specs.Image.{image_profile}
 use Rattle.rv_word.proofs.Cases.{cases_Option}
 use Rattle.rv_word.specs.MemoryMap.{DATA_END, DATA_START}
@@ -14,10 +15,9 @@ use Rattle.cfi_map.specs.GraphAtMap.{ProgramAtMap}
 use Rattle.cfi_map.specs.MapFault.{IsWrongLine}
 use Rattle.cfi_harden.specs.Given.{Given}
 use Rattle.cfi_harden.specs.Room.{HasDataRoom}
-use Rattle.cfi_harden.specs.Prepared.{PreparedParts}
-use Rattle.cfi_harden.specs.Refused.{IsEarly, Prepares, Refuses}
+use Rattle.cfi_harden.specs.Prepared.{IsPrepared, PreparedParts}
+use Rattle.cfi_harden.specs.Refused.{IsEarly, Refuses}
 use Rattle.cfi_harden.specs.Request.{Request}
-use Rattle.cfi_harden.specs.declared.refusal.HardenEnd.TheVariants as hardens
 use Rattle.cfi_harden.specs.declared.refusal.Refusal.{Refusal}
 use Rattle.cfi_harden.specs.declared.refusal.Refusal.TheVariants as hardening
 use Rattle.cfi_harden.proofs.Giving.{given_early}
@@ -99,8 +99,12 @@ not_given request (ends.Duplicate name) is = is
 not_given request ends.NoMemory is = tt
 
 -- a program is given, and is not prepared
-pub not_roomy : (request : Request) (refusal : Refusal) → Prepares request (Err (hardens.Refused refusal)) → IsRoomyEnd request (ends.Refused refusal)
-not_roomy request refusal (is, early) = not_prepared request refusal is early
+pub not_roomy : (request : Request) (refusal : Refusal) → Refuses request refusal → IsEarly refusal → IsRoomyEnd request (ends.Refused refusal)
+not_roomy request refusal is early = not_prepared request refusal is early
+
+-- a prepared program is closed for graphs of the form that was asked for
+pub closed_for : (request : Request) (p : PreparedParts) → IsPrepared request p → p.closed.version ≡ graph_version request.form
+closed_for request p is = let (raw, drawn, closed) = is.1.closed.drawn in closed.version_is ∙ ap graph_version is.1.form
 
 module _ (request : Request) (p : PreparedParts) (map : List ℕ) (roomy : IsRoomy request p) where
   pub runnable_source : (input : List ℕ) (run : SourceParts) → IsSourceAt p map input run → IsRunnable request p map

@@ -1,6 +1,6 @@
 -- Words of private contracts: a generated object as a request, and a map at which its program runs.
 use Rattle.std.specs.Prelude.{◌≡◌, ℕ, List, [], length, ⊤, None}
-use Rattle.rv_word.specs.Form.{image_version}
+use Rattle.rv_word.specs.Form.{graph_version, image_version}
 use Rattle.rv_word.specs.Image.{Contents, IsImageSize, IsVersion, image_profile}
 use Rattle.elf_image.specs.Spelling.{spelling}
 use Rattle.elf_writer.specs.Object.{object_bytes}
@@ -24,6 +24,7 @@ abbrev pub IsDrawn : List ℕ → Type 0
 IsDrawn object = (number : ℕ) × (object ≡ object_bytes (demo_parts number))
 
 pub record CanRunAt (p : PreparedParts) (map : MapParts) : Type 0 where
+  pub version : p.closed.version ≡ graph_version map.form
   pub legal : IsLegalMap p.program p.closed p.entry map
   pub room : HasDataRoom p.program
   pub in_range : first_out p map ≡ None

@@ -5,18 +5,21 @@ ghost use Rattle.text_lines.specs.declared.end.TextEnd.TheVariants as TextEnd;
 ghost use Rattle.tool_io.specs.Reading.{CountsReads, IsOnlyRead};
 ghost use Rattle.tool_common.specs.Reads.{IsFault, IsStop, IsTooLong};
 ghost use Rattle.cfi_map_text.specs.MapText.{map_of};
+ghost use Rattle.rv_word.specs.Form.{graph_version};
 ghost use Rattle.cfi_flow.specs.Entry.{entry_place};
+ghost use Rattle.cfi_harden.specs.Given.{Given};
 ghost use Rattle.cfi_harden.specs.Room.{HasDataRoom};
 ghost use Rattle.cfi_harden.specs.Request.{Request};
-ghost use Rattle.tool_commands.specs.Compare.{ExplainsCompare, IsAfterImage, IsCompareOf, IsFresh, IsImageCompared, IsRoomy, answer_status, asked_at, compare_asked, compare_line, compare_link_words, compare_names, compare_status, compare_words};
-ghost use Rattle.tool_commands.specs.Objects.{given_by};
+ghost use Rattle.tool_commands.specs.Compare.{ExplainsCompare, IsAfterImage, IsCompareOf, IsFresh, IsImageCompared, IsRoomy, IsRoomyEnd, answer_status, asked_at, compare_asked, compare_line, compare_link_words, compare_names, compare_status, compare_words};
+ghost use Rattle.tool_commands.specs.Objects.{Gives, given_by};
 
-use crate::objects::{GivenEnd, ObjectBytes, Objects};
+use crate::objects::{GivenEnd, ObjectBytes, Objects, program_given};
 use crate::source::{roomy, source_on};
 use cfi_compare::{Compared, compare};
 use cfi_harden::Prepared;
 use cfi_map_text::{Map, read_map};
 use elf_image::read_image;
+use obj_program::Items;
 use rv_word::{Bytes, Form, NoMemory};
 use src_machine::laws::wrong_is_not_legal;
 use src_machine::{SourceEnd, SourceRun};
@@ -158,11 +161,12 @@ fn compare_image(
 fn compare_at(
     alloc: Global,
     request: &CompareRequest<'_>,
-    prepared: &Prepared<'_>,
+    prepared: &Prepared<'_, '_>,
     image: &[u8],
     map: &Map,
     input: &[u8],
 ) -> Result<CompareOutcome, NoMemory>
+    requires version { prepared.now.closed.version ≡ graph_version map.now.form }
     requires room { HasDataRoom prepared.now.program }
     requires entry { entry_place prepared.now.program request.now.entry.now ≡ Some prepared.now.entry }
     requires few { request.now.limit ≤ MAX_STEP }
@@ -184,56 +188,89 @@ fn compare_at(
     }
 }
 
-/// Compares the program of objects, under a policy and at a map, with a file that should be an image.
-fn compare_given(
+/// What is told where there is no program that could be run at a map.
+fn not_run(end: GivenEnd) -> Result<CompareOutcome, NoMemory>
+    ensures { (asked : Request) (image text input : List ℕ) (limit : ℕ) → IsRoomyEnd asked end
+        → IfOk result (IsCompareOf asked image text input limit) }
+{
+    match end {
+        GivenEnd::Refused(refusal) => Ok(CompareOutcome::Refused(Refusal::Object(refusal))),
+        GivenEnd::Duplicate(name) => Ok(CompareOutcome::Duplicate(name)),
+        GivenEnd::NoMemory => Err(NoMemory),
+    }
+}
+
+/// Compares a program, under a policy and at a map, with a file that should be an image.
+fn compare_program(
     alloc: Global,
     request: &CompareRequest<'_>,
-    given: ObjectBytes,
+    items: &Items<'_>,
     policy: Option<&[u8]>,
     image: &[u8],
     map: &Map,
     input: &[u8],
 ) -> Result<CompareOutcome, NoMemory>
+    requires read { (given : Given) × Gives given (Ok items.now) }
     requires few { request.now.limit ≤ MAX_STEP }
-    ensures { (text : List ℕ) → map_of text ≡ Ok map.now
-        → IfOk result (IsCompareOf (asked_at text (given_by given.entry) request.now.entry.now (option_copied policy.entry))
+    ensures { (given : Given) (text : List ℕ) → Gives given (Ok items.now) → map_of text ≡ Ok map.now
+        → IfOk result (IsCompareOf (asked_at text given request.now.entry.now (option_copied policy.entry))
         image.now text input.now request.now.limit) }
 {
-    match roomy(alloc, map.form(), given, request.entry, policy) {
+    match roomy(alloc, map.form(), items, request.entry, policy) {
         Ok(prepared) => compare_at(alloc, request, &prepared, image, map, input),
-        Err(GivenEnd::Refused(refusal)) => Ok(CompareOutcome::Refused(Refusal::Object(refusal))),
-        Err(GivenEnd::Duplicate(name)) => Ok(CompareOutcome::Duplicate(name)),
-        Err(GivenEnd::NoMemory) => Err(NoMemory),
+        Err(end) => not_run(end),
     }
 }
 
-/// What is told of a map's text that is none, where the refusals of the objects, their entry, the policy and the image go first.
-fn after_the_objects(
+/// What is told of a map's text that is none, where the refusals of the program's entry, the policy and the image go first.
+fn after_the_program(
     alloc: Global,
     request: &CompareRequest<'_>,
-    given: ObjectBytes,
+    items: &Items<'_>,
     policy: Option<&[u8]>,
     image: &[u8],
     line: u64,
     reason: Reason,
 ) -> Result<CompareOutcome, NoMemory>
-    ensures { (text input : List ℕ) → map_of text ≡ Err (TextEnd.Line line reason)
-        → IfOk result (IsCompareOf (asked_at text (given_by given.entry) request.now.entry.now (option_copied policy.entry))
+    ensures { (given : Given) (text input : List ℕ) → Gives given (Ok items.now) → map_of text ≡ Err (TextEnd.Line line reason)
+        → IfOk result (IsCompareOf (asked_at text given request.now.entry.now (option_copied policy.entry))
         image.now text input request.now.limit) }
 {
-    match roomy(alloc, Form::Plain, given, request.entry, policy) {
+    match roomy(alloc, Form::Plain, items, request.entry, policy) {
         Ok(_prepared) => {
             let refusal = after_the_image(image, Refusal::Map(line, MapReason::Text(reason)));
             Ok(CompareOutcome::Refused(refusal))
         }
-        Err(GivenEnd::Refused(refusal)) => Ok(CompareOutcome::Refused(Refusal::Object(refusal))),
-        Err(GivenEnd::Duplicate(name)) => Ok(CompareOutcome::Duplicate(name)),
-        Err(GivenEnd::NoMemory) => Err(NoMemory),
+        Err(end) => not_run(end),
     }
 }
 
-/// Compares the program of objects, under a policy and at a map, with an image, as bytes spell them. The map is read first, for
-/// its form.
+/// Compares a program, under a policy and at a map, with an image, as bytes spell them. The map is read first, for its form.
+fn compare_spelled(
+    alloc: Global,
+    request: &CompareRequest<'_>,
+    items: &Items<'_>,
+    policy: Option<&[u8]>,
+    image: &[u8],
+    map: &[u8],
+    input: &[u8],
+) -> Result<CompareOutcome, NoMemory>
+    requires read { (given : Given) × Gives given (Ok items.now) }
+    requires few { request.now.limit ≤ MAX_STEP }
+    ensures { (given : Given) → Gives given (Ok items.now)
+        → IfOk result (IsCompareOf (asked_at map.now given request.now.entry.now (option_copied policy.entry))
+        image.now map.now input.now request.now.limit) }
+{
+    match read_map(alloc, map) {
+        Ok(map) => compare_program(alloc, request, items, policy, image, &map, input),
+        Err(TextEnd::Line(line, reason)) => {
+            after_the_program(alloc, request, items, policy, image, line, reason)
+        }
+        Err(TextEnd::NoMemory) => Err(NoMemory),
+    }
+}
+
+/// The same of the program of objects.
 fn compare_bytes(
     alloc: Global,
     request: &CompareRequest<'_>,
@@ -247,12 +284,9 @@ fn compare_bytes(
     ensures { IfOk result (IsCompareOf (asked_at map.now (given_by given.entry) request.now.entry.now (option_copied policy.entry))
         image.now map.now input.now request.now.limit) }
 {
-    match read_map(alloc, map) {
-        Ok(map) => compare_given(alloc, request, given, policy, image, &map, input),
-        Err(TextEnd::Line(line, reason)) => {
-            after_the_objects(alloc, request, given, policy, image, line, reason)
-        }
-        Err(TextEnd::NoMemory) => Err(NoMemory),
+    match program_given(alloc, given) {
+        Ok(items) => compare_spelled(alloc, request, &items, policy, image, map, input),
+        Err(end) => not_run(end),
     }
 }
 

@@ -4,12 +4,13 @@ ghost use Rattle.cfi_gen.specs.Demo.{demo_parts};
 ghost use Rattle.cfi_step.specs.declared.report.RunEnd.TheVariants as ends;
 ghost use Rattle.gen_hardened.specs.Laws.{entered};
 ghost use Rattle.cfi_harden.specs.Hardened.{IsWrittenOf};
+ghost use Rattle.cfi_meaning.specs.Hardened.{NeverDiffersOf};
 ghost use Rattle.tool_commands.specs.Demonstration.{IsComparable, IsDemoPrepared, IsDifference, IsDrawn};
 ghost use Rattle.tool_commands.specs.Rewrite.{IsMade};
 ghost use Rattle.tool_commands.specs.Demo.{ExplainsDemo, IsDemoCompared, IsDemoRun, demo_asked, demo_status, demo_text, demo_words, first_walk};
 
 use crate::compare::answer_status;
-use crate::demonstration::{compare_at, image_in, made, prepared, run_accepted};
+use crate::demonstration::{compare_at, image_in, made, prepared, program, run_accepted};
 use cfi_compare::Compared;
 use cfi_gen::object_of;
 use cfi_harden::Prepared;
@@ -198,7 +199,7 @@ fn told(
 fn after_exit(
     alloc: Global,
     object: &[u8],
-    prepared: &Prepared<'_>,
+    prepared: &Prepared<'_, '_>,
     hardened: &Hardened,
     image: &Image<'_>,
     report: &RunReport,
@@ -216,7 +217,7 @@ fn after_exit(
 fn after_run(
     alloc: Global,
     object: &[u8],
-    prepared: &Prepared<'_>,
+    prepared: &Prepared<'_, '_>,
     hardened: &Hardened,
     image: &Image<'_>,
     report: RunReport,
@@ -235,12 +236,13 @@ fn after_run(
 fn of_hardened(
     alloc: Global,
     object: &[u8],
-    prepared: &Prepared<'_>,
+    prepared: &Prepared<'_, '_>,
     hardened: &Hardened,
 ) -> Result<DemoOutcome, NoMemory>
     requires ready { IsDemoPrepared object.now prepared.now }
     requires made { IsMade (entered object.now) hardened.now }
     requires written { IsWrittenOf prepared.now hardened.now }
+    requires same { NeverDiffersOf prepared.now hardened.now }
     ensures { (number : ℕ) → object.now ≡ object_bytes (demo_parts number) → IfOk result (ExplainsDemo number) }
 {
     let image = image_in(hardened.image.as_slice());
@@ -252,7 +254,7 @@ fn of_hardened(
 fn of_prepared(
     alloc: Global,
     object: &[u8],
-    prepared: &Prepared<'_>,
+    prepared: &Prepared<'_, '_>,
 ) -> Result<DemoOutcome, NoMemory>
     requires { IsDemoPrepared object.now prepared.now }
     ensures { (number : ℕ) → object.now ≡ object_bytes (demo_parts number) → IfOk result (ExplainsDemo number) }
@@ -266,7 +268,8 @@ fn of_object(alloc: Global, object: &[u8]) -> Result<DemoOutcome, NoMemory>
     requires { IsDrawn object.now }
     ensures { (number : ℕ) → object.now ≡ object_bytes (demo_parts number) → IfOk result (ExplainsDemo number) }
 {
-    let prepared = prepared(alloc, object)?;
+    let items = program(alloc, object)?;
+    let prepared = prepared(alloc, &items)?;
     of_prepared(alloc, object, &prepared)
 }
 

@@ -1,12 +1,15 @@
 //! What `demo` does, in steps: an object is made, hardened, verified, run and compared.
 
-ghost use Rattle.std.specs.Prelude.{◌≡◌, ℕ, List, [], IfOk, Some, codes};
+ghost use Rattle.std.specs.Prelude.{◌≡◌, ℕ, List, [], IfOk, Ok, Some, codes};
 ghost use Rattle.rv_word.specs.Image.{image_profile};
 ghost use Rattle.cfi_rules.specs.Rules.{IsWellFormed};
 ghost use Rattle.cfi_flow.specs.Entry.{entry_place};
+ghost use Rattle.cfi_harden.specs.Given.{alone};
 ghost use Rattle.cfi_harden.specs.Hardened.{IsWrittenOf};
 ghost use Rattle.cfi_harden.specs.Prepared.{IsPrepared};
+ghost use Rattle.cfi_harden.specs.Preparing.{Reads};
 ghost use Rattle.cfi_harden.specs.Request.{Request};
+ghost use Rattle.cfi_meaning.specs.Hardened.{NeverDiffersOf};
 ghost use Rattle.cfi_report.specs.SafeRun.{IsSafeRun, undisturbed_script};
 ghost use Rattle.tool_commands.specs.Demo.{STEP_LIMIT};
 ghost use Rattle.tool_commands.specs.Demonstration.{CanRunAt, IsAnswerAt, IsDemoPrepared, IsDrawn, IsImageIn, IsSourceOn};
@@ -15,7 +18,7 @@ ghost use Rattle.tool_commands.specs.Rewrite.{IsMade, IsSpelled};
 use crate::source::source_on;
 use cfi_compare::{Compared, compare};
 use cfi_graph::Graph;
-use cfi_harden::{Prepared, prepare};
+use cfi_harden::{Prepared, prepare_program, program_of};
 use cfi_map_text::Map;
 use cfi_rewrite::{HardenEnd, Hardened, rewrite_prepared};
 use cfi_script::Script;
@@ -23,6 +26,7 @@ use cfi_step::{RunReport, run};
 use cfi_verify::{VerifyEnd, verify};
 use elf_image::read_image;
 use gen_hardened::laws::demo_is_never_refused;
+use obj_program::Items;
 use rv_word::{Form, Image, NoMemory};
 use src_machine::laws::wrong_is_not_legal;
 use src_machine::{SourceEnd, SourceRun};
@@ -34,13 +38,29 @@ const STEP_LIMIT: u64 = 10_000_000;
 /// The symbol at which a program is entered.
 const ENTRY: &str = "main";
 
-/// A generated object, prepared.
-pub(crate) fn prepared(alloc: Global, object: &[u8]) -> Result<Prepared<'_>, NoMemory>
+/// The program of a generated object.
+pub(crate) fn program(alloc: Global, object: &[u8]) -> Result<Items<'_>, NoMemory>
     requires { IsDrawn object.now }
-    ensures { IfOk result (IsDemoPrepared object.now) }
+    ensures { IfOk result (λ items. Reads (alone object.now) (Ok items)) }
 {
     demo_is_never_refused();
-    match prepare(alloc, Form::Plain, object, ENTRY, None) {
+    match program_of(alloc, object) {
+        Ok(items) => Ok(items),
+        Err(HardenEnd::NoMemory) => Err(NoMemory),
+        Err(HardenEnd::Refused(_)) => unreachable!(),
+    }
+}
+
+/// That of an object, prepared.
+pub(crate) fn prepared<'a, 'b>(
+    alloc: Global,
+    items: &'a Items<'b>,
+) -> Result<Prepared<'a, 'b>, NoMemory>
+    requires { (object : List ℕ) × IsDrawn object × Reads (alone object) (Ok items.now) }
+    ensures { (object : List ℕ) → IsDrawn object → Reads (alone object) (Ok items.now) → IfOk result (IsDemoPrepared object) }
+{
+    demo_is_never_refused();
+    match prepare_program(alloc, Form::Plain, items, ENTRY, None) {
         Ok(prepared) => Ok(prepared),
         Err(HardenEnd::NoMemory) => Err(NoMemory),
         Err(HardenEnd::Refused(_)) => unreachable!(),
@@ -48,9 +68,10 @@ pub(crate) fn prepared(alloc: Global, object: &[u8]) -> Result<Prepared<'_>, NoM
 }
 
 /// A generated object that is prepared, hardened.
-pub(crate) fn made(alloc: Global, prepared: &Prepared<'_>) -> Result<Hardened, NoMemory>
+pub(crate) fn made(alloc: Global, prepared: &Prepared<'_, '_>) -> Result<Hardened, NoMemory>
     requires { (object : List ℕ) × IsDemoPrepared object prepared.now }
     ensures written { IfOk result (IsWrittenOf prepared.now) }
+    ensures same { IfOk result (NeverDiffersOf prepared.now) }
     ensures made { (request : Request) → IsPrepared request prepared.now → IfOk result (IsMade request) }
 {
     demo_is_never_refused();
@@ -99,7 +120,7 @@ pub(crate) fn run_accepted(
 /// The run of a generated object's program at a map, from its start.
 fn begun<'a, 'b>(
     alloc: Global,
-    prepared: &'a Prepared<'b>,
+    prepared: &'a Prepared<'a, 'b>,
     map: &Map,
 ) -> Result<SourceRun<'a, 'b>, NoMemory>
     requires entry { entry_place prepared.now.program (codes "main") ≡ Some prepared.now.entry }
@@ -117,7 +138,7 @@ fn begun<'a, 'b>(
 /// Compares the run of a generated object's program at a map with that of an image.
 pub(crate) fn compare_at(
     alloc: Global,
-    prepared: &Prepared<'_>,
+    prepared: &Prepared<'_, '_>,
     map: &Map,
     image: &Image<'_>,
 ) -> Result<Compared, NoMemory>

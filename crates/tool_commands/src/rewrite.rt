@@ -14,7 +14,7 @@ ghost use Rattle.tool_commands.specs.Rewrite.{AreNamedApart, ExplainsRewrite, Ha
 use crate::objects::{GivenEnd, ObjectBytes, Objects, program_given};
 use cfi_graph::{Graph, write_graph};
 use cfi_map_text::{Map, write_map};
-use cfi_rewrite::{HardenEnd, Hardened, rewrite_program};
+use cfi_rewrite::{HardenEnd, Hardened, rewrite_joined};
 use obj_program::Items;
 use rv_word::{Bytes, Form, NoMemory};
 use std::alloc::Global;
@@ -318,13 +318,13 @@ fn spelled_out<'a>(
 fn rewrite_items<'a>(
     alloc: Global,
     request: &RewriteRequest<'a>,
-    items: Items,
+    items: &Items<'_>,
     policy: Option<&[u8]>,
 ) -> Result<RewriteOutcome<'a>, NoMemory>
-    ensures { (given : Given) → Gives given (Ok items.entry)
+    ensures { (given : Given) → Gives given (Ok items.now)
         → IfOk result (IsRewriteOf (rewrite_asked request.now) given (option_copied policy.entry)) }
 {
-    match rewrite_program(alloc, request.form, items, request.entry, policy) {
+    match rewrite_joined(alloc, request.form, items, request.entry, policy) {
         Ok(hardened) => Ok(RewriteOutcome::Rewritten(spelled_out(alloc, request, hardened)?)),
         Err(HardenEnd::Refused(refusal)) => Ok(RewriteOutcome::Refused(Refusal::Object(refusal))),
         Err(HardenEnd::NoMemory) => Err(NoMemory),
@@ -341,7 +341,7 @@ fn rewrite_given<'a>(
     ensures { IfOk result (IsRewriteOf (rewrite_asked request.now) (given_by given.entry) (option_copied policy.entry)) }
 {
     match program_given(alloc, given) {
-        Ok(items) => rewrite_items(alloc, request, items, policy),
+        Ok(items) => rewrite_items(alloc, request, &items, policy),
         Err(GivenEnd::Refused(refusal)) => Ok(RewriteOutcome::Refused(Refusal::Object(refusal))),
         Err(GivenEnd::Duplicate(name)) => Ok(RewriteOutcome::Duplicate(name)),
         Err(GivenEnd::NoMemory) => Err(NoMemory),

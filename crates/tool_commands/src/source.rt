@@ -1,6 +1,7 @@
 //! The program of objects at a map, as `compare` needs it, or why there is none.
 
 ghost use Rattle.std.specs.Prelude.{◌≡◌, MatchResult, Ok, Some, option_copied};
+ghost use Rattle.rv_word.specs.Form.{graph_version};
 ghost use Rattle.cfi_flow.specs.Entry.{entry_place};
 ghost use Rattle.cfi_flow.specs.Policy.{instruction_at};
 ghost use Rattle.cfi_harden.specs.Given.{Given};
@@ -10,9 +11,9 @@ ghost use Rattle.cfi_harden.specs.Request.{Request};
 ghost use Rattle.src_machine.specs.Beginning.{Ends};
 ghost use Rattle.tool_commands.specs.Compare.{IsRoomy, IsRoomyEnd};
 ghost use Rattle.tool_commands.specs.Demonstration.{IsSourceOn};
-ghost use Rattle.tool_commands.specs.Objects.{Gives, given_by};
+ghost use Rattle.tool_commands.specs.Objects.{Gives};
 
-use crate::objects::{GivenEnd, ObjectBytes, program_given};
+use crate::objects::GivenEnd;
 use cfi_harden::{HardenEnd, Prepared, Refusal, has_data_room, prepare_program};
 use cfi_map_text::Map;
 use obj_program::Items;
@@ -21,10 +22,10 @@ use src_machine::{SourceEnd, SourceRun};
 use std::alloc::Global;
 
 /// A prepared program, if its data have room.
-fn with_room(prepared: Prepared) -> Result<Prepared, GivenEnd>
+fn with_room<'a, 'b>(prepared: Prepared<'a, 'b>) -> Result<Prepared<'a, 'b>, GivenEnd>
     ensures { (request : Request) → IsPrepared request prepared.entry → MatchResult result (IsRoomy request) (IsRoomyEnd request) }
 {
-    if has_data_room(&prepared.items) {
+    if has_data_room(prepared.items) {
         return Ok(prepared);
     }
     let extent = prepared.items.data_extent();
@@ -33,14 +34,14 @@ fn with_room(prepared: Prepared) -> Result<Prepared, GivenEnd>
 }
 
 /// A program, prepared as it is run at a map of a form.
-fn prepared<'b>(
+fn prepared<'a, 'b>(
     alloc: Global,
     form: Form,
-    items: Items<'b>,
+    items: &'a Items<'b>,
     entry: &str,
     policy: Option<&[u8]>,
-) -> Result<Prepared<'b>, GivenEnd>
-    ensures { (given : Given) → Gives given (Ok items.entry)
+) -> Result<Prepared<'a, 'b>, GivenEnd>
+    ensures { (given : Given) → Gives given (Ok items.now)
         → MatchResult result (IsPrepared (record { form = form; given = given; entry = entry.now; policy = option_copied policy.entry }))
         (IsRoomyEnd (record { form = form; given = given; entry = entry.now; policy = option_copied policy.entry })) }
 {
@@ -51,18 +52,18 @@ fn prepared<'b>(
     }
 }
 
-/// The program of objects, as it is run at a map of a form, if its data have room.
-pub(crate) fn roomy<'b>(
+/// A program, as it is run at a map of a form, if its data have room.
+pub(crate) fn roomy<'a, 'b>(
     alloc: Global,
     form: Form,
-    given: ObjectBytes<'b>,
+    items: &'a Items<'b>,
     entry: &str,
     policy: Option<&[u8]>,
-) -> Result<Prepared<'b>, GivenEnd>
-    ensures { MatchResult result (IsRoomy (record { form = form; given = given_by given.entry; entry = entry.now; policy = option_copied policy.entry }))
-        (IsRoomyEnd (record { form = form; given = given_by given.entry; entry = entry.now; policy = option_copied policy.entry })) }
+) -> Result<Prepared<'a, 'b>, GivenEnd>
+    ensures { (given : Given) → Gives given (Ok items.now)
+        → MatchResult result (IsRoomy (record { form = form; given = given; entry = entry.now; policy = option_copied policy.entry }))
+        (IsRoomyEnd (record { form = form; given = given; entry = entry.now; policy = option_copied policy.entry })) }
 {
-    let items = program_given(alloc, given)?;
     let prepared = prepared(alloc, form, items, entry, policy)?;
     with_room(prepared)
 }
@@ -79,15 +80,16 @@ fn spot_of(prepared: &Prepared, entry: &str) -> (u32, u64)
 #[tactic(auto, using(crate::proofs::Sources::data_fits))]
 pub(crate) fn source_on<'a, 'b>(
     alloc: Global,
-    prepared: &'a Prepared<'b>,
+    prepared: &'a Prepared<'a, 'b>,
     entry: &str,
     map: &Map,
     input: &[u8],
 ) -> Result<SourceRun<'a, 'b>, SourceEnd>
+    requires version { prepared.now.closed.version ≡ graph_version map.now.form }
     requires room { HasDataRoom prepared.now.program }
     requires entry { entry_place prepared.now.program entry.now ≡ Some prepared.now.entry }
     ensures { MatchResult result (IsSourceOn prepared.now map.now input.now) (Ends prepared.now.program prepared.now.closed prepared.now.entry map.now) }
 {
     let spot = spot_of(prepared, entry);
-    SourceRun::new(alloc, &prepared.items, &prepared.closed, map, spot, input)
+    SourceRun::new(alloc, prepared.items, &prepared.closed, map, spot, input)
 }

@@ -28,7 +28,7 @@ returns-in_ok-answer-in_default c =
     let calls = ap (λ (m : Parts). m.calls.events) c.processor.ensures in
     let events = c.events-events.ensures ∙ ap (λ (x : Calls). x.events) c.system.ensures ∙ calls ∙ ap (λ (st : Source). st.shared.events) finished.state in
     let p = image_profile c.args.image.now in
-    let profile = sym (ap (λ (x : ProgramAtMap). x.profile) finished.layout) ∙ c.form.ensures in
+    let profile = sym (ap (λ (x : ProgramAtMap). x.profile) finished.layout) ∙ c.form.ensures.profile in
     let lead = c.most_lead.ensures.value ∙ ap (λ (x : ProgramAtMap). length x.closed.sides) finished.layout in
     let most = c.bound-most.ensures ∙ ap (λ (q : Profile). bound c.most_lead.result (last_words q) c.steps.result) (sym profile)
     ∙ ap (λ (n : ℕ). bound n (last_words c.args.source.now.layout.profile) c.steps.result) lead in

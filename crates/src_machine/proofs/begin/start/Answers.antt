@@ -16,7 +16,7 @@ pub returns-clause-state : goal.returns-clause-state
 returns-clause-state c =
     subst (λ (start : Source). IfOk c.new.result (λ st. source_in st ≡ start))
     (started c.args.placed.now c.args.input.now c.deref.result.now (profile_for c.form.result).closing c.entry.result
-    (ap (λ (p : Profile). p.closing) (sym c.form.ensures)) c.entry.ensures
+    (ap (λ (p : Profile). p.closing) (sym c.form.ensures.profile)) c.entry.ensures
     (c.in_ok-init.ensures.value ∙ ap Some (sym c.deref.ensures.value)))
     c.new.ensures.state
 
@@ -24,4 +24,4 @@ pub returns-clause-version : goal.returns-clause-version
 returns-clause-version c =
     IfOk-weaker c.new.result (λ (st : StateParts). st.processor.memory.version ≡ image_version c.form.result)
     (λ (st : StateParts). profile_of st.processor.memory.version ≡ c.args.placed.now.profile)
-    (λ st is. ap profile_of is ∙ sym c.form.ensures) c.new.ensures.version
+    (λ st is. ap profile_of is ∙ sym c.form.ensures.profile) c.new.ensures.version

@@ -1,13 +1,16 @@
-use Rattle.std.proofs.Common.{Err, subst}
-use Rattle.text_lines.specs.Answers.{Answers}
-use Rattle.text_lines.specs.declared.end.TextEnd.{TextEnd}
-use Rattle.cfi_map_text.specs.MapText.{map_of}
+use Rattle.std.specs.Prelude.{option_copied}
+use Rattle.tool_commands.specs.Compare.{asked_at}
+use Rattle.tool_commands.specs.Objects.{given_by}
+use Rattle.tool_commands.proofs.Sources.{not_given}
 use Rattle.tool_commands.proofs.compare.compare_bytes.Goals as goal
 
-pub returns-in-Ok : goal.returns-in-Ok
-returns-in-Ok c = c.compare_given.ensures c.args.map.now c.in-Ok.ensures.exact
+pub compare_spelled-requires-clause-read : goal.compare_spelled-requires-clause-read
+compare_spelled-requires-clause-read c = (given_by c.args.given, c.in-Ok.ensures)
 
-pub returns-in-Err-Line : goal.returns-in-Err-Line
-returns-in-Err-Line c =
-    let text = c.args.map.now in
-    c.after_the_objects.ensures text c.args.input.now (subst (λ (e : TextEnd). Answers (Err e) (map_of text)) c.in-Err-Line.field-0-is c.in-Err-Line.ensures.exact)
+pub returns-in-Ok : goal.returns-in-Ok
+returns-in-Ok c = c.compare_spelled.ensures (given_by c.args.given) c.in-Ok.ensures
+
+pub returns-in-Err : goal.returns-in-Err
+returns-in-Err c =
+    let asked = asked_at c.args.map.now (given_by c.args.given) c.args.request.now.entry.now (option_copied c.args.policy) in
+    c.not_run.ensures asked c.args.image.now c.args.map.now c.args.input.now c.args.request.now.limit (not_given asked c.in-Err.end c.in-Err.ensures)

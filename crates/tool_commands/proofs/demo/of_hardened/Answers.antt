@@ -33,7 +33,7 @@ after_run-requires c =
       ready = c.requires.ready;
       version = c.image_in-image.ensures.version ∙ sym (ap image_version (form_of_map request p prepared h c.requires.written));
       fits = can_run request p prepared h c.requires.written;
-      same = none_differs request p prepared h c.requires.written image is;
+      same = none_differs p h c.requires.same image is;
     }
 
 pub returns : goal.returns

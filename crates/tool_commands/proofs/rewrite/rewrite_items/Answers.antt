@@ -8,7 +8,7 @@ use Rattle.tool_commands.proofs.rewrite.rewrite_items.Goals as goal
 pub returns-in_ok-spelled_out-in-Ok : goal.returns-in_ok-spelled_out-in-Ok
 returns-in_ok-spelled_out-in-Ok c = λ given gives.
     let request = request_of (rewrite_asked c.args.request.now) given (option_copied c.args.policy) in
-    let items = c.args.items in
+    let items = c.args.items.now in
     let hardened = c.in-Ok.hardened in (
       hardened,
       record {
@@ -23,4 +23,4 @@ pub returns-in-Err-Refused : goal.returns-in-Err-Refused
 returns-in-Err-Refused c = λ given gives.
     let request = request_of (rewrite_asked c.args.request.now) given (option_copied c.args.policy) in
     rw c.in-Err-Refused.field-0-is
-    (hardens_read request c.args.items (Err (ends.Refused c.in-Err-Refused.refusal)) gives (rw c.in-Err-Refused.field-0-is at c.in-Err-Refused.ensures.hardens))
+    (hardens_read request c.args.items.now (Err (ends.Refused c.in-Err-Refused.refusal)) gives (rw c.in-Err-Refused.field-0-is at c.in-Err-Refused.ensures.hardens))

@@ -9,7 +9,7 @@ use Rattle.tool_commands.proofs.source.source_on.Goals as goal
 pub returns : goal.returns
 returns c =
     let parts = c.prepared.inside in
-    let inside : PreparedParts = record { form = parts.form; program = parts.items; closed = parts.closed; entry = parts.entry } in
+    let inside : PreparedParts = record { form = parts.form; program = parts.items.now; closed = parts.closed; entry = parts.entry } in
     let spot = c.spot_of-spot.result in
     let map = c.args.map.now in
     let input = c.args.input.now in

@@ -8,7 +8,7 @@ use Rattle.cfi_map.proofs.Placing.{words_kept}
 use Rattle.cfi_map.proofs.mapped.Mapped.count.Goals as goal
 
 pub returns-clause-words : goal.returns-clause-words
-returns-clause-words c = subst (λ (l : ProgramAtMap). length (words_at l) ≡ count l.program) c.self.view_is (words_kept _ _ c.self.invariant)
+returns-clause-words c = subst (λ (l : ProgramAtMap). length (words_at l) ≡ count l.program) c.self.view_is (words_kept _ _ _ c.self.invariant)
 
 pub returns-clause-profile : goal.returns-clause-profile
 returns-clause-profile c = subst (λ (l : ProgramAtMap). IsProfile l.profile) c.self.view_is (is_profile (image_version c.self.inside.form))

@@ -7,6 +7,7 @@ words_behind-requires c = subst (λ (gs : List ℕ). (k : ℕ) → get_or gs k 0
 
 pub invariant_of-result : goal.invariant_of-result
 invariant_of-result c = record {
+  version = c.requires.version;
   counted = c.requires.counted;
   near = c.requires.near;
   rising = c.requires.rising;

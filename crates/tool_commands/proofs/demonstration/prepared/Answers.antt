@@ -1,0 +1,23 @@
+use Rattle.std.proofs.Common.{Err, subst}
+use Rattle.cfi_harden.specs.Refused.{PreparesProgram}
+use Rattle.cfi_harden.specs.declared.refusal.HardenEnd.{HardenEnd}
+use Rattle.cfi_harden.proofs.Preparing.{prepared_given, refused_given}
+use Rattle.gen_hardened.specs.Laws.{entered}
+use Rattle.tool_commands.proofs.Demonstrated.{unrefused}
+use Rattle.tool_commands.proofs.demonstration.prepared.Goals as goal
+
+pub unreachable-requires : goal.unreachable-requires
+unreachable-requires c =
+    let (object, drawn, read) = c.requires in
+    let request = entered object in
+    let refusal = c.in-Err-Refused.field-0-0 in
+    let (refuses, early) =
+    subst (λ (e : HardenEnd). PreparesProgram (record { form = request.form; program = c.args.items.now; entry = request.entry; policy = request.policy }) (Err e))
+    c.in-Err-Refused.field-0-is c.in-Err-Refused.ensures in
+    unrefused c.demo_is_never_refused.ensures object drawn refusal (refused_given request c.args.items.now read refusal refuses)
+
+pub returns-in-Ok : goal.returns-in-Ok
+returns-in-Ok c = λ object drawn read. record {
+  drawn = drawn;
+  prepared = prepared_given (entered object) c.args.items.now read c.in-Ok.prepared c.in-Ok.ensures;
+}
