@@ -6,6 +6,7 @@
 pub use effect_law::{closing_effect, opening_effect, unit_effect, unit_keeps_registers};
 pub use emission::{emit, fits, size};
 pub use members::{MOST_MEMBERS, Member, Members};
+pub use pattern::{End, Pattern};
 pub use place::Place;
 pub use recogniser::recognise;
 pub use step_law::{registers_stay, unit_events, unit_law};
@@ -19,6 +20,7 @@ pub mod handlers;
 mod jump;
 pub mod laws;
 mod members;
+mod pattern;
 mod place;
 mod recogniser;
 mod step_law;
