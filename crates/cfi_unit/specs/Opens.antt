@@ -1,5 +1,5 @@
 -- Words that are as a shape of the table says, or the first of such words.
-use Rattle.std.specs.Prelude.{◌≡◌, ℕ, ◌+◌, ◌*◌, ◌%◌, ◌<◌, ◌≤◌, ◌^◌, ◌⊎◌, true, List, [], ◌∷◌, length}
+use Rattle.std.specs.Prelude.{◌≡◌, ℕ, ◌+◌, ◌*◌, ◌%◌, ◌<◌, ◌≤◌, ◌^◌, ◌⊎◌, true, List, [], ◌∷◌}
 use Rattle.std.specs.List.{AllByRecursion}
 use Rattle.rv_word.specs.MemoryMap.{CODE_START, CODE_SIZE}
 use Rattle.cfi_unit.specs.declared.pattern.Pattern.{Pattern}
