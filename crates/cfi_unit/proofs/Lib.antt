@@ -45,3 +45,6 @@ pub mod Forms
 pub mod UnitHoles
 pub mod ShapedUnits
 pub mod MadeUnits
+mod ShapesApart
+mod ShapesUsed
+mod ShapesWorked

@@ -1,7 +1,8 @@
 -- Shapes of a list by their places.
-use Rattle.std.proofs.Common.{◌≡◌, ℕ, zero, suc, ◌≤◌, ◌⊎◌, inl, inr, refl, List, [], ◌∷◌, ◌++◌, arith}
+use Rattle.std.proofs.Common.{Bool, true, ap, ◌∙◌, ◌≡◌, ℕ, zero, suc, ◌≤◌, ◌⊎◌, inl, inr, refl, List, [], ◌∷◌, ◌++◌, arith}
 use Rattle.std.specs.Prelude.{Some, slice_get}
-use Rattle.std.proofs.lemmas.Bool.{cases_eq}
+use Rattle.std.proofs.lemmas.Bool.{and_parts, cases_eq}
+use Rattle.std.specs.List.{list_all}
 use Rattle.cfi_unit.specs.declared.pattern.End.TheVariants as E
 use Rattle.cfi_unit.specs.Shapes.{Shape, each_guarded, each_stores, guarded, shape, stores}
 use Rattle.cfi_unit.specs.Opens.{Among}
@@ -28,6 +29,13 @@ unfolding Among
 among_either s [] back a = inr a
 among_either s (r ∷ front) back (inl e) = inl (inl e)
 among_either s (r ∷ front) back (inr a) = elim (among_either s front back a) [ inl f ↦ inl (inr f) | inr b ↦ inr b ]
+
+-- what a test says of each is so of one
+pub each_among : (test : Shape → Bool) (ss : List Shape) (s : Shape) → list_all test ss ≡ true → Among s ss → test s ≡ true
+unfolding Among
+each_among test [] s all a = absurd a
+each_among test (r ∷ ss) s all (inl e) = ap test e ∙ (and_parts (test r) (list_all test ss) all).0
+each_among test (r ∷ ss) s all (inr a) = each_among test ss s (and_parts (test r) (list_all test ss) all).1 a
 
 -- the families
 pub stores_listed : (k n : ℕ) → suc k ≤ n → Among (shape E.Stores (stores (suc k))) (each_stores n)
