@@ -1,8 +1,8 @@
 -- The instruction in each hole: a word that is as a pattern says is that of an instruction of its form, with
 -- fields in range, and the word of such an instruction is as the pattern says.
-use Rattle.std.proofs.Common.{◌≡◌, ◌≢◌, ℕ, ◌==◌, ◌&&◌, ◌<◌, ◌^◌, Bool, true, false, not, refl, ap, sym, ◌∙◌, inl, inr}
+use Rattle.std.proofs.Common.{◌≡◌, ◌≢◌, ℕ, ◌==◌, ◌&&◌, ◌<◌, ◌^◌, Bool, true, false, not, refl, ap, sym, ◌∙◌}
 use Rattle.std.specs.Prelude.{Option, Some, None, nat_lt}
-use Rattle.std.proofs.lemmas.Bool.{cases_Bool, eqb-true, eq-eqb, ltb-true}
+use Rattle.std.proofs.lemmas.Bool.{eqb-true, ltb-true, not-true}
 use Rattle.rv_word.specs.Numbers.{IsNumber}
 use Rattle.rv_instr.specs.InRange.{IsInstr}
 use Rattle.rv_instr.specs.declared.instr.Instr.{Instr}
@@ -21,7 +21,7 @@ use Rattle.cfi_unit.specs.Recognise.{led_to}
 use Rattle.cfi_unit.specs.UnitWords.{BAD_TARGET, Reaches, gate, is_plain, jump_offset}
 use Rattle.cfi_unit.specs.Patterns.{decodes_to, has_form, matches}
 use Rattle.cfi_unit.proofs.LedBack.{led_back}
-use Rattle.cfi_unit.proofs.Stand.{both}
+use Rattle.cfi_unit.proofs.Stand.{both, other_told}
 
 -- the instruction that a word is
 record Formed (test : Instr → Bool) (w : ℕ) : Type 0 where
@@ -40,14 +40,6 @@ formed test w small e = by (decoded w) refl e
 -- the word of an instruction passes a test that the instruction passes
 pub passes : (test : Instr → Bool) (i : Instr) → IsInstr i → test i ≡ true → decodes_to test (decoded (code_of i)) ≡ true
 passes test i fields has = ap (decodes_to test) (decoded-code_of i fields) ∙ has
-
-pub untold : (b : Bool) → not b ≡ true → b ≡ false
-untold true e = absurd (cc)
-untold false e = refl
-
-pub differ : (a b : ℕ) → a ≢ b → (a == b) ≡ false
-differ a b other =
-    elim (cases_Bool (a == b)) [ inl same ↦ absurd (other (eqb-true a b same)) | inr differs ↦ differs ]
 
 -- a gate
 gate_form : (here : ℕ) (i : Instr) → has_form P.Gate here i ≡ true → IsInstr i → (label : ℕ) × ((label < 2 ^ 20) × (i ≡ gate label))
@@ -100,7 +92,7 @@ skip_hole w here small m = let f = formed (has_form P.Skip here) w small m in sk
 
 near_form : (here w : ℕ) (i : Instr) → has_form P.Near here i ≡ true → IsInstr i → code_of i ≡ w → (b : IsBranch w) × ((b.imm == 4) ≡ false)
 near_form here w (Branch op rs1 rs2 imm) e r code =
-    (record { op = op; rs1 = rs1; rs2 = rs2; imm = imm; fields = r; code = code }, untold (imm == 4) e)
+    (record { op = op; rs1 = rs1; rs2 = rs2; imm = imm; fields = r; code = code }, not-true (imm == 4) e)
 near_form here w other e r code = absurd (cc)
 
 pub near_hole : (w here : ℕ) → w < 2 ^ 32 → matches P.Near w here ≡ true → (b : IsBranch w) × ((b.imm == 4) ≡ false)
@@ -131,17 +123,11 @@ link_form w at other low e r code = absurd (cc)
 pub link_hole : (w at : ℕ) → w < 2 ^ 32 → at < 2 ^ 64 → matches P.Link w at ≡ true → Leads 1 w at
 link_hole w at small low m = let f = formed (has_form P.Link at) w small m in link_form w at f.instr low f.has f.fields f.code
 
-other_target : (at imm : ℕ) → not (led_to at imm == BAD_TARGET) ≡ true → led_to at imm ≢ BAD_TARGET
-other_target at imm e same =
-    let one = eq-eqb (led_to at imm) BAD_TARGET same in
-    let two = untold (led_to at imm == BAD_TARGET) e in
-    cc
-
 goto_form : (w at : ℕ) (i : Instr) → at < 2 ^ 64 → has_form P.Goto at i ≡ true → IsInstr i → code_of i ≡ w → (l : Leads 0 w at) × (l.target ≢ BAD_TARGET)
 unfolding leads
 goto_form w at (Jal rd imm) low e r code =
     let p = both (rd == 0) (not (led_to at imm == BAD_TARGET)) e in
-    (leads 0 w at imm low r.1 (ap (λ k. code_of (Jal k imm)) (sym (eqb-true rd 0 p.0)) ∙ code), other_target at imm p.1)
+    (leads 0 w at imm low r.1 (ap (λ k. code_of (Jal k imm)) (sym (eqb-true rd 0 p.0)) ∙ code), other_told (led_to at imm) BAD_TARGET p.1)
 goto_form w at other low e r code = absurd (cc)
 
 pub goto_hole : (w at : ℕ) → w < 2 ^ 32 → at < 2 ^ 64 → matches P.Goto w at ≡ true → (l : Leads 0 w at) × (l.target ≢ BAD_TARGET)

@@ -1,4 +1,5 @@
 -- Words that are as a shape of the table says are the words of a unit with that shape.
+use Rattle.std.proofs.lemmas.Bool.{ne_eqb}
 use Rattle.std.proofs.Common.{◌≡◌, ◌≢◌, ℕ, zero, suc, ◌+◌, ◌*◌, ◌%◌, ◌==◌, ◌<◌, ◌≤◌, ◌^◌, true, refl, ap, sym, subst, ◌∙◌, lit<, lit≤, inl, inr, List, [], ◌∷◌, ◌++◌, length, map, arith}
 use Rattle.std.specs.Prelude.{drop, if◌then◌else◌, replicate, take}
 use Rattle.std.specs.List.{AllByRecursion}
@@ -23,7 +24,7 @@ use Rattle.cfi_unit.specs.Patterns.{matches}
 use Rattle.cfi_unit.specs.Shapes.{SHAPES, Shape, all_stores, call, each_guarded, guarded, icall, ijump, is, return, shape, stores}
 use Rattle.cfi_unit.specs.ShapeOf.{shape_of}
 use Rattle.cfi_unit.specs.Opens.{Among, InCode, Made, Opens, Small}
-use Rattle.cfi_unit.proofs.Forms.{IsBranch, address_hole, differ, gate_hole, goto_hole, jump_hole, label_hole, link_hole, member_hole, near_hole, number_hole, plain_hole, skip_hole}
+use Rattle.cfi_unit.proofs.Forms.{IsBranch, address_hole, gate_hole, goto_hole, jump_hole, label_hole, link_hole, member_hole, near_hole, number_hole, plain_hole, skip_hole}
 use Rattle.cfi_unit.proofs.Holes.{Fill, filled, holes_in, opened_length}
 use Rattle.cfi_unit.proofs.LedBack.{near_back}
 use Rattle.cfi_unit.proofs.Listed.{among_either, guarded_of, stores_of}
@@ -294,7 +295,7 @@ stores_by n at some most place (h ∷ hs) s f =
 fewer_by : (k at : ℕ) → suc k ≤ 15 → By (shape E.Stores (stores (suc k))) at
 fewer_by k at few =
     let fewer : suc k ≢ 16 = λ e. omega arith in
-    subst (λ (end : End). By (shape end (stores (suc k))) at) (ap (λ b. if b then E.Other else E.Stores) (differ (suc k) 16 fewer))
+    subst (λ (end : End). By (shape end (stores (suc k))) at) (ap (λ b. if b then E.Other else E.Stores) (ne_eqb (suc k) 16 fewer))
     (stores_by (suc k) at (omega arith) (omega arith))
 
 module _ (s : Shape) (at : ℕ) where

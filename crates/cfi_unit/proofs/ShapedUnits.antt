@@ -2,7 +2,7 @@
 use Rattle.std.proofs.Common.{◌≡◌, ℕ, zero, suc, ◌+◌, ◌*◌, ◌==◌, ◌<◌, ◌≤◌, ◌^◌, true, not, refl, ap, sym, subst, ◌∙◌, lit<, inl, inr, List, [], ◌∷◌, ◌++◌, length, map, arith}
 use Rattle.std.specs.Prelude.{if◌then◌else◌, replicate, take, ◌≢◌}
 use Rattle.std.specs.List.{AllByRecursion}
-use Rattle.std.proofs.lemmas.Bool.{cases_Bool, cases_eq, lt-ltb}
+use Rattle.std.proofs.lemmas.Bool.{cases_Bool, cases_eq, lt-ltb, ne_eqb}
 use Rattle.std.proofs.lemmas.List.{length-replicate}
 use Rattle.std.proofs.lemmas.Nat.{mod_below}
 use Rattle.rv_word.specs.Numbers.{IsNumber}
@@ -25,8 +25,9 @@ use Rattle.cfi_unit.specs.Patterns.{has_form, matches}
 use Rattle.cfi_unit.specs.Shapes.{SHAPES, all_stores, each_guarded, each_stores, guarded, shape, stores}
 use Rattle.cfi_unit.specs.ShapeOf.{shape_of}
 use Rattle.cfi_unit.specs.Opens.{Among, Opens}
-use Rattle.cfi_unit.proofs.Forms.{differ, passes}
+use Rattle.cfi_unit.proofs.Forms.{passes}
 use Rattle.cfi_unit.proofs.Found.{is_jump_instr}
+use Rattle.cfi_unit.proofs.GuardedWords.{is_load}
 use Rattle.cfi_unit.proofs.Holes.{Fill, filled_opens}
 use Rattle.cfi_unit.proofs.Listed.{among_back, among_front, guarded_listed, listed, stores_listed}
 use Rattle.cfi_unit.proofs.UnitHoles.{holes_of, load_word, member_word, unit_filled}
@@ -34,11 +35,10 @@ use Rattle.cfi_unit.proofs.UnitHoles.{holes_of, load_word, member_word, unit_fil
 -- the two families
 guards_fill : (ns : List ℕ) (at k : ℕ) → AllByRecursion IsNumber ns → Fill (guarded (length ns)) at k (map load_word ns)
 guards_fill [] at k all = tt
-guards_fill (n ∷ ns) at k all =
-    let low : n < 2048 = all.0 in (
-      passes (has_form P.Number (at + k)) (Immediate Addi 31 0 n) (lit< tt, lit< tt, omega arith) (lt-ltb n 2048 low),
-      guards_fill ns at (k + 4 + 4) all.1,
-    )
+guards_fill (n ∷ ns) at k all = (
+  passes (has_form P.Number (at + k)) (Immediate Addi 31 0 n) (is_load n all.0) (lt-ltb n 2048 all.0),
+  guards_fill ns at (k + 4 + 4) all.1,
+)
 
 members_fill : (ms : List Member) (at k : ℕ) → AllByRecursion IsMember ms → Fill (replicate (length ms) P.Member) at k (map member_word ms)
 members_fill [] at k all = tt
@@ -55,7 +55,7 @@ labelled : (at label : ℕ) → label < 2 ^ 20 → matches P.Label (code_of (Upp
 labelled at label low = passes (has_form P.Label at) (Upper Lui 4 label) (lit< tt, low) refl
 
 goes : (at target : ℕ) → target ≢ BAD_TARGET → Reaches at target → has_form P.Goto at (jump at target) ≡ true
-goes at target other reach = ap (λ (t : ℕ). not (t == BAD_TARGET)) reach ∙ ap not (differ target BAD_TARGET other)
+goes at target other reach = ap (λ (t : ℕ). not (t == BAD_TARGET)) reach ∙ ap not (ne_eqb target BAD_TARGET other)
 
 unit_fill : (u : U.Unit) (at : ℕ) → Fits u at → Fill ((shape_of u at).words) at 0 (holes_of u at)
 unit_fill (V.Gate label) at f = (passes (has_form P.Gate (at + 0)) (gate label) (lit< tt, f) refl, tt)
@@ -112,7 +112,7 @@ stores_among (suc n) some most =
           subst (λ (m : ℕ). Among (shape (if m == 16 then E.Other else E.Stores) (stores m)) SHAPES) (sym all)
           (listed SHAPES 22 (shape E.Other (stores 16)) refl)
       | inr fewer ↦
-          rw (differ (suc n) 16 fewer)
+          rw (ne_eqb (suc n) 16 fewer)
           (among_back (shape E.Stores (stores (suc n))) (take 23 SHAPES) (each_stores 15) (stores_listed n 15 (omega arith)))
     ]
 

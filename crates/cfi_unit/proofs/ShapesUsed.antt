@@ -1,4 +1,5 @@
 -- Each shape of the table is one of a unit: a unit for each.
+use Rattle.std.proofs.lemmas.Bool.{ne_eqb}
 use Rattle.std.proofs.Common.{◌≡◌, ◌≢◌, ℕ, zero, suc, ◌+◌, ◌*◌, ◌==◌, ◌<◌, ◌≤◌, refl, ap, sym, ◌∙◌, lit<, inl, inr, ◌++◌, length, arith}
 use Rattle.std.specs.Prelude.{drop, if◌then◌else◌, replicate, take}
 use Rattle.std.specs.List.{AllByRecursion}
@@ -18,7 +19,6 @@ use Rattle.cfi_unit.specs.Shapes.{SHAPES, Shape, all_stores, each_guarded, guard
 use Rattle.cfi_unit.specs.ShapeOf.{shape_of}
 use Rattle.cfi_unit.specs.ShapeLaw.{ShapesUsed}
 use Rattle.cfi_unit.specs.Opens.{Among}
-use Rattle.cfi_unit.proofs.Forms.{differ}
 use Rattle.cfi_unit.proofs.Listed.{among_either, guarded_of, stores_of}
 use Rattle.cfi_unit.proofs.Near.{near_reached}
 
@@ -88,7 +88,7 @@ module _ (s : Shape) where
       let (k, (few, e)) = stores_of s 15 a in
       let fewer : suc k ≢ 16 = λ e. omega arith in
       stores_used s (suc k) (omega arith) (omega arith)
-      (e ∙ ap (λ b. shape (if b then E.Other else E.Stores) (stores (suc k))) (sym (differ (suc k) 16 fewer)))
+      (e ∙ ap (λ b. shape (if b then E.Other else E.Stores) (stores (suc k))) (sym (ne_eqb (suc k) 16 fewer)))
 
   each_used : Among s SHAPES → Used s
   each_used a = elim (among_either s (take 14 SHAPES) (each_guarded 8 ++ all_stores) a) [
