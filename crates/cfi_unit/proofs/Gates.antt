@@ -1,24 +1,23 @@
 -- A label's word stands in code only as the gate of that label.
 use Rattle.std.proofs.Common.{◌≡◌, ℕ, zero, suc, ◌+◌, ◌-◌, ◌*◌, ◌/◌, ◌%◌, ◌^◌, ◌<◌, ◌≤◌, true, inl, inr, List, [], ◌∷◌, ◌++◌, length, Some, refl, sym, ap, ◌∙◌, arith}
 use Rattle.std.specs.Prelude.{slice_get}
-use Rattle.std.proofs.lemmas.List.{length-append, length-map}
+use Rattle.std.proofs.lemmas.List.{length-map}
 use Rattle.std.proofs.lemmas.Option.{slice_get_cases}
 use Rattle.rv_word.specs.MemoryMap.{Profile}
 use Rattle.rv_word.specs.Memory.{Memory, read}
 use Rattle.rv_instr.specs.declared.instr.Instr.{Instr}
-use Rattle.rv_instr.specs.declared.instr.Instr.TheVariants.{Ecall}
 use Rattle.rv_code.specs.Decode.{decoded}
+use Rattle.rv_code.specs.Encode.{code_of}
 use Rattle.rv_code.specs.Fields.{fields_of, imm_u}
 use Rattle.cfi_unit.specs.declared.unit.Unit as U
 use Rattle.cfi_unit.specs.declared.unit.Unit.TheVariants as V
 use Rattle.cfi_unit.specs.declared.unit.SystemOp.TheVariants as S
-use Rattle.cfi_unit.specs.Members.{member_instr}
 use Rattle.cfi_unit.specs.Guarded.{guards}
-use Rattle.cfi_unit.specs.UnitWords.{BAD_TARGET, Fits, gate, instrs_of, jump, word_count}
+use Rattle.cfi_unit.specs.UnitWords.{Fits, gate, instrs_of, word_count, words_of}
 use Rattle.cfi_unit.specs.Place.{Place, handler, opening, closing, body, place_instrs, place_size}
 use Rattle.cfi_unit.specs.Stand.{Stand}
 use Rattle.cfi_unit.specs.UnitLaw.{MayStand}
-use Rattle.cfi_unit.proofs.GuardedWords.{guards_counted}
+use Rattle.cfi_unit.proofs.Found.{words_counted}
 use Rattle.cfi_unit.proofs.Parts.{opening_length}
 use Rattle.cfi_unit.proofs.Sought.{lacks, members_lack, nowhere, opening_lacks, plain_lacks}
 
@@ -67,24 +66,8 @@ gate_place p pending (body unit) at k label may is =
 
 -- the words of a place are its bytes
 unit_size : (unit : U.Unit) (at : ℕ) → 4 * length (instrs_of unit at) ≡ 4 * word_count unit
-unit_size (V.Gate label) at = refl
-unit_size (V.Plain instr) at = refl
-unit_size (V.Branch op rs1 rs2 target) at = refl
-unit_size (V.Near op rs1 rs2 target) at = refl
-unit_size (V.Jump target) at = refl
-unit_size V.Stop at = refl
-unit_size (V.System S.Ecall) at = refl
-unit_size (V.System S.Ebreak) at = refl
-unit_size (V.Guarded numbers) at =
-    let last : List Instr = jump (at + 8 * length numbers) BAD_TARGET ∷ Ecall ∷ [] in
-    let tests = guards_counted numbers in
-    let whole = length-append (guards numbers) last in
-    omega arith
-unit_size (V.Stores rs1 imm members) at = let counted = length-map members member_instr in omega arith
-unit_size (V.Call target) at = refl
-unit_size (V.Ijump which rs1 imm label) at = refl
-unit_size (V.Icall rs1 imm label) at = refl
-unit_size V.Return at = refl
+unfolding words_of
+unit_size unit at = let words = length-map (instrs_of unit at) code_of in let counted = words_counted unit at in omega arith
 
 pub place_length : (p : Profile) (pending : List ℕ) (place : Place) (at : ℕ) → MayStand p place at pending →
     4 * length (place_instrs p place at) ≡ place_size p place

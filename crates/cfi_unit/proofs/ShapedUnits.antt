@@ -1,9 +1,8 @@
 -- The words of a unit that fits are as its shape says, and its shape is one of the table.
-use Rattle.std.proofs.Common.{◌≡◌, ℕ, zero, suc, ◌+◌, ◌*◌, ◌==◌, ◌<◌, ◌≤◌, ◌^◌, true, not, refl, ap, sym, subst, ◌∙◌, lit<, inl, inr, List, [], ◌∷◌, ◌++◌, length, map, arith}
+use Rattle.std.proofs.Common.{◌≡◌, ℕ, zero, suc, ◌+◌, ◌==◌, ◌<◌, ◌≤◌, ◌^◌, true, not, refl, ap, sym, subst, ◌∙◌, lit<, inl, inr, List, [], ◌∷◌, ◌++◌, length, map, arith}
 use Rattle.std.specs.Prelude.{if◌then◌else◌, replicate, take, ◌≢◌}
 use Rattle.std.specs.List.{AllByRecursion}
 use Rattle.std.proofs.lemmas.Bool.{cases_Bool, cases_eq, lt-ltb, ne_eqb}
-use Rattle.std.proofs.lemmas.List.{length-replicate}
 use Rattle.std.proofs.lemmas.Nat.{mod_below}
 use Rattle.rv_word.specs.Numbers.{IsNumber}
 use Rattle.rv_instr.specs.InRange.{IsInstr}
@@ -26,9 +25,9 @@ use Rattle.cfi_unit.specs.Shapes.{SHAPES, all_stores, each_guarded, each_stores,
 use Rattle.cfi_unit.specs.ShapeOf.{shape_of}
 use Rattle.cfi_unit.specs.Opens.{Among, Opens}
 use Rattle.cfi_unit.proofs.Forms.{passes}
-use Rattle.cfi_unit.proofs.Found.{is_jump_instr}
+use Rattle.cfi_unit.proofs.Found.{is_jump_instr, words_counted}
 use Rattle.cfi_unit.proofs.GuardedWords.{is_load}
-use Rattle.cfi_unit.proofs.Holes.{Fill, filled_opens}
+use Rattle.cfi_unit.proofs.Holes.{Fill, filled_opens, opened_length}
 use Rattle.cfi_unit.proofs.Listed.{among_back, among_front, guarded_listed, listed, stores_listed}
 use Rattle.cfi_unit.proofs.UnitHoles.{holes_of, load_word, member_word, unit_filled}
 
@@ -137,24 +136,6 @@ shape_among (V.Ijump Second rs1 imm label) at f = listed SHAPES 11 _ refl
 shape_among (V.Icall rs1 imm label) at f = listed SHAPES 12 _ refl
 shape_among V.Return at f = listed SHAPES 13 _ refl
 
--- how many words
-pub tests_length : (n : ℕ) → length (guarded n) ≡ 2 + 2 * n
-tests_length zero = refl
-tests_length (suc n) = let more = tests_length n in omega arith
-
+-- and it has as many patterns as the unit has words
 pub counted : (u : U.Unit) (at : ℕ) → Fits u at → word_count u ≡ length ((shape_of u at).words)
-counted (V.Gate label) at f = refl
-counted (V.Plain instr) at f = refl
-counted (V.Branch op rs1 rs2 target) at f = refl
-counted (V.Near op rs1 rs2 target) at f =
-    elim (cases_Bool (near_offset at target == skip_offset)) [ inl over ↦ rw over refl | inr other ↦ rw other refl ]
-counted (V.Jump target) at f = refl
-counted V.Stop at f = refl
-counted (V.System S.Ecall) at f = refl
-counted (V.System S.Ebreak) at f = refl
-counted (V.Guarded numbers) at f = sym (tests_length (length numbers))
-counted (V.Stores rs1 imm members) at f = let many = length-replicate (length members) P.Member in omega arith
-counted (V.Call target) at f = refl
-counted (V.Ijump which rs1 imm label) at f = refl
-counted (V.Icall rs1 imm label) at f = refl
-counted V.Return at f = refl
+counted u at f = sym (words_counted u at) ∙ opened_length ((shape_of u at).words) (words_of u at) at (unit_opens u at f)
