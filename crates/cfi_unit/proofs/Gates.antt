@@ -43,18 +43,11 @@ pub gate_unit : (unit : U.Unit) (at k label : ℕ) → Fits unit at → slice_ge
 gate_unit (V.Gate other) at zero label fits is = let same : other ≡ label = cc in (ap V.Gate same, refl)
 gate_unit (V.Gate other) at (suc k) label fits is = absurd (cc)
 gate_unit (V.Plain instr) at k label fits is = other_unit (V.Plain instr) at k label (plain_lacks true instr fits.1) is
-gate_unit (V.Branch op rs1 rs2 target) at k label fits is = other_unit (V.Branch op rs1 rs2 target) at k label refl is
-gate_unit (V.Near op rs1 rs2 target) at k label fits is = other_unit (V.Near op rs1 rs2 target) at k label refl is
-gate_unit (V.Jump target) at k label fits is = other_unit (V.Jump target) at k label refl is
-gate_unit V.Stop at k label fits is = other_unit V.Stop at k label refl is
 gate_unit (V.System S.Ecall) at k label fits is = other_unit (V.System S.Ecall) at k label refl is
 gate_unit (V.System S.Ebreak) at k label fits is = other_unit (V.System S.Ebreak) at k label refl is
 gate_unit (V.Guarded numbers) at k label fits is = other_unit (V.Guarded numbers) at k label (guards_gate numbers _ refl) is
 gate_unit (V.Stores rs1 imm members) at k label fits is = other_unit (V.Stores rs1 imm members) at k label (members_lack true members) is
-gate_unit (V.Call target) at k label fits is = other_unit (V.Call target) at k label refl is
-gate_unit (V.Ijump which rs1 imm other) at k label fits is = other_unit (V.Ijump which rs1 imm other) at k label refl is
-gate_unit (V.Icall rs1 imm other) at k label fits is = other_unit (V.Icall rs1 imm other) at k label refl is
-gate_unit V.Return at k label fits is = other_unit V.Return at k label refl is
+gate_unit other at k label fits is = other_unit other at k label refl is
 
 gate_place : (p : Profile) (pending : List ℕ) (place : Place) (at k label : ℕ) → MayStand p place at pending →
     slice_get (place_instrs p place at) k ≡ Some (gate label) → (place ≡ body (V.Gate label)) × (k ≡ 0)
