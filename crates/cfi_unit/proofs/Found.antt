@@ -1,8 +1,8 @@
 -- The words of a unit that fits are recognised as that unit, whatever follows them.
-use Rattle.std.proofs.Common.{◌≡◌, ℕ, ◌+◌, ◌*◌, ◌<◌, ◌^◌, ◌==◌, ◌≤◌, ◌||◌, ◌⊎◌, arith, refl, ap, sym, subst, ◌∙◌, lit<, Bool, true, false, not, List, [], ◌∷◌, ◌++◌, length, drop, inl, inr, zero, suc, ◌≢◌}
+use Rattle.std.proofs.Common.{◌≡◌, ℕ, ◌+◌, ◌*◌, ◌<◌, ◌^◌, ◌==◌, ◌≤◌, ◌||◌, ◌⊎◌, arith, refl, ap, sym, subst, ◌∙◌, lit<, true, false, not, List, [], ◌∷◌, ◌++◌, length, drop, inl, inr, zero, suc, ◌≢◌}
 use Rattle.std.specs.Prelude.{Option, Some, None, is_none, nat_eq, nat_le, take}
 use Rattle.std.specs.List.{starts_with}
-use Rattle.std.proofs.lemmas.Bool.{eqb-true, cases_Bool, leb-true, or_cases}
+use Rattle.std.proofs.lemmas.Bool.{cases_Bool, eqb-true, leb-true, ne_eqb, not-true, or_cases}
 use Rattle.std.proofs.lemmas.Bool.Decides.{Decides-eqb}
 use Rattle.std.proofs.lemmas.Nat.{mod_below}
 use Rattle.std.proofs.lemmas.Slice.Eq.{starts_is}
@@ -44,19 +44,9 @@ starts_prefix p rest =
 
 pub words_counted : (u : U.Unit) (at : ℕ) → length (words_of u at) ≡ word_count u
 unfolding words_of
-words_counted (V.Gate label) at = refl
-words_counted (V.Plain i) at = refl
-words_counted (V.Branch op rs1 rs2 target) at = refl
-words_counted (V.Near op rs1 rs2 target) at = refl
-words_counted (V.Jump target) at = refl
-words_counted V.Stop at = refl
-words_counted (V.System op) at = refl
 words_counted (V.Guarded ns) at = guarded_counted ns at
 words_counted (V.Stores rs1 imm members) at = let counted = members_counted members in omega arith
-words_counted (V.Call target) at = refl
-words_counted (V.Ijump which rs1 imm label) at = refl
-words_counted (V.Icall rs1 imm label) at = refl
-words_counted V.Return at = refl
+words_counted other at = refl
 
 -- what follows a unit's words
 after_words : (u : U.Unit) (at : ℕ) (rest : List ℕ) → drop (word_count u) (words_of u at ++ rest) ≡ rest
@@ -119,19 +109,11 @@ near_from : (ws : List ℕ) (at : ℕ) (op : BranchOp) (rs1 rs2 target : ℕ) �
     IsNear at target → unit_from ws at (Branch op rs1 rs2 (near_offset at target)) ≡ Some (V.Near op rs1 rs2 target)
 near_from ws at op rs1 rs2 target a r = rw a (ap (λ t. Some (V.Near op rs1 rs2 t)) r)
 
-not_kept : (b : Bool) → not b ≡ true → b ≡ false
-not_kept true e = absurd (cc)
-not_kept false e = refl
-
-differ : (a b : ℕ) → a ≢ b → (a == b) ≡ false
-differ a b other =
-    elim (cases_Bool (a == b)) [ inl same ↦ absurd (other (eqb-true a b same)) | inr differs ↦ differs ]
-
 jump_from : (ws : List ℕ) (at target : ℕ) → target ≢ BAD_TARGET → Reaches at target →
     unit_from ws at (jump at target) ≡ Some (V.Jump target)
 jump_from ws at target other r =
     let same : jump_or_stop (led_to at (jump_offset at target)) ≡ jump_or_stop target = ap jump_or_stop r in
-    let jumps : jump_or_stop target ≡ V.Jump target = rw (differ target BAD_TARGET other) refl in
+    let jumps : jump_or_stop target ≡ V.Jump target = rw (ne_eqb target BAD_TARGET other) refl in
     ap (λ u. Some u) (same ∙ jumps)
 
 call_from : (ws : List ℕ) (at target : ℕ) → instr_at ws 7 ≡ Some (Jal 1 (jump_offset (at + 28) target)) →
@@ -200,7 +182,7 @@ found (V.Near op rs1 rs2 target) at rest f ahead =
     let ws : List ℕ = words_of u at ++ rest in
     let i : Instr = Branch op rs1 rs2 (near_offset at target) in
     recognised_by ws at i u (decoded-code_of i (f.0, f.1, mod_below _ (2 ^ 12) (lit< tt)))
-    (near_from ws at op rs1 rs2 target (not_kept _ ahead) f.2) (stands_there u at rest f ahead)
+    (near_from ws at op rs1 rs2 target (not-true _ ahead) f.2) (stands_there u at rest f ahead)
 found (V.Jump target) at rest f ahead =
     let ws : List ℕ = words_of (V.Jump target) at ++ rest in
     recognised_by ws at (jump at target) (V.Jump target) (decoded-code_of (jump at target) (is_jump_instr 0 at target (lit< tt)))

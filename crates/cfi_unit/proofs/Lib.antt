@@ -39,3 +39,13 @@ pub mod EffectRows
 pub mod PrologueEffect
 pub mod EffectWorked
 pub mod RegisterLaw
+pub mod Holes
+pub mod Listed
+pub mod Forms
+pub mod UnitHoles
+pub mod ShapedUnits
+pub mod MadeUnits
+mod ShapesApart
+mod ShapesUsed
+mod ShapesWorked
+pub mod FoundShapes

@@ -1,7 +1,7 @@
 -- `can_stand` decides `Fits` where a unit's fields are in range.
 use Rattle.std.proofs.Common.{◌≡◌, ℕ, ◌+◌, ◌==◌, refl, Bool, true, false, not, ◌&&◌, ◌≢◌, inl, inr, length, ◌*◌}
 use Rattle.std.specs.Prelude.{nat_lt}
-use Rattle.std.proofs.lemmas.Bool.{eqb-true, eq-eqb, cases_Bool, lt-ltb, ltb-true}
+use Rattle.std.proofs.lemmas.Bool.{cases_Bool, eq-eqb, eqb-true, lt-ltb, ltb-true, not-true}
 use Rattle.cfi_unit.specs.declared.unit.Unit as U
 use Rattle.cfi_unit.specs.declared.unit.Unit.TheVariants as V
 use Rattle.cfi_unit.specs.UnitWords.{BAD_TARGET, BAD_RETURN, DEEP, Fits, IsNear, Reaches, jump_offset, near_offset}
@@ -16,10 +16,6 @@ pub and_both : (a b : Bool) → a ≡ true → b ≡ true → (a && b) ≡ true
 and_both true b e f = f
 and_both false b e f = cc
 
-not_told : (b : Bool) → not b ≡ true → b ≡ false
-not_told true e = cc
-not_told false e = refl
-
 pub told : (from to : ℕ) → reaches from to ≡ true → Reaches from to
 told from to e = eqb-true (led_to from (jump_offset from to)) to e
 
@@ -32,10 +28,10 @@ near_told from to e = eqb-true (near_to from (near_offset from to)) to e
 near_tested : (from to : ℕ) → IsNear from to → is_near from to ≡ true
 near_tested from to e = eq-eqb (near_to from (near_offset from to)) to e
 
-other_told : (a b : ℕ) → not (a == b) ≡ true → a ≢ b
+pub other_told : (a b : ℕ) → not (a == b) ≡ true → a ≢ b
 other_told a b e same =
     let yes : (a == b) ≡ true = eq-eqb a b same in
-    let no : (a == b) ≡ false = not_told (a == b) e in
+    let no : (a == b) ≡ false = not-true (a == b) e in
     cc
 
 other_tested : (a b : ℕ) → a ≢ b → not (a == b) ≡ true

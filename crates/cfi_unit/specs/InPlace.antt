@@ -73,7 +73,7 @@ pub data InCall (part at v n : ℕ) (h : Hart) (m : Memory) : Type 0 where
   call_jump : h.pc ≡ at + 28 → Pushed part (at + 32) v n h m → InCall part at v n h m
 
 -- an address in the region of code
-pub record InCode (v : ℕ) : Type 0 where
+pub record IsCodeAddress (v : ℕ) : Type 0 where
   pub low : CODE_START ≤ v
   pub high : v < CODE_START + CODE_SIZE
 
@@ -92,16 +92,16 @@ pub data InCheck (part : ℕ) (image : Memory) (which : TargetWord) (at rs1 imm 
       InCheck part image which at rs1 imm label sum v n h
   check_region : h.pc ≡ at + 20 → h.regs 3 ≡ slot part n → h.regs 31 ≡ v → h.regs 30 ≡ difference v CODE_START / 2 ^ 20 →
       InCheck part image which at rs1 imm label sum v n h
-  check_outside : h.pc ≡ at + 24 → h.regs 3 ≡ slot part n → (InCode v → ⊥) →
+  check_outside : h.pc ≡ at + 24 → h.regs 3 ≡ slot part n → (IsCodeAddress v → ⊥) →
       InCheck part image which at rs1 imm label sum v n h
-  check_lw : h.pc ≡ at + 28 → h.regs 3 ≡ slot part n → h.regs 31 ≡ v → InCode v →
+  check_lw : h.pc ≡ at + 28 → h.regs 3 ≡ slot part n → h.regs 31 ≡ v → IsCodeAddress v →
       InCheck part image which at rs1 imm label sum v n h
-  check_label : h.pc ≡ at + 32 → h.regs 3 ≡ slot part n → h.regs 31 ≡ v → InCode v →
+  check_label : h.pc ≡ at + 32 → h.regs 3 ≡ slot part n → h.regs 31 ≡ v → IsCodeAddress v →
       h.regs 30 ≡ offset 32 (read 4 image (v + past which)) → InCheck part image which at rs1 imm label sum v n h
-  check_opcode : h.pc ≡ at + 36 → h.regs 3 ≡ slot part n → h.regs 31 ≡ v → InCode v →
+  check_opcode : h.pc ≡ at + 36 → h.regs 3 ≡ slot part n → h.regs 31 ≡ v → IsCodeAddress v →
       h.regs 30 ≡ offset 32 (read 4 image (v + past which)) → h.regs 4 ≡ offset 32 (label * 2 ^ 12) →
       InCheck part image which at rs1 imm label sum v n h
-  check_word : h.pc ≡ at + 40 → h.regs 3 ≡ slot part n → h.regs 31 ≡ v → InCode v →
+  check_word : h.pc ≡ at + 40 → h.regs 3 ≡ slot part n → h.regs 31 ≡ v → IsCodeAddress v →
       h.regs 30 ≡ offset 32 (read 4 image (v + past which)) → h.regs 4 ≡ wrap (offset 32 (label * 2 ^ 12) + 55) →
       InCheck part image which at rs1 imm label sum v n h
   check_other : h.pc ≡ at + 44 → h.regs 3 ≡ slot part n → (HasLabel image which label v → ⊥) →
@@ -160,14 +160,9 @@ pub data InClosing (at : ℕ) (h : Hart) : Type 0 where
   closing_number : h.pc ≡ at → InClosing at h
   closing_ecall : h.pc ≡ at + 4 → h.regs 17 ≡ 93 → InClosing at h
 
+-- any other unit is one word
 abbrev pub InUnit : ℕ → Memory → U.Unit → ℕ → List ℕ → Registers → Hart → Memory → Type 0
-InUnit part image (V.Gate label) at pending r h m = InWord part at (length pending) h
-InUnit part image (V.Plain instr) at pending r h m = InWord part at (length pending) h
 InUnit part image (V.Branch op rs1 rs2 target) at pending r h m = InBranch part at (length pending) h
-InUnit part image (V.Near op rs1 rs2 target) at pending r h m = InWord part at (length pending) h
-InUnit part image (V.Jump target) at pending r h m = InWord part at (length pending) h
-InUnit part image V.Stop at pending r h m = InWord part at (length pending) h
-InUnit part image (V.System op) at pending r h m = InWord part at (length pending) h
 InUnit part image (V.Guarded numbers) at pending r h m = InGuarded part at numbers (r 17) (length pending) h
 InUnit part image (V.Stores rs1 imm members) at pending r h m = InStores part at (length members) (length pending) h
 InUnit part image (V.Call target) at pending r h m = InCall part at (r 31) (length pending) h m
@@ -177,6 +172,7 @@ InUnit part image (V.Icall rs1 imm label) at pending r h m =
     InIcall part image at rs1 imm label (sum_of r rs1 imm) (destination r rs1 imm) (length pending) h m
 InUnit part image V.Return at [] r h m = ⊥
 InUnit part image V.Return at (site ∷ pending) r h m = InReturn part at (r 1) site (length pending) h
+InUnit part image other at pending r h m = InWord part at (length pending) h
 
 abbrev pub InPlace : Profile → ℕ → Memory → Place → ℕ → List ℕ → Registers → Hart → Memory → Type 0
 InPlace p part image handler at pending r h m = h.pc ≡ at

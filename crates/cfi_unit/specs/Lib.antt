@@ -3,6 +3,12 @@ pub mod Guarded
 pub mod UnitWords
 pub mod InRange
 pub mod Recognise
+pub mod Patterns
+pub mod Shapes
+pub mod ShapeOf
+pub mod Opens
+pub mod FoundShape
+pub mod ShapeLaw
 pub mod Split
 pub mod Laws
 pub mod Prologue
