@@ -1,6 +1,6 @@
 -- The flows that units have: which of the parts go together, and what the fields of a unit that fits tell of
 -- them. What holds of each of these flows holds of each unit.
-use Rattle.std.proofs.Common.{◌≡◌, ℕ, ◌==◌, ◌^◌, ◌<◌, Bool, true, false, List, refl}
+use Rattle.std.proofs.Common.{◌≡◌, ℕ, ◌==◌, ◌^◌, ◌<◌, Bool, true, false, List, refl, arith}
 use Rattle.std.specs.Prelude.{IsTrue}
 use Rattle.cfi_unit.specs.declared.target_word.TargetWord.{TargetWord}
 use Rattle.cfi_unit.specs.declared.target_word.TargetWord.TheVariants.{First}
@@ -50,6 +50,12 @@ pub single_word : (unit : U.Unit) → is_single (flow_of unit).act ≡ true → 
 single_word (V.Plain instr) single = refl
 single_word (V.System op) single = refl
 single_word other single = absurd (cc)
+
+-- what puts a site on top has more words than there are handlers
+pub pushing_words : (unit : U.Unit) → (flow_of unit).sites ≡ F.pushes → 3 < word_count unit
+pushing_words (V.Call target) pushes = omega arith
+pushing_words (V.Icall rs1 imm label) pushes = omega arith
+pushing_words other pushes = absurd (cc)
 
 -- a label that is tested has twenty bits, and an instruction of a unit's own is plain
 abbrev pub TestFits : Test → Type 0

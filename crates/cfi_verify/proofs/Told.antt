@@ -72,8 +72,6 @@ bars version None (V.System S.Ecall) a = refl
 bars version (Some calls) (V.System S.Ecall) a = refl
 bars version None (V.System S.Ebreak) a = refl
 bars version (Some calls) (V.System S.Ebreak) a = refl
-bars version None (V.Guarded numbers) a = refl
-bars version (Some calls) (V.Guarded numbers) a = refl
 bars version None _ a = refl
 bars version (Some calls) _ a = refl
 
@@ -90,20 +88,9 @@ astray_is lines calls (V.System S.Ebreak) a = refl
 astray_is lines calls _ a = refl
 
 unit_is : (calls : List ℕ) (u : U.Unit) (a : ℕ) → is_unit (entry_of_unit calls u a) ≡ true
-unit_is calls (V.Gate label) at = refl
-unit_is calls (V.Plain i) at = refl
-unit_is calls (V.Branch op rs1 rs2 target) at = refl
-unit_is calls (V.Near op rs1 rs2 target) at = refl
-unit_is calls (V.Jump target) at = refl
-unit_is calls V.Stop at = refl
-unit_is calls (V.System S.Ecall) at = refl
-unit_is calls (V.System S.Ebreak) at = refl
-unit_is calls (V.Guarded numbers) at = refl
-unit_is calls (V.Stores rs1 imm members) at = refl
-unit_is calls (V.Call target) at = refl
-unit_is calls (V.Ijump which rs1 imm label) at = refl
-unit_is calls (V.Icall rs1 imm label) at = refl
-unit_is calls V.Return at = refl
+unit_is calls (V.System S.Ecall) a = refl
+unit_is calls (V.System S.Ebreak) a = refl
+unit_is calls _ a = refl
 
 stop_is : (calls : List ℕ) (u : U.Unit) (a : ℕ) → is_stop u ≡ is_stop_entry (entry_of_unit calls u a)
 stop_is calls V.Stop a = refl
