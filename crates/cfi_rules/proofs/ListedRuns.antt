@@ -10,21 +10,21 @@ use Rattle.rv_word.specs.Numbers.{is_listed}
 use Rattle.rv_word.proofs.SameNumbers.{same_list}
 use Rattle.rv_code.specs.Run.{HartStep, disturbed_step}
 use Rattle.rv_code.specs.State.{Hart, Harts, Shared, with_hart}
-use Rattle.rv_code.specs.Step.{step}
 use Rattle.rv_code.specs.declared.event.Event.{Event}
 use Rattle.cfi_graph.specs.Graph.{GraphParts, calls_in}
 use Rattle.cfi_unit.specs.declared.unit.Unit as U
-use Rattle.cfi_unit.specs.declared.unit.Unit.TheVariants as V
 use Rattle.cfi_unit.specs.declared.unit.SystemOp.TheVariants as S
+use Rattle.cfi_unit.specs.Flow as F
+use Rattle.cfi_unit.specs.Flow.{Act, Test, flow_of}
 use Rattle.cfi_unit.specs.Context.{IsCodeOf}
-use Rattle.cfi_unit.specs.EventLaw.{Adds, MayCall, UnitMayCall, adds_none, adds_one}
+use Rattle.cfi_unit.specs.EventLaw.{ActMayCall, Adds, MayCall, adds_none, adds_one}
 use Rattle.cfi_unit.specs.declared.place.Place.{Place}
 use Rattle.cfi_unit.specs.declared.place.Place.TheVariants.{Handler as handler, Opening as opening, Closing as closing, Body as body}
 use Rattle.cfi_rules.specs.Along.{RunsAlong, Walks, with_walk}
 use Rattle.cfi_rules.specs.Laws.{AreBytes}
 use Rattle.cfi_rules.specs.Lines.{holds_of}
 use Rattle.cfi_rules.specs.Listed.{AddsListed, IsListedCall, ListedAlong, WellFormedIsListed}
-use Rattle.cfi_rules.specs.Rules.{IsWellFormed, admitted_in, is_of_version, may_call}
+use Rattle.cfi_rules.specs.Rules.{IsWellFormed, act_may_call, admitted_in, is_of_version, may_call}
 use Rattle.cfi_rules.specs.Split.{code_words, unit_at}
 use Rattle.cfi_rules.specs.declared.reject.Rule.TheVariants as R
 use Rattle.cfi_rules.proofs.Places.{PlaceFacts, place_facts}
@@ -33,21 +33,12 @@ use Rattle.cfi_rules.proofs.OnRan.{on_ran}
 use Rattle.cfi_rules.proofs.Safety.{well_formed_safe}
 
 -- a unit that is admitted with a list calls with its numbers alone
-unit_listed : (calls : List ℕ) (unit : U.Unit) (h : Hart) → may_call (Some calls) unit ≡ true → UnitMayCall unit h → is_listed (h.regs 17) calls ≡ true
-unit_listed calls (V.Gate label) h admitted may = absurd may
-unit_listed calls (V.Plain instr) h admitted may = absurd may
-unit_listed calls (V.Branch op rs1 rs2 target) h admitted may = absurd may
-unit_listed calls (V.Near op rs1 rs2 target) h admitted may = absurd may
-unit_listed calls (V.Jump target) h admitted may = absurd may
-unit_listed calls V.Stop h admitted may = absurd may
-unit_listed calls (V.System S.Ecall) h admitted may = absurd (cc)
-unit_listed calls (V.System S.Ebreak) h admitted may = absurd may
-unit_listed calls (V.Guarded ns) h admitted may = subst (λ (ms : List ℕ). is_listed (h.regs 17) ms ≡ true) (same_list ns calls admitted) may
-unit_listed calls (V.Stores rs1 imm members) h admitted may = absurd may
-unit_listed calls (V.Call target) h admitted may = absurd may
-unit_listed calls (V.Ijump which rs1 imm label) h admitted may = absurd may
-unit_listed calls (V.Icall rs1 imm label) h admitted may = absurd may
-unit_listed calls V.Return h admitted may = absurd may
+act_listed : (calls : List ℕ) (test : Test) (act : Act) (h : Hart) → act_may_call (Some calls) test act ≡ true → ActMayCall act test h → is_listed (h.regs 17) calls ≡ true
+act_listed calls (F.listed numbers) F.calls h admitted may = subst (λ (ns : List ℕ). is_listed (h.regs 17) ns ≡ true) (same_list numbers calls admitted) may
+act_listed calls test F.calls h admitted may = absurd may
+act_listed calls test (F.system S.Ecall) h admitted may = absurd (cc)
+act_listed calls test (F.system S.Ebreak) h admitted may = absurd may
+act_listed calls test other h admitted may = absurd may
 
 module _ (p : Profile) (profile : IsProfile p) (image : Contents) (graph : GraphParts) (bytes : AreBytes image) (formed : IsWellFormed p image graph)
     (calls : List ℕ) (list_is : calls_in graph.lines ≡ Some calls) where
@@ -65,7 +56,7 @@ module _ (p : Profile) (profile : IsProfile p) (image : Contents) (graph : Graph
   listed_call (opening entry) at h e facts number may = absurd may
   listed_call closing at h e facts number may = inr (may.0 ∙ ap (λ a. a + 4) facts, number ∙ may.1)
   listed_call (body unit) at h e facts number may =
-      inl (ap (λ n. is_listed n calls) number ∙ unit_listed calls unit h (admitted at unit facts.is) may)
+      inl (ap (λ n. is_listed n calls) number ∙ act_listed calls (flow_of unit).test (flow_of unit).act h (admitted at unit facts.is) may)
 
   adds_listed : (place : Place) (at : ℕ) (h : Hart) (events after : List Event) → PlaceFacts p profile image graph bytes formed place at → Adds place at h events after →
       AddsListed p calls h.pc events after

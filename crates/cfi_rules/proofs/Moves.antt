@@ -2,7 +2,7 @@
 -- registers choose, with the pending sites that such a place asks for.
 use Rattle.std.proofs.Common.{◌≡◌, ℕ, ◌+◌, ◌*◌, ◌^◌, ◌≤◌, ◌<◌, inl, inr, true, false, List, [], ◌∷◌, length, refl, sym, ap, subst, ◌∙◌, Some, arith, lit≤}
 use Rattle.std.specs.Prelude.{option_map}
-use Rattle.std.proofs.lemmas.Bool.{false≢true}
+use Rattle.std.proofs.lemmas.Bool.{eqb-true, false≢true}
 use Rattle.rv_word.specs.Image.{Contents}
 use Rattle.rv_word.specs.MemoryMap.{IsProfile, Profile}
 use Rattle.rv_word.proofs.Versions.{laid_out}
@@ -17,21 +17,25 @@ use Rattle.cfi_graph.specs.declared.line.SiteKind.TheVariants as K
 use Rattle.cfi_unit.specs.declared.unit.Unit as U
 use Rattle.cfi_unit.specs.declared.unit.Unit.TheVariants as V
 use Rattle.cfi_unit.specs.declared.unit.SystemOp.TheVariants as S
-use Rattle.cfi_unit.specs.Leads.{HasLabel, Leads, Returns, destination}
+use Rattle.cfi_unit.specs.Flow as F
+use Rattle.cfi_unit.specs.Flow.{Exit, Flow, flow_of}
+use Rattle.cfi_unit.specs.Leads.{ExitLeads, FlowLeads, HasLabel, Leads, Returns, destination}
 use Rattle.cfi_unit.specs.declared.place.Place.{Place}
 use Rattle.cfi_unit.specs.declared.place.Place.TheVariants.{Handler as handler, Opening as opening, Closing as closing, Body as body}
 use Rattle.cfi_unit.specs.declared.target_word.TargetWord.{TargetWord}
 use Rattle.cfi_unit.specs.declared.target_word.TargetWord.TheVariants.{First}
 use Rattle.cfi_unit.specs.Prologue.{OPENING}
 use Rattle.cfi_unit.specs.Shadow.{MOST_PENDING}
-use Rattle.cfi_unit.specs.UnitWords.{BAD_TARGET, BAD_RETURN, DEEP, after_unit, word_count, gate, past}
+use Rattle.cfi_unit.specs.UnitWords.{BAD_TARGET, BAD_RETURN, DEEP, after_unit, gate, past}
+use Rattle.cfi_unit.proofs.Flows.{Suits, TestFits, is_untested, suits, test_fits, untested, direct_call, guarded_call, computed_jump, computed_call, turned_back}
 use Rattle.cfi_unit.proofs.Labels.{word_small}
-use Rattle.cfi_rules.specs.Along.{Walk, ReturnChooses, Chooses}
+use Rattle.cfi_rules.specs.Along.{Walk, Chooses, ReturnChooses, TestChooses}
 use Rattle.cfi_rules.specs.Lines.{holds_of, is_among, targets_for}
-use Rattle.cfi_rules.specs.Rules.{IsWellFormed, asks, site_of, is_stop}
+use Rattle.cfi_rules.specs.Rules.{IsWellFormed, asked_by, asks, call_by, edge_by, halts_by, site_of, target_by}
 use Rattle.cfi_rules.specs.Split.{code_words, is_start, place_at}
-use Rattle.cfi_rules.specs.Walk.{InClass, HasTarget, is_some_target, ReturnGoes, Goes}
+use Rattle.cfi_rules.specs.Walk.{InClass, HasTarget, is_some_target, ExitGoes, FlowGoes, Goes, ReturnGoes, To}
 use Rattle.cfi_rules.specs.Laws.{AreBytes}
+use Rattle.cfi_rules.specs.declared.asks.Asks.{Asks}
 use Rattle.cfi_rules.proofs.Bytes.{loaded_small}
 use Rattle.cfi_rules.proofs.Find.{UnitHere, unit_here}
 use Rattle.cfi_rules.proofs.Labels.{label_in_class}
@@ -89,10 +93,6 @@ module _ (p : Profile) (profile : IsProfile p) (image : Contents) (graph : Graph
 
   same_body : (pending newer : List ℕ) → newer ≡ pending → InBody pending → InBody newer
   same_body pending newer e inside = subst (λ (l : List ℕ). InBody l) (sym e) inside
-
-  to_next : (u : U.Unit) (a v : ℕ) (pending newer : List ℕ) → UnitHere p W a u → is_stop u ≡ false → InBody pending → newer ≡ pending → v ≡ a + 4 * word_count u → Settled v newer
-  to_next u a v pending newer here going inside same e =
-      settled_start v newer (subst (λ (x : ℕ). is_start p W x ≡ true) (sym e) (next_starts p image graph formed a u here going)) (same_body pending newer same inside)
 
   to_start : (t v : ℕ) (newer : List ℕ) → is_start p W t ≡ true → v ≡ t → InBody newer → Settled v newer
   to_start t v newer start e inside = settled_start v newer (subst (λ (x : ℕ). is_start p W x ≡ true) (sym e) start) inside
@@ -182,17 +182,84 @@ module _ (p : Profile) (profile : IsProfile p) (image : Contents) (graph : Graph
       let c = site_class p image graph formed a place (asks kind which label) here site in
       label_in_class p profile image graph bytes formed kind which label v c.0 low c.1 has
 
-  record Returned (regs : Registers) (pending : List ℕ) (v : ℕ) (newer : List ℕ) : Type 0 where
-    goes : ReturnGoes pending v newer
-    chooses : ReturnChooses pending (regs 1) v
-    settled : Settled v newer
+  return_arrives : (r : Registers) (pending : List ℕ) (v : ℕ) (newer : List ℕ) → InBody pending → Returns r pending newer v →
+      ReturnGoes pending v newer × ReturnChooses pending (r 1) v × Settled v newer
+  return_arrives r [] v newer inside l = absurd inside.sites
+  return_arrives r (site ∷ pending) v newer inside (inl l) = (inl (l.1.1, l.1.0), inl (l.0, l.1.1), to_site site v pending newer inside l.1.0 l.1.1)
+  return_arrives r (site ∷ pending) v newer inside (inr l) =
+      (inr (l.1.1, l.1.0), inr (l.0, l.1.1), to_bad_return v (site ∷ pending) newer inside l.1.0 l.1.1)
 
-  return_arrives : (regs : Registers) (pending : List ℕ) (v : ℕ) (newer : List ℕ) → InBody pending → Returns regs pending newer v → Returned regs pending v newer
-  return_arrives regs [] v newer inside leads = absurd inside.sites
-  return_arrives regs (site ∷ pending) v newer inside (inl l) =
-      record { goes = inl (l.1.1, l.1.0); chooses = inl (l.0, l.1.1); settled = to_site site v pending newer inside l.1.0 l.1.1 }
-  return_arrives regs (site ∷ pending) v newer inside (inr l) =
-      record { goes = inr (l.1.1, l.1.0); chooses = inr (l.0, l.1.1); settled = to_bad_return v (site ∷ pending) newer inside l.1.0 l.1.1 }
+  -- what the rules say of where a flow goes on
+  record Ruled (f : Flow) (following : ℕ) : Type 0 where
+    next : halts_by f.exit ≡ false → is_start p W following ≡ true
+    edge : (t : ℕ) → edge_by f.sites f.exit ≡ Some t → is_start p W t ≡ true
+    call : (t : ℕ) → call_by f.sites f.exit ≡ Some t → is_start p W t ≡ true
+    fits : TestFits f.test
+    class : (asked : Asks) (v : ℕ) → asked.label < 2 ^ 20 → asked_by f.test f.sites ≡ Some asked → HasLabel (loaded image) asked.which asked.label v →
+        InClass graph.lines asked.kind asked.which asked.label v
+
+  ruled : (u : U.Unit) (a : ℕ) → place_at p W a ≡ Some (body u) → UnitHere p W a u → Ruled (flow_of u) (after_unit u a)
+  ruled u a is here = record {
+    next = next_starts p image graph formed a u here;
+    edge = λ t. edge_starts p image graph formed a (body u) t is;
+    call = λ t. call_starts p image graph formed a (body u) t is;
+    fits = test_fits u a here.begins.fits;
+    class = λ asked v low. labelled asked.kind asked.which asked.label v a (body u) low is;
+  }
+
+  module _ (following v : ℕ) (r : Registers) (pending newer : List ℕ) (inside : InBody pending) where
+    goes_to : (target : ℕ) → is_start p W target ≡ true → (newer ≡ pending) × (v ≡ target) → To target pending v newer × Settled v newer
+    goes_to target start l = ((l.1, l.0), to_start target v newer start l.1 (same_body pending newer l.0 inside))
+
+    halts : (newer ≡ pending) × (v ≡ BAD_TARGET) → To BAD_TARGET pending v newer × Settled v newer
+    halts l = ((l.1, l.0), to_bad_target v pending newer inside l.0 l.1)
+
+    exit_arrives : (exit : Exit) → is_untested exit ≡ true → (halts_by exit ≡ false → is_start p W following ≡ true) →
+        ((t : ℕ) → target_by exit ≡ Some t → is_start p W t ≡ true) → ExitLeads exit F.keeps following pending r newer v →
+        ExitGoes exit F.keeps following pending v newer × Settled v newer
+    exit_arrives F.on is next edge l = goes_to following (next refl) l
+    exit_arrives (F.either op rs1 rs2 met target) is next edge (inl l) = let to = goes_to following (next refl) l in (inl to.0, to.1)
+    exit_arrives (F.either op rs1 rs2 met target) is next edge (inr l) = let to = goes_to target (edge target refl) l in (inr to.0, to.1)
+    exit_arrives (F.to target) is next edge l = goes_to target (edge target refl) l
+    exit_arrives (F.halts stop) is next edge l = ((l.1, l.0), to_bad_target v pending newer inside l.0 (l.1 ∙ eqb-true stop BAD_TARGET is))
+    exit_arrives (F.after S.Ecall) is next edge l = goes_to following (next refl) l
+    exit_arrives (F.after S.Ebreak) is next edge l = absurd l
+    exit_arrives other is next edge l = absurd (cc)
+
+    -- the step of a flow: the walk goes so, the registers choose it, and something starts there
+    abbrev Steps : Flow → Type 0
+    Steps f = FlowGoes graph.lines f following pending v newer × TestChooses graph.lines f.test f.sites following pending r v × Settled v newer
+
+    flow_arrives : (f : Flow) → Suits f → Ruled f following → FlowLeads (loaded image) f following pending r newer v → Steps f
+    flow_arrives f (untested exit act is) ruled l = let to = exit_arrives exit is ruled.next ruled.edge l in (to.0, tt, to.1)
+    flow_arrives f (direct_call target) ruled (inl l) =
+        (inl (l.0, l.2, l.1), tt, to_start target v newer (ruled.call target refl) l.2 (pushed following pending newer (ruled.next refl) inside l.0 l.1))
+    flow_arrives f (direct_call target) ruled (inr l) = (inr (l.0, (l.2, l.1)), tt, to_deep v pending newer inside l.1 l.2)
+    flow_arrives f (guarded_call numbers) ruled (inl l) = let to = goes_to following (ruled.next refl) l.1 in (inl to.0, inl (l.0, l.1.1), to.1)
+    flow_arrives f (guarded_call numbers) ruled (inr l) = let to = halts l.1 in (inr to.0, inr (l.0, l.1.1), to.1)
+    flow_arrives f (computed_jump which rs1 imm label) ruled (inl l) =
+        let to = destination r rs1 imm in
+        let target = ruled.class (asks K.Jump which label) to ruled.fits refl l.0 in (
+          inl (subst (λ (x : ℕ). InClass graph.lines K.Jump which label x) (sym l.1.1) target, l.1.0),
+          inl (target, l.1.1),
+          to_target K.Jump which label to v newer target l.1.1 (same_body pending newer l.1.0 inside),
+        )
+    flow_arrives f (computed_jump which rs1 imm label) ruled (inr l) =
+        let to = halts l.1 in (inr to.0, inr ((λ target. l.0 (in_class_label K.Jump which label (destination r rs1 imm) target)), l.1.1), to.1)
+    flow_arrives f (computed_call rs1 imm label) ruled (inl (has, inl l)) =
+        let to = destination r rs1 imm in
+        let target = ruled.class (asks K.Call First label) to ruled.fits refl has in (
+          inr (inl (l.0, subst (λ (x : ℕ). InClass graph.lines K.Call First label x) (sym l.2) target, l.1)),
+          inl (target, inl (l.0, l.2)),
+          to_target K.Call First label to v newer target l.2 (pushed following pending newer (ruled.next refl) inside l.0 l.1),
+        )
+    flow_arrives f (computed_call rs1 imm label) ruled (inl (has, inr l)) =
+        let to = destination r rs1 imm in
+        let target = ruled.class (asks K.Call First label) to ruled.fits refl has in
+        (inr (inr (l.0, has_target K.Call First label to target, (l.2, l.1))), inl (target, inr (l.0, l.2)), to_deep v pending newer inside l.1 l.2)
+    flow_arrives f (computed_call rs1 imm label) ruled (inr l) =
+        let to = halts l.1 in (inl to.0, inr ((λ target. l.0 (in_class_label K.Call First label (destination r rs1 imm) target)), l.1.1), to.1)
+    flow_arrives f turned_back ruled l = return_arrives r pending v newer inside l
 
   -- where a place leads, the walk arrives
   pub arrive : (place : Place) (w : Walk) (v : ℕ) (newer : List ℕ) → place_at p W w.at ≡ Some place → PlaceFacts p profile image graph bytes formed place w.at →
@@ -208,76 +275,6 @@ module _ (p : Profile) (profile : IsProfile p) (image : Contents) (graph : Graph
         settled = to_start entry v newer start l.2 (subst (λ (ps : List ℕ). InBody ps) (sym none) (record { sites = refl; most = lit≤ tt }));
       }
   arrive (opening entry) w v newer is facts stage (inr l) = let none = ap length stage in let full = l.0 in absurd (omega arith)
-  arrive (body (V.Gate label)) w v newer is facts stage l =
-      record { goes = (l.1, l.0); chooses = tt; settled = to_next (V.Gate label) w.at v w.pending newer facts refl stage l.0 l.1 }
-  arrive (body (V.Plain instr)) w v newer is facts stage l =
-      record { goes = (l.1, l.0); chooses = tt; settled = to_next (V.Plain instr) w.at v w.pending newer facts refl stage l.0 l.1 }
-  arrive (body (V.Branch op rs1 rs2 target)) w v newer is facts stage (inl l) =
-      record { goes = inl (l.1, l.0); chooses = tt; settled = to_next (V.Branch op rs1 rs2 target) w.at v w.pending newer facts refl stage l.0 l.1 }
-  arrive (body (V.Branch op rs1 rs2 target)) w v newer is facts stage (inr l) =
-      let start = edge_starts p image graph formed w.at (body (V.Branch op rs1 rs2 target)) target is refl in
-      record { goes = inr (l.1, l.0); chooses = tt; settled = to_start target v newer start l.1 (same_body w.pending newer l.0 stage) }
-  arrive (body (V.Near op rs1 rs2 target)) w v newer is facts stage (inl l) =
-      record { goes = inl (l.1, l.0); chooses = tt; settled = to_next (V.Near op rs1 rs2 target) w.at v w.pending newer facts refl stage l.0 l.1 }
-  arrive (body (V.Near op rs1 rs2 target)) w v newer is facts stage (inr l) =
-      let start = edge_starts p image graph formed w.at (body (V.Near op rs1 rs2 target)) target is refl in
-      record { goes = inr (l.1, l.0); chooses = tt; settled = to_start target v newer start l.1 (same_body w.pending newer l.0 stage) }
-  arrive (body (V.Jump target)) w v newer is facts stage l =
-      let start = edge_starts p image graph formed w.at (body (V.Jump target)) target is refl in
-      record { goes = (l.1, l.0); chooses = tt; settled = to_start target v newer start l.1 (same_body w.pending newer l.0 stage) }
-  arrive (body V.Stop) w v newer is facts stage l =
-      record { goes = (l.1, l.0); chooses = tt; settled = to_bad_target v w.pending newer stage l.0 l.1 }
-  arrive (body (V.System S.Ecall)) w v newer is facts stage l =
-      record { goes = (l.1, l.0); chooses = tt; settled = to_next (V.System S.Ecall) w.at v w.pending newer facts refl stage l.0 l.1 }
-  arrive (body (V.System S.Ebreak)) w v newer is facts stage l = absurd l
-  arrive (body (V.Guarded ns)) w v newer is facts stage (inl l) =
-      record { goes = inl (l.1.1, l.1.0); chooses = inl (l.0, l.1.1); settled = to_next (V.Guarded ns) w.at v w.pending newer facts refl stage l.1.0 l.1.1 }
-  arrive (body (V.Guarded ns)) w v newer is facts stage (inr l) =
-      record { goes = inr (l.1.1, l.1.0); chooses = inr (l.0, l.1.1); settled = to_bad_target v w.pending newer stage l.1.0 l.1.1 }
-  arrive (body (V.Stores rs1 imm members)) w v newer is facts stage l =
-      record { goes = (l.1, l.0); chooses = tt; settled = to_next (V.Stores rs1 imm members) w.at v w.pending newer facts refl stage l.0 l.1 }
-  arrive (body (V.Call target)) w v newer is facts stage (inl l) =
-      let start = call_starts p image graph formed w.at (body (V.Call target)) target is refl in
-      let site = next_starts p image graph formed w.at (V.Call target) facts refl in
-      record { goes = inl (l.0, l.2, l.1); chooses = tt; settled = to_start target v newer start l.2 (pushed (after_unit (V.Call target) w.at) w.pending newer site stage l.0 l.1) }
-  arrive (body (V.Call target)) w v newer is facts stage (inr l) =
-      record { goes = inr (l.0, (l.2, l.1)); chooses = tt; settled = to_deep v w.pending newer stage l.1 l.2 }
-  arrive (body (V.Ijump which rs1 imm label)) w v newer is facts stage (inl l) =
-      let to = destination w.regs rs1 imm in
-      let inside = labelled K.Jump which label to w.at (body (V.Ijump which rs1 imm label)) facts.begins.fits.2 is refl l.0 in
-      record {
-        goes = inl (subst (λ (x : ℕ). InClass graph.lines K.Jump which label x) (sym l.1.1) inside, l.1.0);
-        chooses = inl (inside, l.1.1);
-        settled = to_target K.Jump which label to v newer inside l.1.1 (same_body w.pending newer l.1.0 stage);
-      }
-  arrive (body (V.Ijump which rs1 imm label)) w v newer is facts stage (inr l) =
-      record {
-        goes = inr (l.1.1, l.1.0);
-        chooses = inr ((λ inside. l.0 (in_class_label K.Jump which label (destination w.regs rs1 imm) inside)), l.1.1);
-        settled = to_bad_target v w.pending newer stage l.1.0 l.1.1;
-      }
-  arrive (body (V.Icall rs1 imm label)) w v newer is facts stage (inl l) =
-      let to = destination w.regs rs1 imm in
-      let inside = labelled K.Call First label to w.at (body (V.Icall rs1 imm label)) facts.begins.fits.0.2 is refl l.0 in
-      let site = next_starts p image graph formed w.at (V.Icall rs1 imm label) facts refl in
-      elim l.1 [
-        | inl c ↦ record {
-          goes = inr (inl (c.0, subst (λ (x : ℕ). InClass graph.lines K.Call First label x) (sym c.2) inside, c.1));
-          chooses = inl (inside, inl (c.0, c.2));
-          settled = to_target K.Call First label to v newer inside c.2 (pushed (after_unit (V.Icall rs1 imm label) w.at) w.pending newer site stage c.0 c.1);
-        }
-        | inr c ↦ record {
-          goes = inr (inr (c.0, has_target K.Call First label to inside, (c.2, c.1)));
-          chooses = inl (inside, inr (c.0, c.2));
-          settled = to_deep v w.pending newer stage c.1 c.2;
-        }
-      ]
-  arrive (body (V.Icall rs1 imm label)) w v newer is facts stage (inr l) =
-      record {
-        goes = inl (l.1.1, l.1.0);
-        chooses = inr ((λ inside. l.0 (in_class_label K.Call First label (destination w.regs rs1 imm) inside)), l.1.1);
-        settled = to_bad_target v w.pending newer stage l.1.0 l.1.1;
-      }
-  arrive (body V.Return) w v newer is facts stage leads =
-      let r = return_arrives w.regs w.pending v newer stage leads in
-      record { goes = r.goes; chooses = r.chooses; settled = r.settled }
+  arrive (body u) w v newer is facts stage leads =
+      let arrived = flow_arrives (after_unit u w.at) v w.regs w.pending newer stage (flow_of u) (suits u) (ruled u w.at is facts) leads in
+      record { goes = arrived.0; chooses = arrived.1; settled = arrived.2 }

@@ -2,6 +2,7 @@
 use Rattle.std.proofs.Common.{inl, inr, ◌≡◌, ℕ, ◌+◌, ◌*◌, ◌%◌, ◌≤◌, ◌<◌, ◌==◌, Bool, true, false, List, [], ◌∷◌, ◌++◌, length, map, refl, sym, ap, ◌∙◌, Some, None, arith}
 use Rattle.std.specs.Prelude.{Option, IsTrue, nat_le, nat_lt, ◌&&◌, is_some, if◌then◌else◌}
 use Rattle.std.specs.List.{list_all}
+use Rattle.std.specs.Option.{option_or}
 use Rattle.std.proofs.lemmas.Bool.{and_from, and_parts, cases_Bool, eq-eqb, eqb-true, le-leb, lt-ltb}
 use Rattle.std.proofs.lemmas.List.Folds.{list_all-append}
 use Rattle.std.proofs.lemmas.Option.{same_Some}
@@ -13,19 +14,16 @@ use Rattle.cfi_graph.specs.declared.line.GraphLine.TheVariants.{Calls, Class, Ca
 use Rattle.cfi_graph.specs.declared.line.Key.TheVariants.{Address}
 use Rattle.cfi_graph.specs.declared.line.SiteKind.{SiteKind}
 use Rattle.cfi_graph.specs.declared.line.Sort.TheVariants as sorts
-use Rattle.cfi_graph.specs.declared.line.SiteKind.TheVariants as K
 use Rattle.cfi_graph.specs.Graph.{ClassLine, IsGraph, class_in, fits_version, is_code_address, is_label, is_rising, key_below, key_of, line_in_range, targets_rise}
 use Rattle.cfi_unit.specs.declared.unit.Unit as U
-use Rattle.cfi_unit.specs.declared.unit.Unit.TheVariants as V
 use Rattle.cfi_unit.specs.declared.place.Place.TheVariants.{Body as body}
-use Rattle.cfi_unit.specs.declared.target_word.TargetWord.TheVariants.{First}
 use Rattle.cfi_unit.specs.Prologue.{OPENING}
 use Rattle.cfi_unit.specs.UnitWords.{word_count}
 use Rattle.cfi_rules.specs.PlacedLaws.{PlacedIsGraph}
 use Rattle.cfi_rules.specs.Lines.{class_with, or_class}
-use Rattle.cfi_rules.specs.Placed.{is_head, line_of, lines_from, placed_code, placed_lines, with_line}
-use Rattle.cfi_rules.specs.Rules.{asks, site_of}
-use Rattle.cfi_rules.specs.Sound.{IsSound, StartsIn, target_of}
+use Rattle.cfi_rules.specs.Placed.{is_head, line_by, line_of, lines_from, placed_code, placed_lines, with_line}
+use Rattle.cfi_rules.specs.Rules.{call_of, edge_of, site_of}
+use Rattle.cfi_rules.specs.Sound.{IsSound, StartsIn}
 use Rattle.cfi_rules.specs.Split.{unit_in}
 use Rattle.cfi_rules.specs.declared.asks.Asks.{Asks}
 use Rattle.cfi_rules.proofs.Served.{some_class}
@@ -51,44 +49,40 @@ given test l m e right = ap test (sym (same_Some l m e)) ∙ right
 
 -- a test that each edge, call and site passes is one that each line of a unit does
 passes : (test : GraphLine → Bool) → ((from to : ℕ) → test (Edge from to) ≡ true) → ((from to : ℕ) → test (Call from to) ≡ true) →
-    ((a : ℕ) (kind : SiteKind) (label : ℕ) → test (Site a kind label) ≡ true) → (u : U.Unit) (a : ℕ) (line : GraphLine) → line_of a u ≡ Some line → test line ≡ true
-passes test edge call site (V.Branch op rs1 rs2 target) a line e = given test (Edge a target) line e (edge a target)
-passes test edge call site (V.Near op rs1 rs2 target) a line e = given test (Edge a target) line e (edge a target)
-passes test edge call site (V.Jump target) a line e = given test (Edge a target) line e (edge a target)
-passes test edge call site (V.Call target) a line e = given test (Call a target) line e (call a target)
-passes test edge call site (V.Ijump which rs1 imm label) a line e = given test (Site a K.Jump label) line e (site a K.Jump label)
-passes test edge call site (V.Icall rs1 imm label) a line e = given test (Site a K.Call label) line e (site a K.Call label)
-passes test edge call site other a line e = absurd (cc)
+    ((a : ℕ) (kind : SiteKind) (label : ℕ) → test (Site a kind label) ≡ true) → (a : ℕ) (edge call : Option ℕ) (site : Option Asks) (line : GraphLine) →
+    line_by a edge call site ≡ Some line → test line ≡ true
+passes test edge call site a (Some target) to asked line e = given test (Edge a target) line e (edge a target)
+passes test edge call site a None (Some target) asked line e = given test (Call a target) line e (call a target)
+passes test edge call site a None None (Some asked) line e = given test (Site a asked.kind asked.label) line e (site a asked.kind asked.label)
+passes test edge call site a None None None line e = absurd (cc)
 
 -- so none of them has targets that could fall, and each may stand in a graph of any version
 flat : (u : U.Unit) (a : ℕ) (line : GraphLine) → line_of a u ≡ Some line → targets_rise line ≡ true
-flat = passes targets_rise (λ from to. refl) (λ from to. refl) (λ a kind label. refl)
+flat u a = passes targets_rise (λ from to. refl) (λ from to. refl) (λ a kind label. refl) a (edge_of (body u)) (call_of (body u)) (site_of (body u))
 
 abbrev is_of : ℕ → GraphLine → Bool
 is_of version line = fits_version version (class_in line)
 
 of_each : (version : ℕ) (u : U.Unit) (a : ℕ) (line : GraphLine) → line_of a u ≡ Some line → is_of version line ≡ true
-of_each version = passes (is_of version) (λ from to. refl) (λ from to. refl) (λ a kind label. refl)
+of_each version u a = passes (is_of version) (λ from to. refl) (λ from to. refl) (λ a kind label. refl) a (edge_of (body u)) (call_of (body u)) (site_of (body u))
 
 -- the lines' addresses rise
 abbrev keys_above : ℕ → List GraphLine → Bool
 keys_above bound lines = is_rising key_below (Address bound ∷ map key_of lines)
 
-rise_with : (u : U.Unit) (bound at : ℕ) (rest : List GraphLine) → bound < at → keys_above bound rest ≡ true → keys_above at rest ≡ true → keys_above bound (with_line (line_of at u) rest) ≡ true
-rise_with (V.Branch op rs1 rs2 target) bound at rest below past here = and_from (nat_lt bound at) (keys_above at rest) (lt-ltb bound at below) here
-rise_with (V.Near op rs1 rs2 target) bound at rest below past here = and_from (nat_lt bound at) (keys_above at rest) (lt-ltb bound at below) here
-rise_with (V.Jump target) bound at rest below past here = and_from (nat_lt bound at) (keys_above at rest) (lt-ltb bound at below) here
-rise_with (V.Call target) bound at rest below past here = and_from (nat_lt bound at) (keys_above at rest) (lt-ltb bound at below) here
-rise_with (V.Ijump which rs1 imm label) bound at rest below past here = and_from (nat_lt bound at) (keys_above at rest) (lt-ltb bound at below) here
-rise_with (V.Icall rs1 imm label) bound at rest below past here = and_from (nat_lt bound at) (keys_above at rest) (lt-ltb bound at below) here
-rise_with other bound at rest below past here = past
+rise_with : (edge call : Option ℕ) (site : Option Asks) (bound at : ℕ) (rest : List GraphLine) → bound < at → keys_above bound rest ≡ true → keys_above at rest ≡ true →
+    keys_above bound (with_line (line_by at edge call site) rest) ≡ true
+rise_with (Some target) call site bound at rest below past here = and_from (nat_lt bound at) (keys_above at rest) (lt-ltb bound at below) here
+rise_with None (Some target) site bound at rest below past here = and_from (nat_lt bound at) (keys_above at rest) (lt-ltb bound at below) here
+rise_with None None (Some asked) bound at rest below past here = and_from (nat_lt bound at) (keys_above at rest) (lt-ltb bound at below) here
+rise_with None None None bound at rest below past here = past
 
 lines_rise : (us : List U.Unit) (bound at : ℕ) → bound < at → keys_above bound (lines_from at us) ≡ true
 unfolding lines_from
 lines_rise [] bound at below = refl
 lines_rise (u ∷ us) bound at below =
     let some = some_word u in
-    rise_with u bound at (lines_from (at + 4 * word_count u) us) below
+    rise_with (edge_of (body u)) (call_of (body u)) (site_of (body u)) bound at (lines_from (at + 4 * word_count u) us) below
     (lines_rise us bound (at + 4 * word_count u) (omega arith)) (lines_rise us at (at + 4 * word_count u) (omega arith))
 
 -- heads come before what has an address
@@ -136,21 +130,16 @@ class_label len (line ∷ classes) l range some =
     ]
 
 -- a unit's line has addresses of the code, and a class's label
-unit_range : (len : ℕ) (u : U.Unit) (a : ℕ) (line : GraphLine) → is_code_address len a ≡ true → ((t : ℕ) → target_of u ≡ Some t → is_code_address len t ≡ true) →
-    ((asked : Asks) → site_of (body u) ≡ Some asked → is_label asked.label ≡ true) → line_of a u ≡ Some line → line_in_range len line ≡ true
-unit_range len (V.Branch op rs1 rs2 target) a line here leads known e =
+unit_range : (len a : ℕ) (edge call : Option ℕ) (site : Option Asks) (line : GraphLine) → is_code_address len a ≡ true →
+    ((t : ℕ) → option_or edge call ≡ Some t → is_code_address len t ≡ true) → ((asked : Asks) → site ≡ Some asked → is_label asked.label ≡ true) →
+    line_by a edge call site ≡ Some line → line_in_range len line ≡ true
+unit_range len a (Some target) call site line here leads known e =
     given (line_in_range len) (Edge a target) line e (and_from (is_code_address len a) (is_code_address len target) here (leads target refl))
-unit_range len (V.Near op rs1 rs2 target) a line here leads known e =
-    given (line_in_range len) (Edge a target) line e (and_from (is_code_address len a) (is_code_address len target) here (leads target refl))
-unit_range len (V.Jump target) a line here leads known e =
-    given (line_in_range len) (Edge a target) line e (and_from (is_code_address len a) (is_code_address len target) here (leads target refl))
-unit_range len (V.Call target) a line here leads known e =
+unit_range len a None (Some target) site line here leads known e =
     given (line_in_range len) (Call a target) line e (and_from (is_code_address len a) (is_code_address len target) here (leads target refl))
-unit_range len (V.Ijump which rs1 imm label) a line here leads known e =
-    given (line_in_range len) (Site a K.Jump label) line e (and_from (is_code_address len a) (is_label label) here (known (asks K.Jump which label) refl))
-unit_range len (V.Icall rs1 imm label) a line here leads known e =
-    given (line_in_range len) (Site a K.Call label) line e (and_from (is_code_address len a) (is_label label) here (known (asks K.Call First label) refl))
-unit_range len other a line here leads known e = absurd (cc)
+unit_range len a None None (Some asked) line here leads known e =
+    given (line_in_range len) (Site a asked.kind asked.label) line e (and_from (is_code_address len a) (is_label asked.label) here (known asked refl))
+unit_range len a None None None line here leads known e = absurd (cc)
 
 module _ (p : Profile) (profile : IsProfile p) (version entry : ℕ) (us : List U.Unit) (heads : List GraphLine) (sound : IsSound p version entry us heads) where
   laid : LaidOut p
@@ -191,7 +180,7 @@ module _ (p : Profile) (profile : IsProfile p) (version entry : ℕ) (us : List 
       let opening : line_in_range size (Call OPENING entry) ≡ true =
       and_from (is_code_address size OPENING) (is_code_address size entry) opening_address (begun_address entry sound.entry_starts) in
       let units : list_all (line_in_range size) (lines_from p.units_from us) ≡ true =
-      all_lines (line_in_range size) us p.units_from (λ a u line here is. unit_range size u a line (start_address a u here)
+      all_lines (line_in_range size) us p.units_from (λ a u line here is. unit_range size a (edge_of (body u)) (call_of (body u)) (site_of (body u)) line (start_address a u here)
       (λ t leads. begun_address t (sound.targets a t u here leads))
       (λ asked wants. class_label size heads asked.label graph.range (some_class heads asked.kind asked.which asked.label (sound.labels a u asked here wants))) is) in
       let flats : list_all targets_rise (lines_from p.units_from us) ≡ true =

@@ -8,34 +8,32 @@ use Rattle.cfi_graph.specs.declared.line.GraphLine.{GraphLine}
 use Rattle.cfi_graph.specs.declared.line.GraphLine.TheVariants.{Calls, Class, CallClass, JumpClass, Site, Edge, Call}
 use Rattle.cfi_graph.specs.Graph.{ClassLine, calls_in, class_in}
 use Rattle.cfi_unit.specs.declared.unit.Unit as U
-use Rattle.cfi_unit.specs.declared.unit.Unit.TheVariants as V
+use Rattle.cfi_unit.specs.declared.place.Place.TheVariants.{Body as body}
 use Rattle.cfi_unit.specs.UnitWords.{word_count}
 use Rattle.cfi_rules.specs.Lines.{class_with, holds_of, is_among, line_at, or_class, read_of, stands_at}
-use Rattle.cfi_rules.specs.Placed.{is_head, line_of, lines_from, with_line}
-use Rattle.cfi_rules.specs.Rules.{is_borne, lacks_gate}
+use Rattle.cfi_rules.specs.Placed.{is_head, line_by, line_of, lines_from, with_line}
+use Rattle.cfi_rules.specs.Rules.{call_of, edge_of, is_borne, lacks_gate, site_of}
+use Rattle.cfi_rules.specs.declared.asks.Asks.{Asks}
 use Rattle.cfi_rules.specs.Split.{unit_in}
 use Rattle.cfi_unit.proofs.Counts.{some_word}
 use Rattle.cfi_rules.proofs.UnitIn.{in_here, in_later, in_none}
 
-line_here : (u : U.Unit) (at : ℕ) (rest : List GraphLine) → line_at rest at ≡ None → line_at (with_line (line_of at u) rest) at ≡ line_of at u
+-- a line that a unit may have, with the address of the unit
+line_here : (at : ℕ) (edge call : Option ℕ) (site : Option Asks) (rest : List GraphLine) → line_at rest at ≡ None →
+    line_at (with_line (line_by at edge call site) rest) at ≡ line_by at edge call site
 unfolding line_at
-line_here (V.Branch op rs1 rs2 target) at rest none = rw (eq-eqb at at refl) refl
-line_here (V.Near op rs1 rs2 target) at rest none = rw (eq-eqb at at refl) refl
-line_here (V.Jump target) at rest none = rw (eq-eqb at at refl) refl
-line_here (V.Call target) at rest none = rw (eq-eqb at at refl) refl
-line_here (V.Ijump which rs1 imm label) at rest none = rw (eq-eqb at at refl) refl
-line_here (V.Icall rs1 imm label) at rest none = rw (eq-eqb at at refl) refl
-line_here other at rest none = none
+line_here at (Some target) call site rest none = rw (eq-eqb at at refl) refl
+line_here at None (Some target) site rest none = rw (eq-eqb at at refl) refl
+line_here at None None (Some asked) rest none = rw (eq-eqb at at refl) refl
+line_here at None None None rest none = none
 
-line_later : (u : U.Unit) (at a : ℕ) (rest : List GraphLine) → (at == a) ≡ false → line_at (with_line (line_of at u) rest) a ≡ line_at rest a
+line_later : (at a : ℕ) (edge call : Option ℕ) (site : Option Asks) (rest : List GraphLine) → (at == a) ≡ false →
+    line_at (with_line (line_by at edge call site) rest) a ≡ line_at rest a
 unfolding line_at
-line_later (V.Branch op rs1 rs2 target) at a rest other = rw other refl
-line_later (V.Near op rs1 rs2 target) at a rest other = rw other refl
-line_later (V.Jump target) at a rest other = rw other refl
-line_later (V.Call target) at a rest other = rw other refl
-line_later (V.Ijump which rs1 imm label) at a rest other = rw other refl
-line_later (V.Icall rs1 imm label) at a rest other = rw other refl
-line_later unit at a rest other = refl
+line_later at a (Some target) call site rest other = rw other refl
+line_later at a None (Some target) site rest other = rw other refl
+line_later at a None None (Some asked) rest other = rw other refl
+line_later at a None None None rest other = refl
 
 -- the line at an address is that of the unit that starts there
 pub line_in : (us : List U.Unit) (at a : ℕ) → line_at (lines_from at us) a ≡ option_and_then (line_of a) (unit_in us at a)
@@ -49,9 +47,9 @@ line_in (u ∷ us) at a =
           let none : line_at rest at ≡ None =
           line_in us (at + 4 * word_count u) at ∙ ap (option_and_then (line_of at)) (in_none us (at + 4 * word_count u) at (omega arith)) in
           subst (λ (b : ℕ). line_at (lines_from at (u ∷ us)) b ≡ option_and_then (line_of b) (unit_in (u ∷ us) at b)) (sym here)
-          (line_here u at rest none ∙ sym (ap (option_and_then (line_of at)) (in_here u us at)))
+          (line_here at (edge_of (body u)) (call_of (body u)) (site_of (body u)) rest none ∙ sym (ap (option_and_then (line_of at)) (in_here u us at)))
       | inr other ↦
-          line_later u at a rest (ne_eqb at a (λ e. other (sym e)))
+          line_later at a (edge_of (body u)) (call_of (body u)) (site_of (body u)) rest (ne_eqb at a (λ e. other (sym e)))
           ∙ line_in us (at + 4 * word_count u) a
           ∙ sym (ap (option_and_then (line_of a)) (in_later u us at a other))
     ]
@@ -85,41 +83,37 @@ calls_before (Edge from to ∷ heads) rest none = refl
 calls_before (Call from to ∷ heads) rest none = refl
 
 -- lines of units are no classes'
-past_unit : (u : U.Unit) (at l : ℕ) (rest : List GraphLine) → class_with (with_line (line_of at u) rest) l ≡ class_with rest l
+past_unit : (at l : ℕ) (edge call : Option ℕ) (site : Option Asks) (rest : List GraphLine) →
+    class_with (with_line (line_by at edge call site) rest) l ≡ class_with rest l
 unfolding class_with
-past_unit (V.Branch op rs1 rs2 target) at l rest = refl
-past_unit (V.Near op rs1 rs2 target) at l rest = refl
-past_unit (V.Jump target) at l rest = refl
-past_unit (V.Call target) at l rest = refl
-past_unit (V.Ijump which rs1 imm label) at l rest = refl
-past_unit (V.Icall rs1 imm label) at l rest = refl
-past_unit other at l rest = refl
+past_unit at l (Some target) call site rest = refl
+past_unit at l None (Some target) site rest = refl
+past_unit at l None None (Some asked) rest = refl
+past_unit at l None None None rest = refl
 
 pub no_class : (us : List U.Unit) (at l : ℕ) → class_with (lines_from at us) l ≡ None
 unfolding class_with lines_from
 no_class [] at l = refl
 no_class (u ∷ us) at l =
-    past_unit u at l (lines_from (at + 4 * word_count u) us) ∙ no_class us (at + 4 * word_count u) l
+    past_unit at l (edge_of (body u)) (call_of (body u)) (site_of (body u)) (lines_from (at + 4 * word_count u) us) ∙ no_class us (at + 4 * word_count u) l
 
 pub class_before : (heads rest : List GraphLine) (l : ℕ) → class_with rest l ≡ None → class_with (heads ++ rest) l ≡ class_with heads l
 unfolding class_with
 class_before [] rest l none = none
 class_before (line ∷ heads) rest l none = ap (or_class l (class_in line)) (class_before heads rest l none)
 
-lacks_with : (u : U.Unit) (at a : ℕ) (starts : ℕ → Bool) (gate : ℕ → Option ℕ) (rest : List GraphLine) → list_any (lacks_gate starts gate a) (with_line (line_of at u) rest) ≡ list_any (lacks_gate starts gate a) rest
-lacks_with (V.Branch op rs1 rs2 target) at a starts gate rest = refl
-lacks_with (V.Near op rs1 rs2 target) at a starts gate rest = refl
-lacks_with (V.Jump target) at a starts gate rest = refl
-lacks_with (V.Call target) at a starts gate rest = refl
-lacks_with (V.Ijump which rs1 imm label) at a starts gate rest = refl
-lacks_with (V.Icall rs1 imm label) at a starts gate rest = refl
-lacks_with other at a starts gate rest = refl
+lacks_with : (at a : ℕ) (starts : ℕ → Bool) (gate : ℕ → Option ℕ) (edge call : Option ℕ) (site : Option Asks) (rest : List GraphLine) →
+    list_any (lacks_gate starts gate a) (with_line (line_by at edge call site) rest) ≡ list_any (lacks_gate starts gate a) rest
+lacks_with at a starts gate (Some target) call site rest = refl
+lacks_with at a starts gate None (Some target) site rest = refl
+lacks_with at a starts gate None None (Some asked) rest = refl
+lacks_with at a starts gate None None None rest = refl
 
 pub none_lacks : (us : List U.Unit) (at a : ℕ) (starts : ℕ → Bool) (gate : ℕ → Option ℕ) → list_any (lacks_gate starts gate a) (lines_from at us) ≡ false
 unfolding lines_from
 none_lacks [] at a starts gate = refl
 none_lacks (u ∷ us) at a starts gate =
-    lacks_with u at a starts gate (lines_from (at + 4 * word_count u) us) ∙ none_lacks us (at + 4 * word_count u) a starts gate
+    lacks_with at a starts gate (edge_of (body u)) (call_of (body u)) (site_of (body u)) (lines_from (at + 4 * word_count u) us) ∙ none_lacks us (at + 4 * word_count u) a starts gate
 
 -- a line whose class's target bears the label lacks no gate
 has_gate : (starts : ℕ → Bool) (gate : ℕ → Option ℕ) (a : ℕ) (o : Option ClassLine) →

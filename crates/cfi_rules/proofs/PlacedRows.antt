@@ -4,7 +4,7 @@
 use Rattle.std.proofs.Common.{◌≡◌, ℕ, zero, suc, ◌+◌, ◌==◌, inl, inr, Bool, true, false, List, [], ◌∷◌, refl, sym, ap, subst, ◌∙◌, length, lit<, arith}
 use Rattle.std.specs.Prelude.{Option, Some, None, ◌&&◌, is_some, not, option_and_then, slice_get}
 use Rattle.std.specs.List.{last_or, list_all}
-use Rattle.std.proofs.lemmas.Bool.{and_parts, cases_eq, eqb-true, or_cases}
+use Rattle.std.proofs.lemmas.Bool.{and_parts, cases_eq, eqb-true, false≢true, or_cases}
 use Rattle.std.proofs.lemmas.Option.{same_Some}
 use Rattle.rv_word.specs.MemoryMap.{version_1}
 use Rattle.rv_instr.specs.declared.instr.Instr.TheVariants.{Upper, Load, Immediate}
@@ -29,9 +29,9 @@ use Rattle.cfi_unit.specs.Members.{AreMembers, IsMember}
 use Rattle.cfi_unit.specs.declared.members.Member.{Member}
 use Rattle.cfi_unit.specs.UnitWords.{after_unit, words_of}
 use Rattle.cfi_rules.specs.declared.asks.Asks.{Asks}
-use Rattle.cfi_rules.specs.Lines.{class_with, holds_of, is_among, is_beside, is_outside, is_word_of, read_of, targets_for}
+use Rattle.cfi_rules.specs.Lines.{class_with, holds_of, is_among, is_beside, is_word_of, read_of, targets_for}
 use Rattle.cfi_rules.specs.Placed.{AllAhead, AllFit, code_from, is_head, lines_from, placed_code, placed_lines}
-use Rattle.cfi_rules.specs.Rules.{admits, asks, gate_of, is_borne, is_label, site_of}
+use Rattle.cfi_rules.specs.Rules.{admits, gate_of, is_astray, is_borne, is_label, site_of}
 use Rattle.cfi_rules.specs.Sound.{Bears, IsSound, StartsIn, target_of}
 use Rattle.cfi_rules.specs.Split.{unit_in}
 use Rattle.cfi_rules.proofs.RuleFacts.{gate_is, not_false}
@@ -180,28 +180,21 @@ each_in test (v ∷ us) at a u all e =
 
 -- each gate with a class's label is at such a word of a target, each computed transfer has a class, and
 -- none is a direct transfer
+abbrev pub is_served : List GraphLine → Option Asks → Bool
+is_served classes None = true
+is_served classes (Some asked) = is_some (targets_for classes asked.kind asked.which asked.label)
+
 abbrev pub is_right : List GraphLine → ℕ → U.Unit → Bool
-is_right classes a (V.Gate label) = not (is_outside classes label a)
-is_right classes a (V.Ijump which rs1 imm label) = is_some (targets_for classes K.Jump which label)
-is_right classes a (V.Icall rs1 imm label) = is_some (targets_for classes K.Call First label)
-is_right classes a u = not (is_some (target_of u))
+is_right classes a u = not (is_astray classes a u) && (is_served classes (site_of (body u)) && not (is_some (target_of u)))
 
-no_transfer : (classes : List GraphLine) (a : ℕ) (u : U.Unit) (t : ℕ) → is_right classes a u ≡ true → target_of u ≡ Some t → ⊥
-no_transfer classes a (V.Branch op rs1 rs2 target) t right e = absurd (cc)
-no_transfer classes a (V.Near op rs1 rs2 target) t right e = absurd (cc)
-no_transfer classes a (V.Jump target) t right e = absurd (cc)
-no_transfer classes a (V.Call target) t right e = absurd (cc)
-no_transfer classes a other t right e = absurd (cc)
+right_parts : (classes : List GraphLine) (a : ℕ) (u : U.Unit) → is_right classes a u ≡ true →
+    (not (is_astray classes a u) ≡ true) × (is_served classes (site_of (body u)) ≡ true) × (not (is_some (target_of u)) ≡ true)
+right_parts classes a u right =
+    let parts = and_parts (not (is_astray classes a u)) (is_served classes (site_of (body u)) && not (is_some (target_of u))) right in
+    let others = and_parts (is_served classes (site_of (body u))) (not (is_some (target_of u))) parts.1 in
+    (parts.0, others.0, others.1)
 
-label_known : (classes : List GraphLine) (a : ℕ) (u : U.Unit) (asked : Asks) → is_right classes a u ≡ true → site_of (body u) ≡ Some asked →
-    is_some (targets_for classes asked.kind asked.which asked.label) ≡ true
-label_known classes a (V.Ijump which rs1 imm label) asked right e =
-    subst (λ (s : Asks). is_some (targets_for classes s.kind s.which s.label) ≡ true) (same_Some (asks K.Jump which label) asked e) right
-label_known classes a (V.Icall rs1 imm label) asked right e =
-    subst (λ (s : Asks). is_some (targets_for classes s.kind s.which s.label) ≡ true) (same_Some (asks K.Call First label) asked e) right
-label_known classes a other asked right e = absurd (cc)
-
-listed : (classes : List GraphLine) (l a : ℕ) (class : ClassLine) → is_right classes a (V.Gate l) ≡ true → class_with classes l ≡ Some class →
+listed : (classes : List GraphLine) (l a : ℕ) (class : ClassLine) → not (is_astray classes a (V.Gate l)) ≡ true → class_with classes l ≡ Some class →
     is_word_of (read_of class.sort) a class.targets ≡ true
 listed classes l a class right e =
     not_false (is_word_of (read_of class.sort) a class.targets)
@@ -247,20 +240,19 @@ pub sound_by : (version : ℕ) (us : List U.Unit) (heads : List GraphLine) → A
     all_from (λ a. admits version (calls_in heads)) 0x40000040 us ≡ true → all_from (is_right heads) 0x40000040 us ≡ true → list_all is_head heads ≡ true →
     list_all (λ line. all_borne us (class_in line)) heads ≡ true → last_or None us ≡ Some V.Stop → IsSound version_1 version 0x40000040 us heads
 sound_by version us heads fit ahead begun admitted right are_heads borne ends =
-    let right_there : (a : ℕ) (u : U.Unit) → unit_in us 0x40000040 a ≡ Some u → is_right heads a u ≡ true =
-    λ a u here. each_in (is_right heads) us 0x40000040 a u right here in
+    let right_there = λ (a : ℕ) (u : U.Unit) (here : unit_in us 0x40000040 a ≡ Some u). right_parts heads a u (each_in (is_right heads) us 0x40000040 a u right here) in
     record {
       fit = fit;
       ahead = ahead;
       admitted = λ a u here. each_in (λ b. admits version (calls_in heads)) us 0x40000040 a u admitted here;
       entry_reached = refl;
       entry_starts = begun;
-      targets = λ a t u here leads. absurd (no_transfer heads a u t (right_there a u here) leads);
+      targets = λ a t u here leads. absurd (false≢true (ap (λ o. not (is_some o)) (sym leads) ∙ (right_there a u here).2));
       heads_are = are_heads;
-      labels = λ a u asked here is. label_known heads a u asked (right_there a u here) is;
+      labels = λ a u asked here is. ap (is_served heads) (sym is) ∙ (right_there a u here).1;
       gates = λ k a class is among. bears us (read_of class.sort) a class.label
           (each_among (λ b. borne_in us (read_of class.sort) b class.label) class.targets a (each_class us heads k class borne is) among);
-      astray = λ l a class here is. listed heads l a class (right_there a (V.Gate l) here) is;
+      astray = λ l a class here is. listed heads l a class (right_there a (V.Gate l) here).0 is;
       ends = ends;
     }
 

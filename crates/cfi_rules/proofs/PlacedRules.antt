@@ -2,6 +2,7 @@
 use Rattle.std.proofs.Common.{◌≡◌, ◌≢◌, ℕ, ◌+◌, ◌*◌, ◌%◌, ◌≤◌, ◌<◌, ◌==◌, inl, inr, Bool, true, false, List, [], ◌∷◌, length, refl, sym, ap, subst, ◌∙◌, Some, None, arith}
 use Rattle.std.specs.Prelude.{Option, nat_le, nat_lt, not, ◌&&◌, ◌||◌, is_some, option_and_then, option_map}
 use Rattle.std.specs.List.{last_or}
+use Rattle.std.specs.Option.{option_or}
 use Rattle.std.proofs.lemmas.Bool.{and_from, and_right, and_left, cases_Bool, cases_eq, eq-eqb, le-ltb, lt-leb, ne_eqb, or_from}
 use Rattle.std.proofs.lemmas.Option.{same_Some}
 use Rattle.rv_word.specs.MemoryMap.{CODE_START, Profile}
@@ -17,58 +18,59 @@ use Rattle.cfi_unit.specs.declared.place.Place.TheVariants.{Handler as handler, 
 use Rattle.cfi_graph.specs.Graph.{ClassLine, GraphParts, calls_in}
 use Rattle.cfi_unit.specs.declared.target_word.TargetWord.{TargetWord}
 use Rattle.cfi_unit.specs.declared.target_word.TargetWord.TheVariants.{First, Second}
+use Rattle.cfi_unit.specs.Flow as F
+use Rattle.cfi_unit.specs.Flow.{Flow, flow_of}
 use Rattle.cfi_unit.specs.Prologue.{OPENING}
 use Rattle.cfi_unit.specs.Split.{IsSplit}
 use Rattle.cfi_unit.specs.UnitWords.{word_count}
 use Rattle.cfi_rules.specs.Lines.{class_with, holds_of, if_serves, is_beside, is_word_of, line_at, read_of, targets_for}
-use Rattle.cfi_rules.specs.Placed.{code_from, line_of, lines_from, placed_lines}
-use Rattle.cfi_rules.specs.Rules.{Holds, admits, asks, call_of, edge_of, fails_prologue, gate_label, gate_of, has_unit, is_astray, is_bad_end, is_borne, is_call_to, is_edge_to, is_label, is_lone_site, is_site_with, is_stop, is_unused, site_of}
-use Rattle.cfi_rules.specs.Sound.{Bears, IsSound, StartsIn, target_of}
+use Rattle.cfi_rules.specs.Placed.{code_from, line_by, line_of, lines_from, placed_lines}
+use Rattle.cfi_rules.specs.Rules.{Holds, admits, asked_by, asks, call_by, call_of, edge_by, edge_of, fails_prologue, gate_label, gate_of, has_unit, is_astray, is_bad_end, is_borne, is_call_to, is_edge_to, is_label, is_lone_site, is_site_with, is_stop, is_unused, site_of}
+use Rattle.cfi_rules.specs.Sound.{Bears, IsSound, StartsIn}
 use Rattle.cfi_rules.specs.Split.{entry_of, is_handler, is_start, place_at, unit_at, unit_in, unit_starts, unit_words}
 use Rattle.cfi_rules.specs.declared.asks.Asks.{Asks}
 use Rattle.cfi_rules.specs.declared.reject.Rule.{Rule}
 use Rattle.cfi_rules.specs.declared.reject.Rule.TheVariants as R
 use Rattle.cfi_unit.proofs.Counts.{some_word}
+use Rattle.cfi_unit.proofs.Flows.{Suits, suits, untested, direct_call, computed_jump, computed_call}
 use Rattle.cfi_rules.proofs.PlacedLines.{calls_before, class_before, gates_stand, line_in, line_past, no_class, none_lacks}
 use Rattle.cfi_rules.proofs.Places.{not_handler}
 use Rattle.cfi_rules.proofs.PlacedSplit.{reaches_end, start_is, unit_is}
 use Rattle.cfi_rules.proofs.UnitIn.{in_here, in_later, length-code_from, lies}
 
--- the rules at a unit
-target_unit : (u : U.Unit) (begun : ℕ → Bool) → ((t : ℕ) → target_of u ≡ Some t → begun t ≡ true) →
-    holds_of (edge_of (body u)) (λ t. not (begun t)) || holds_of (call_of (body u)) (λ t. not (begun t)) ≡ false
-target_unit (V.Branch op rs1 rs2 target) begun starts = rw (starts target refl) refl
-target_unit (V.Near op rs1 rs2 target) begun starts = rw (starts target refl) refl
-target_unit (V.Jump target) begun starts = rw (starts target refl) refl
-target_unit (V.Call target) begun starts = rw (starts target refl) refl
-target_unit other begun starts = refl
+-- the rules at a unit, by its flow
+target_flow : (f : Flow) → Suits f → (begun : ℕ → Bool) → ((t : ℕ) → option_or (edge_by f.sites f.exit) (call_by f.sites f.exit) ≡ Some t → begun t ≡ true) →
+    holds_of (edge_by f.sites f.exit) (λ t. not (begun t)) || holds_of (call_by f.sites f.exit) (λ t. not (begun t)) ≡ false
+target_flow f (untested (F.either op rs1 rs2 met target) act is) begun starts = rw (starts target refl) refl
+target_flow f (untested (F.to target) act is) begun starts = rw (starts target refl) refl
+target_flow f (direct_call target) begun starts = rw (starts target refl) refl
+target_flow f other begun starts = refl
 
-unlisted_unit : (u : U.Unit) (a : ℕ) →
-    holds_of (edge_of (body u)) (λ t. not (is_edge_to (line_of a u) t)) || holds_of (call_of (body u)) (λ t. not (is_call_to (line_of a u) t)) ≡ false
-unlisted_unit (V.Branch op rs1 rs2 target) a = rw (eq-eqb target target refl) refl
-unlisted_unit (V.Near op rs1 rs2 target) a = rw (eq-eqb target target refl) refl
-unlisted_unit (V.Jump target) a = rw (eq-eqb target target refl) refl
-unlisted_unit (V.Call target) a = rw (eq-eqb target target refl) refl
-unlisted_unit other a = refl
+abbrev line_with : Flow → ℕ → Option GraphLine
+line_with f a = line_by a (edge_by f.sites f.exit) (call_by f.sites f.exit) (asked_by f.test f.sites)
 
-unused_unit : (u : U.Unit) (a : ℕ) → holds_of (line_of a u) (is_unused (Some (body u))) ≡ false
-unused_unit (V.Branch op rs1 rs2 target) a = refl
-unused_unit (V.Near op rs1 rs2 target) a = refl
-unused_unit (V.Jump target) a = refl
-unused_unit (V.Call target) a = refl
-unused_unit (V.Ijump which rs1 imm label) a = refl
-unused_unit (V.Icall rs1 imm label) a = refl
-unused_unit other a = refl
+unlisted_flow : (f : Flow) → Suits f → (a : ℕ) →
+    holds_of (edge_by f.sites f.exit) (λ t. not (is_edge_to (line_with f a) t)) || holds_of (call_by f.sites f.exit) (λ t. not (is_call_to (line_with f a) t)) ≡ false
+unlisted_flow f (untested (F.either op rs1 rs2 met target) act is) a = rw (eq-eqb target target refl) refl
+unlisted_flow f (untested (F.to target) act is) a = rw (eq-eqb target target refl) refl
+unlisted_flow f (direct_call target) a = rw (eq-eqb target target refl) refl
+unlisted_flow f other a = refl
 
-site_unit : (u : U.Unit) (a : ℕ) (lines : List GraphLine) → ((asked : Asks) → site_of (body u) ≡ Some asked → is_some (targets_for lines asked.kind asked.which asked.label) ≡ true) →
-    holds_of (site_of (body u)) (λ (s : Asks). not (is_site_with (line_of a u) s && is_some (targets_for lines s.kind s.which s.label))) || holds_of (line_of a u) (is_lone_site (Some (body u))) ≡ false
-site_unit (V.Branch op rs1 rs2 target) a lines known = refl
-site_unit (V.Near op rs1 rs2 target) a lines known = refl
-site_unit (V.Jump target) a lines known = refl
-site_unit (V.Call target) a lines known = refl
-site_unit (V.Ijump which rs1 imm label) a lines known = rw (eq-eqb label label refl, known (asks K.Jump which label) refl) refl
-site_unit (V.Icall rs1 imm label) a lines known = rw (eq-eqb label label refl, known (asks K.Call First label) refl) refl
-site_unit other a lines known = refl
+unused_flow : (f : Flow) → Suits f → (place : Place) (a : ℕ) → edge_of place ≡ edge_by f.sites f.exit → call_of place ≡ call_by f.sites f.exit →
+    holds_of (line_with f a) (is_unused (Some place)) ≡ false
+unused_flow f (untested (F.either op rs1 rs2 met target) act is) place a edge call = ap (λ o. not (is_some o)) edge
+unused_flow f (untested (F.to target) act is) place a edge call = ap (λ o. not (is_some o)) edge
+unused_flow f (direct_call target) place a edge call = ap (λ o. not (is_some o)) call
+unused_flow f other place a edge call = refl
+
+site_flow : (f : Flow) → Suits f → (place : Place) (a : ℕ) (lines : List GraphLine) → site_of place ≡ asked_by f.test f.sites →
+    ((asked : Asks) → asked_by f.test f.sites ≡ Some asked → is_some (targets_for lines asked.kind asked.which asked.label) ≡ true) →
+    holds_of (asked_by f.test f.sites) (λ (s : Asks). not (is_site_with (line_with f a) s && is_some (targets_for lines s.kind s.which s.label))) || holds_of (line_with f a) (is_lone_site (Some place)) ≡ false
+site_flow f (computed_jump which rs1 imm label) place a lines site known = rw (eq-eqb label label refl, known (asks K.Jump which label) refl, site) refl
+site_flow f (computed_call rs1 imm label) place a lines site known = rw (eq-eqb label label refl, known (asks K.Call First label) refl, site) refl
+site_flow f (untested (F.either op rs1 rs2 met target) act is) place a lines site known = refl
+site_flow f (untested (F.to target) act is) place a lines site known = refl
+site_flow f other place a lines site known = refl
 
 astray_unit : (u : U.Unit) (a : ℕ) (lines : List GraphLine) →
     ((l : ℕ) (class : ClassLine) → u ≡ V.Gate l → class_with lines l ≡ Some class → is_word_of (read_of class.sort) a class.targets ≡ true) →
@@ -199,7 +201,7 @@ module _ (p : Profile) (words : List ℕ) (version entry : ℕ) (us : List U.Uni
   target_holds a =
       elim (spot a) [
         | opens place line ↦ rw (place, begun entry sound.entry_starts) refl
-        | stands u here place line ↦ rw place (target_unit u (is_start p words) (λ t leads. begun t (sound.targets a t u here leads)))
+        | stands u here place line ↦ rw place (target_flow (flow_of u) (suits u) (is_start p words) (λ t leads. begun t (sound.targets a t u here leads)))
         | quiet edge call site line ↦ rw (edge, call) refl
       ]
 
@@ -207,7 +209,7 @@ module _ (p : Profile) (words : List ℕ) (version entry : ℕ) (us : List U.Uni
   unlisted_holds a =
       elim (spot a) [
         | opens place line ↦ rw (place, line, eq-eqb entry entry refl) refl
-        | stands u here place line ↦ rw (place, line) (unlisted_unit u a)
+        | stands u here place line ↦ rw (place, line) (unlisted_flow (flow_of u) (suits u) a)
         | quiet edge call site line ↦ rw (edge, call) refl
       ]
 
@@ -215,7 +217,7 @@ module _ (p : Profile) (words : List ℕ) (version entry : ℕ) (us : List U.Uni
   unused_holds a =
       elim (spot a) [
         | opens place line ↦ rw (line, place) refl
-        | stands u here place line ↦ rw (line, place) (unused_unit u a)
+        | stands u here place line ↦ rw (line, place) (unused_flow (flow_of u) (suits u) (body u) a refl refl)
         | quiet edge call site line ↦ rw line refl
       ]
 
@@ -224,7 +226,7 @@ module _ (p : Profile) (words : List ℕ) (version entry : ℕ) (us : List U.Uni
       elim (spot a) [
         | opens place line ↦ rw (place, line) refl
         | stands u here place line ↦ rw (place, line)
-            (site_unit u a the_lines (λ asked is. ap is_some (targets_are asked.kind asked.which asked.label) ∙ sound.labels a u asked here is))
+            (site_flow (flow_of u) (suits u) (body u) a the_lines refl (λ asked is. ap is_some (targets_are asked.kind asked.which asked.label) ∙ sound.labels a u asked here is))
         | quiet edge call site line ↦ rw (site, line) refl
       ]
 

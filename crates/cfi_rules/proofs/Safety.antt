@@ -1,6 +1,6 @@
 -- A well-formed pair is safe: by induction on the steps, each step keeps what is known of all harts,
 -- and goes along the graph. What comes after a step may be any statement that follows from what is known.
-use Rattle.std.proofs.Common.{◌≡◌, ℕ, ◌+◌, ◌≤◌, ◌<◌, ◌⊎◌, inl, inr, List, [], ◌∷◌, length, refl, sym, ap, subst, ◌∙◌, Option, Some, None, arith}
+use Rattle.std.proofs.Common.{◌≡◌, ℕ, ◌+◌, ◌*◌, ◌≤◌, ◌<◌, ◌⊎◌, inl, inr, true, List, [], ◌∷◌, length, refl, sym, ap, subst, ◌∙◌, Option, Some, None, arith}
 use Rattle.std.specs.Prelude.{◌==◌, if◌then◌else◌}
 use Rattle.std.specs.List.{AllByRecursion}
 use Rattle.std.proofs.lemmas.Bool.{cases_eq, eq-eqb, ne_eqb}
@@ -15,9 +15,9 @@ use Rattle.rv_code.specs.Step.{step}
 use Rattle.rv_code.specs.declared.turn.Turn.{Turn}
 use Rattle.rv_code.specs.declared.turn.Turn.TheVariants.{Ran, Exit, Break}
 use Rattle.cfi_graph.specs.Graph.{GraphParts}
-use Rattle.cfi_unit.specs.declared.unit.Unit as U
-use Rattle.cfi_unit.specs.declared.unit.Unit.TheVariants as V
 use Rattle.cfi_unit.specs.declared.unit.SystemOp.TheVariants as S
+use Rattle.cfi_unit.specs.Flow as F
+use Rattle.cfi_unit.specs.Flow.{Act, flow_of}
 use Rattle.cfi_unit.specs.Context.{IsCodeOf, Context, SameOutside}
 use Rattle.cfi_unit.specs.InPlace.{InPlace}
 use Rattle.cfi_unit.specs.declared.place.Place.{Place}
@@ -25,15 +25,16 @@ use Rattle.cfi_unit.specs.declared.place.Place.TheVariants.{Handler as handler, 
 use Rattle.cfi_unit.specs.Place.{IsWordOf, place_size}
 use Rattle.cfi_unit.specs.Prologue.{OPENING}
 use Rattle.cfi_unit.specs.Shadow.{slot, Holds, MOST_PENDING}
-use Rattle.cfi_unit.specs.UnitLaw.{UnitEnds, Ends, Outcome, stays, leaves, ends, ReturnsTo}
+use Rattle.cfi_unit.specs.UnitLaw.{ActEnds, Ends, Outcome, stays, leaves, ends, ReturnsTo}
 use Rattle.cfi_unit.proofs.Changed.{in_place_changed, IsReady, place_begins}
 use Rattle.cfi_unit.proofs.Context.{holds_same}
 use Rattle.cfi_unit.proofs.Events.{unit_events}
+use Rattle.cfi_unit.proofs.Flows.{is_single, single_word}
 use Rattle.cfi_unit.proofs.Others.{other_part}
 use Rattle.cfi_unit.proofs.Parts.{own_is_part}
 use Rattle.cfi_unit.proofs.PlaceWords.{place_word}
 use Rattle.cfi_unit.proofs.UnitSteps.{unit_law}
-use Rattle.cfi_rules.specs.Along.{Walk, Walks, with_walk, GoesOn, Arrives, ShadowStands, MayExit, MayBreak, MayEnd, Begun, MayStart, OnRan, RunsAlong, AreStepsOf, IsSafe}
+use Rattle.cfi_rules.specs.Along.{Walk, Walks, with_walk, GoesOn, Arrives, ShadowStands, ActExits, ActBreaks, ActFaults, MayExit, MayBreak, MayFault, MayEnd, Begun, MayStart, OnRan, RunsAlong, AreStepsOf, IsSafe}
 use Rattle.cfi_rules.specs.Rules.{IsWellFormed}
 use Rattle.cfi_rules.specs.Split.{code_words, place_at}
 use Rattle.cfi_rules.specs.Laws.{AreBytes, WellFormedIsSafe}
@@ -72,30 +73,22 @@ module _ (p : Profile) where
   only_word place at pc one word = let below = word.1 in let here = word.2 in omega arith
 
   module _ (at pc : ℕ) (turn : Turn) (rest stopped : Type 0) (left : stopped) where
-    ended_unit : (unit : U.Unit) → IsWordOf p (body unit) at pc → UnitEnds unit at turn → Ended (body unit) pc turn rest stopped
-    ended_unit (V.Gate label) word how = absurd how
-    ended_unit (V.Plain instr) word how =
-        subst (λ (t : Turn). Ended (body (V.Plain instr)) pc t rest stopped) (sym how.1)
-        (record { may = (only_word (body (V.Plain instr)) at pc refl word, tt); on = left })
-    ended_unit (V.Branch op rs1 rs2 target) word how = absurd how
-    ended_unit (V.Near op rs1 rs2 target) word how = absurd how
-    ended_unit (V.Jump target) word how = absurd how
-    ended_unit V.Stop word how = absurd how
-    ended_unit (V.System S.Ecall) word how = exits (body (V.System S.Ecall)) pc turn rest stopped tt how.0 how.1 left
-    ended_unit (V.System S.Ebreak) word how =
-        breaks (body (V.System S.Ebreak)) at pc turn rest stopped tt (only_word (body (V.System S.Ebreak)) at pc refl word) how left
-    ended_unit (V.Guarded ns) word how = exits (body (V.Guarded ns)) pc turn rest stopped tt how.0 how.1 left
-    ended_unit (V.Stores rs1 imm members) word how = absurd how
-    ended_unit (V.Call target) word how = absurd how
-    ended_unit (V.Ijump which rs1 imm label) word how = absurd how
-    ended_unit (V.Icall rs1 imm label) word how = absurd how
-    ended_unit V.Return word how = absurd how
+    ended_act : (place : Place) (act : Act) → (ActExits act → MayExit place) → (ActBreaks act → MayBreak place) → (ActFaults act → MayFault place) →
+        (is_single act ≡ true → at ≡ pc) → ActEnds act at turn → Ended place pc turn rest stopped
+    ended_act place (F.does instr) may_exit may_break may_fault same how =
+        subst (λ (t : Turn). Ended place pc t rest stopped) (sym how.1) (record { may = (same refl, may_fault tt); on = left })
+    ended_act place (F.system S.Ecall) may_exit may_break may_fault same how = exits place pc turn rest stopped (may_exit tt) how.0 how.1 left
+    ended_act place (F.system S.Ebreak) may_exit may_break may_fault same how = breaks place at pc turn rest stopped (may_break tt) (same refl) how left
+    ended_act place F.calls may_exit may_break may_fault same how = exits place pc turn rest stopped (may_exit tt) how.0 how.1 left
+    ended_act place other may_exit may_break may_fault same how = absurd how
 
     ended : (place : Place) → IsWordOf p place at pc → Ends place at turn → Ended place pc turn rest stopped
     ended handler word how = breaks handler at pc turn rest stopped tt (only_word handler at pc refl word) how left
     ended (opening entry) word how = absurd how
     ended closing word how = exits closing pc turn rest stopped tt how.0 how.1 left
-    ended (body unit) word how = ended_unit unit word how
+    ended (body unit) word how =
+        ended_act (body unit) (flow_of unit).act (λ m. m) (λ m. m) (λ m. m)
+        (λ single. only_word (body unit) at pc (ap (λ n. 4 * n) (single_word unit single)) word) how
 
 module _ (p : Profile) (profile : IsProfile p) (image : Contents) (graph : GraphParts) (bytes : AreBytes image) (formed : IsWellFormed p image graph) where
   abbrev pub the_words : List ℕ

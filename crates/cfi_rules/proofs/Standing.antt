@@ -1,5 +1,5 @@
 -- The units of the split, and the prologue, stand in the loaded image.
-use Rattle.std.proofs.Common.{◌≡◌, ℕ, zero, suc, ◌+◌, ◌-◌, ◌*◌, ◌/◌, List, [], ◌∷◌, length, length-append, drop, take, refl, sym, ap, ◌∙◌, Some, arith}
+use Rattle.std.proofs.Common.{◌≡◌, ℕ, zero, suc, ◌+◌, ◌-◌, ◌*◌, ◌/◌, List, [], ◌∷◌, length, drop, take, refl, sym, ap, ◌∙◌, Some, arith}
 use Rattle.std.specs.Prelude.{slice_get, option_map}
 use Rattle.std.proofs.lemmas.List.{length-map}
 use Rattle.std.proofs.lemmas.Option.{slice_get-map}
@@ -9,17 +9,13 @@ use Rattle.rv_word.proofs.Versions.{LaidOut}
 use Rattle.rv_word.specs.Memory.{read, loaded}
 use Rattle.rv_instr.specs.InRange.{IsInstr}
 use Rattle.rv_instr.specs.declared.instr.Instr.{Instr}
-use Rattle.rv_instr.specs.declared.instr.Instr.TheVariants.{Ecall}
 use Rattle.rv_code.specs.Decode.{decoded}
 use Rattle.rv_code.specs.Encode.{code_of}
 use Rattle.rv_code.proofs.ReadBack.{decoded-code_of}
 use Rattle.cfi_unit.specs.declared.unit.Unit as U
-use Rattle.cfi_unit.specs.declared.unit.Unit.TheVariants as V
-use Rattle.cfi_unit.specs.Guarded.{guards}
-use Rattle.cfi_unit.specs.Members.{member_instr}
 use Rattle.cfi_unit.specs.Stand.{Stand}
-use Rattle.cfi_unit.specs.UnitWords.{BAD_TARGET, instrs_of, jump, words_of, word_count}
-use Rattle.cfi_unit.proofs.GuardedWords.{guards_counted}
+use Rattle.cfi_unit.specs.UnitWords.{instrs_of, words_of, word_count}
+use Rattle.cfi_unit.proofs.Found.{words_counted}
 use Rattle.cfi_rules.specs.Split.{code_words}
 use Rattle.cfi_rules.specs.Laws.{AreBytes}
 use Rattle.cfi_rules.proofs.Bytes.{loaded_word, length-code_words}
@@ -40,19 +36,8 @@ get_dropped (suc n) (y ∷ ys) k = get_dropped n ys k ∙ ap (slice_get (y ∷ y
 
 -- a unit has as many instructions as words
 pub instrs_counted : (u : U.Unit) (at : ℕ) → length (instrs_of u at) ≡ word_count u
-instrs_counted (V.Gate label) at = refl
-instrs_counted (V.Plain instr) at = refl
-instrs_counted (V.Branch op rs1 rs2 target) at = refl
-instrs_counted (V.Near op rs1 rs2 target) at = refl
-instrs_counted (V.Jump target) at = refl
-instrs_counted V.Stop at = refl
-instrs_counted (V.System op) at = refl
-instrs_counted (V.Guarded ns) at = length-append (guards ns) (jump (at + 8 * length ns) BAD_TARGET ∷ Ecall ∷ []) ∙ (let counted = guards_counted ns in omega arith)
-instrs_counted (V.Stores rs1 imm members) at = let counted = length-map members member_instr in omega arith
-instrs_counted (V.Call target) at = refl
-instrs_counted (V.Ijump which rs1 imm label) at = refl
-instrs_counted (V.Icall rs1 imm label) at = refl
-instrs_counted V.Return at = refl
+unfolding words_of
+instrs_counted u at = sym (length-map (instrs_of u at) code_of) ∙ words_counted u at
 
 module _ (image : Contents) where
   -- a code word that is an instruction's is fetched as it

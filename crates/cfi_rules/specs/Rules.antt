@@ -22,7 +22,7 @@ use Rattle.cfi_unit.specs.declared.place.Place.TheVariants.{Opening as opening, 
 use Rattle.cfi_unit.specs.declared.target_word.TargetWord.{TargetWord}
 use Rattle.cfi_unit.specs.declared.target_word.TargetWord.TheVariants.{First, Second}
 use Rattle.cfi_unit.specs.Flow as F
-use Rattle.cfi_unit.specs.Flow.{Exit, Sites, Test, flow_of}
+use Rattle.cfi_unit.specs.Flow.{Act, Exit, Sites, Test, flow_of}
 use Rattle.cfi_unit.specs.Prologue.{prologue_instrs}
 use Rattle.cfi_unit.specs.UnitWords.{after_unit}
 use Rattle.cfi_rules.specs.Lines.{holds_of, line_at, class_with, targets_for, is_among, is_beside, read_of}
@@ -142,17 +142,25 @@ same_word First First = true
 same_word Second Second = true
 same_word which other = false
 
+-- a check before a jump reads that word; one that puts a site on top is a call's
+abbrev pub test_is_of_version : ℕ → Test → Sites → Bool
+test_is_of_version version test F.pushes = true
+test_is_of_version version (F.borne which rs1 imm label) sites = same_word which (jump_word version)
+test_is_of_version version other sites = true
+
 abbrev pub is_of_version : ℕ → U.Unit → Bool
-is_of_version version (V.Ijump which rs1 imm label) = same_word which (jump_word version)
-is_of_version version other = true
+is_of_version version unit = test_is_of_version version (flow_of unit).test (flow_of unit).sites
 
 -- with a list of system calls each `ecall` is guarded by just its numbers; without a list none is
+abbrev pub act_may_call : Option (List ℕ) → Test → Act → Bool
+act_may_call None test F.calls = false
+act_may_call (Some calls) test (F.system S.Ecall) = false
+act_may_call (Some calls) (F.listed numbers) F.calls = are_same numbers calls
+act_may_call (Some calls) test F.calls = false
+act_may_call calls test other = true
+
 abbrev pub may_call : Option (List ℕ) → U.Unit → Bool
-may_call None (V.System S.Ecall) = true
-may_call None (V.Guarded ns) = false
-may_call (Some calls) (V.System S.Ecall) = false
-may_call (Some calls) (V.Guarded ns) = are_same ns calls
-may_call calls other = true
+may_call calls unit = act_may_call calls (flow_of unit).test (flow_of unit).act
 
 -- code whose graph has this version and this list, or no list, may have a unit
 abbrev pub admits : ℕ → Option (List ℕ) → U.Unit → Bool

@@ -1,7 +1,7 @@
--- Each unit's row, seen from the program: what the unit is left with matches what the program's own
--- step leaves.
-use Rattle.std.proofs.Common.{◌≡◌, ◌≢◌, ℕ, ◌+◌, ◌-◌, ◌==◌, ◌≤◌, ◌||◌, Bool, true, false, List, [], ◌∷◌, length, inl, if◌then◌else◌, refl, sym, ap, subst, ◌∙◌, arith}
+-- A unit's flow, seen from the program: what the unit is left with matches what the program's own step leaves.
+use Rattle.std.proofs.Common.{◌≡◌, ◌≢◌, ℕ, zero, suc, ◌+◌, ◌-◌, ◌^◌, ◌==◌, ◌≤◌, ◌<◌, ◌||◌, Bool, true, false, List, [], ◌∷◌, length, inl, inr, if◌then◌else◌, refl, sym, ap, subst, ◌∙◌, arith}
 use Rattle.std.specs.List.{AllByRecursion, list_any}
+use Rattle.std.proofs.lemmas.Bool.{cases_Bool, eqb-true, false≢true}
 use Rattle.rv_word.specs.MemoryMap.{Profile, SHADOW_START}
 use Rattle.rv_word.specs.Memory.{Memory, write}
 use Rattle.rv_word.specs.Numbers.{is_listed}
@@ -19,23 +19,25 @@ use Rattle.cfi_unit.specs.declared.members.Member.{Member}
 use Rattle.cfi_unit.specs.declared.target_word.TargetWord.{TargetWord}
 use Rattle.cfi_unit.specs.declared.target_word.TargetWord.TheVariants.{First}
 use Rattle.cfi_unit.specs.declared.unit.Unit as U
-use Rattle.cfi_unit.specs.declared.unit.Unit.TheVariants as V
 use Rattle.cfi_unit.specs.declared.unit.SystemOp.TheVariants as S
+use Rattle.cfi_unit.specs.Flow as F
+use Rattle.cfi_unit.specs.Flow.{Act, Exit, Flow, flow_of}
 use Rattle.cfi_unit.specs.UnitWords.{Fits, after_unit, word_count}
-use Rattle.cfi_unit.specs.Shadow.{slot}
+use Rattle.cfi_unit.specs.Shadow.{MOST_PENDING, slot}
 use Rattle.cfi_unit.specs.Between.{Unchanged}
 use Rattle.cfi_unit.specs.UnitLaw.{ReturnsTo}
 use Rattle.cfi_unit.specs.Leads.{HasLabel, sum_of, destination}
-use Rattle.cfi_unit.specs.Leaving.{SameRegisters, LeftTo, Executes, pushed, stored_at}
+use Rattle.cfi_unit.specs.Leaving.{CallsAt, SameRegisters, LeftTo, Executes, StoresEach, masked, pushed, stored_at, with_memory}
+use Rattle.cfi_unit.specs.Effect.{ActDoes, CallDoes, ExitDoes, FlowDoes, ReturnDoes, UnitDoes}
 use Rattle.cfi_unit.specs.EffectLaw.{Enters}
+use Rattle.cfi_unit.proofs.Counts.{some_word}
 use Rattle.cfi_unit.proofs.EffectSteps.{same_link}
+use Rattle.cfi_unit.proofs.Flows.{ActFits, Suits, act_fits, is_single, is_untested, single_word, suits, untested, direct_call, guarded_call, computed_jump, computed_call, turned_back}
 use Rattle.cfi_runs.specs.MatchLaws as law
 use Rattle.cfi_runs.specs.Matching.{SameData, Matches, MatchesAfter}
-use Rattle.cfi_runs.specs.Own.{Own, calls, computed, executes, goes, own_step, returns, stored_all}
+use Rattle.cfi_runs.specs.Own.{Own, calls, computed, executes, goes, own_act, own_exit, own_step, returns, stored_all}
 use Rattle.cfi_runs.specs.OwnRuns.{SitesFit}
-use Rattle.cfi_runs.specs.Passes.{Passes}
-use Rattle.cfi_runs.specs.StandsFor.{StandsFor, StandsPast, Called}
-use Rattle.cfi_runs.specs.Tame.{IsTame, NamesNoReserved}
+use Rattle.cfi_runs.specs.Tame.{ActTame, ExitTame, IsTame, NamesNoReserved, ReturnTame, TestTame, act_names, exit_names}
 use Rattle.cfi_runs.proofs.Alike.{AlikeAfter, sum_same, is_self, or_first, or_second, plain_alike, break_alike}
 use Rattle.cfi_runs.proofs.AlikeCalls.{call_alike}
 use Rattle.cfi_runs.proofs.Calmly.{within_weaker}
@@ -88,6 +90,23 @@ all_alike a r regs (m ∷ members) t s same free alike =
     (λ k low.
     ap (λ (v : ℕ). write n s.memory (a + m.distance) v k) (get_same r regs m.value free.0 same)
     ∙ write_alike n t.memory s.memory (a + m.distance) (get_reg r m.value) alike.memory k low))
+
+-- x31 alone is written
+other_same : (r : Registers) (v k : ℕ) → k ≢ 31 → get_reg (set_reg r 31 v) k ≡ get_reg r k
+other_same r v zero other = refl
+other_same r v (suc k) other =
+    elim (cases_Bool (suc k == 31)) [ inl here ↦ absurd (other (eqb-true (suc k) 31 here)) | inr no_31 ↦ rw no_31 refl ]
+
+-- where nothing happens between them, and none stores x31
+each_stored : (a v : ℕ) (r : Registers) (members : List Member) (s s' : Shared) → AllByRecursion (λ (m : Member). m.value ≢ 31) members →
+    StoresEach Unchanged a (set_reg r 31 v) members s s' → s' ≡ stored_all a r members s
+each_stored a v r [] s s' none each = each
+each_stored a v r (m ∷ members) s s' none each =
+    let (seen, t, others) = each in
+    let first : stored_at a (set_reg r 31 v) m seen ≡ stored_at a r m s =
+    ap (λ (x : Shared). stored_at a (set_reg r 31 v) m x) t
+    ∙ ap (λ (y : ℕ). with_memory s (write (store_size m.op) s.memory (a + m.distance) y)) (other_same r v m.value none.0) in
+    each_stored a v r members (stored_at a (set_reg r 31 v) m seen) s' none.1 others ∙ ap (λ (x : Shared). stored_all a r members x) first
 
 module _ (part : ℕ) (image base : Memory) where
   -- a unit that is left to an address
@@ -149,26 +168,6 @@ module _ (p : Profile) (part : ℕ) (image base : Memory) (o : Own) (h : Hart) (
       HasLabel image which label (destination h.regs rs1 imm)
   bears which rs1 imm label free has = subst (HasLabel image which label) (sym (computed_here which rs1 imm label free has)) has
 
-  returns_so : (sites : List ℕ) → IsTame image V.Return sites o.regs → Passes image V.Return sites h.regs
-  returns_so [] tame = tame
-  returns_so (site ∷ sites) tame = same.same 1 refl ∙ tame
-
-  passes : (unit : U.Unit) → NamesNoReserved unit → IsTame image unit o.pending o.regs → Passes image unit o.pending h.regs
-  passes (V.Gate label) free tame = tt
-  passes (V.Plain instr) free tame = tt
-  passes (V.Branch op rs1 rs2 target) free tame = tt
-  passes (V.Near op rs1 rs2 target) free tame = tt
-  passes (V.Jump target) free tame = tt
-  passes V.Stop free tame = tt
-  passes (V.System op) free tame = tt
-  passes (V.Guarded numbers) free tame = ap (λ (x : ℕ). is_listed x numbers) (same.same 17 refl) ∙ tame
-  passes (V.Stores rs1 imm members) free tame =
-      let e = sum_here rs1 imm (base_free rs1 members free) in (omega arith, none_scratch members (stores_free rs1 members free))
-  passes (V.Call target) free tame = tame
-  passes (V.Ijump which rs1 imm label) free tame = bears which rs1 imm label (free rs1 (is_self rs1)) tame
-  passes (V.Icall rs1 imm label) free tame = (bears First rs1 imm label (free rs1 (is_self rs1)) tame.0, tame.1)
-  passes V.Return free tame = returns_so o.pending tame
-
   taken_here : (op : BranchOp) (rs1 rs2 : ℕ) → is_reserved rs1 ≡ false → is_reserved rs2 ≡ false →
       branch_taken op (get_reg h.regs rs1) (get_reg h.regs rs2) ≡ branch_taken op (get_reg o.regs rs1) (get_reg o.regs rs2)
   taken_here op rs1 rs2 free1 free2 =
@@ -184,6 +183,22 @@ module _ (p : Profile) (part : ℕ) (image base : Memory) (o : Own) (h : Hart) (
   stored_here rs1 imm members base free =
       subst (λ (a : ℕ). SameData (stored rs1 imm members) (stored_all a h.regs members s)) (sym (sum_here rs1 imm base))
       (all_alike (sum_of o.regs rs1 imm) o.regs h.regs members o.shared s same free alike)
+
+  only_stored : (rs1 imm : ℕ) (members : List Member) → is_reserved rs1 ≡ false → StoreFree members → sum_of o.regs rs1 imm < 2 ^ 28 → (past : ℕ) (after : After) →
+      ActDoes p part image base Unchanged h s (F.stores rs1 imm members) F.on F.keeps past o.pending after →
+      LeftTo part image base past o.pending h.regs (Unchanged (stored_all (sum_of h.regs rs1 imm) h.regs members s)) after
+  only_stored rs1 imm members base_is values below past after does = record {
+    turn = does.turn;
+    pc = does.pc;
+    regs = does.regs;
+    pointer = does.pointer;
+    shared =
+        let e = sum_here rs1 imm base_is in
+        let low : masked h.regs rs1 imm ≡ sum_of h.regs rs1 imm = omega arith in
+        each_stored (masked h.regs rs1 imm) (masked h.regs rs1 imm) h.regs members s after.shared (none_scratch members values) does.shared
+        ∙ ap (λ (a : ℕ). stored_all a h.regs members s) low;
+    context = does.context;
+  }
 
   pushed_here : (site : ℕ) → SameData o.shared (pushed part (length o.pending) site s)
   pushed_here site = record {
@@ -202,54 +217,81 @@ module _ (p : Profile) (part : ℕ) (image base : Memory) (o : Own) (h : Hart) (
       MatchesAfter part image base (goes p o next) after
   goes_so next next' e = left_matches part image base (record o { pc = next }) next' h.regs s e same alike
 
-  calls_so : (target target' site : ℕ) → target' ≡ target → (after : After) → Called p part image base h s target' site o.pending after →
-      MatchesAfter part image base (calls p o target site) after
-  calls_so target target' site e =
+  called : (target target' site : ℕ) → target' ≡ target → length o.pending < MOST_PENDING → (after : After) →
+      CallDoes p part image base Unchanged h s target' site o.pending after → MatchesAfter part image base (calls p o target site) after
+  called target target' site e room after (inl does) =
       left_matches part image base (record o { pc = target; regs = set_reg o.regs 1 site; pending = site ∷ o.pending }) target' _ _ e
-      (same_link o.regs h.regs site site refl same) (pushed_here site)
+      (same_link o.regs h.regs site site refl same) (pushed_here site) after does.1
+  called target target' site e room after (inr full) = let none = full.0 in absurd (omega arith)
 
-  returned : (past : ℕ) (sites : List ℕ) (after : After) → StandsPast p part image base h s V.Return past sites after →
+  returned : (sites : List ℕ) → ReturnTame sites o.regs → (after : After) → ReturnDoes p part image base Unchanged h s sites after →
       MatchesAfter part image base (returns p o sites) after
-  returned past [] after does = absurd does
-  returned past (site ∷ sites) after does =
-      left_matches part image base (record o { pc = site; pending = sites }) site h.regs s refl same alike after does
+  returned [] tame after does = absurd tame
+  returned (site ∷ sites) tame after (inl does) =
+      left_matches part image base (record o { pc = site; pending = sites }) site h.regs s refl same alike after does.1
+  returned (site ∷ sites) tame after (inr halts) = absurd (halts.0 (same.same 1 refl ∙ tame))
 
-  row : (unit : U.Unit) → Fits unit o.pc → NamesNoReserved unit → IsTame image unit o.pending o.regs → (after : After) →
-      StandsFor p part image base h s unit o.pc o.pending after → MatchesAfter part image base (own_step p o unit) after
-  row (V.Gate label) fits free tame after does = goes_so _ _ refl after does
-  row (V.Plain instr) fits free tame after does =
-      let e = m.pc in
-      executed_matches part image base p instr o _ h s (omega arith) m.pointer
-      (at_here instr (plain_alike p o.regs o.shared h s same alike instr fits.1 free tame)) after does
-  row (V.Branch op rs1 rs2 target) fits free tame after does =
-      goes_so _ _
-      (ap (λ (b : Bool). if b then o.pc + 8 else target) (taken_here op rs1 rs2 (first_free rs1 rs2 free) (second_free rs1 rs2 free)))
-      after does
-  row (V.Near op rs1 rs2 target) fits free tame after does =
-      goes_so _ _
-      (ap (λ (b : Bool). if b then target else o.pc + 4) (taken_here op rs1 rs2 (first_free rs1 rs2 free) (second_free rs1 rs2 free)))
-      after does
-  row (V.Jump target) fits free tame after does = goes_so _ _ refl after does
-  row V.Stop fits free tame after does = absurd tame
-  row (V.System S.Ecall) fits free tame after does =
-      let e = m.pc in
-      executed_matches part image base p Ecall o _ h s (omega arith) m.pointer (call_alike o.regs o.pc h same o.shared s alike) after does
-  row (V.System S.Ebreak) fits free tame after does =
-      let e = m.pc in
-      executed_matches part image base p Ebreak o _ h s (omega arith) m.pointer
-      (at_here Ebreak (break_alike p o.regs o.shared h s same alike)) after does
-  row (V.Guarded numbers) fits free tame after does =
+  exit_matches : (exit : Exit) (past : ℕ) → is_untested exit ≡ true → ((k : ℕ) → exit_names exit k ≡ true → is_reserved k ≡ false) →
+      ExitTame exit F.keeps o.pending → (after : After) → ExitDoes p part image base Unchanged h s exit F.keeps past o.pending after →
+      MatchesAfter part image base (own_exit p o exit F.keeps past) after
+  exit_matches (F.either op rs1 rs2 true target) past is free tame after does =
+      goes_so _ _ (ap (λ (b : Bool). if b then target else past) (taken_here op rs1 rs2 (first_free rs1 rs2 free) (second_free rs1 rs2 free))) after does
+  exit_matches (F.either op rs1 rs2 false target) past is free tame after does =
+      goes_so _ _ (ap (λ (b : Bool). if b then past else target) (taken_here op rs1 rs2 (first_free rs1 rs2 free) (second_free rs1 rs2 free))) after does
+  exit_matches (F.halts stop) past is free tame after does = absurd tame
+  exit_matches (F.computed rs1 imm) past is free tame after does = absurd (cc)
+  exit_matches F.back past is free tame after does = absurd (cc)
+  exit_matches other past is free tame after does = goes_so _ _ refl after does
+
+  made : (past : ℕ) → 4 ≤ past → (after : After) → CallsAt p part image base (past - 4) o.pending h.regs (Unchanged s) after →
+      MatchesAfter part image base (executes p o Ecall o.regs past) after
+  made past some after does =
       let here = does.here in
-      executed_matches part image base p Ecall o _ does.hart s (omega arith) does.pointer
+      executed_matches part image base p Ecall o past does.hart s (omega arith) does.pointer
       (call_alike o.regs o.pc does.hart (same_trans o.regs h.regs does.hart.regs same does.same) o.shared s alike) after does.executes
-  row (V.Stores rs1 imm members) fits free tame after does =
-      left_matches part image base (record o { pc = after_unit (V.Stores rs1 imm members) o.pc; shared = stored rs1 imm members }) _ _ _ refl same
-      (stored_here rs1 imm members (base_free rs1 members free) (stores_free rs1 members free)) after does
-  row (V.Call target) fits free tame after does = calls_so _ _ _ refl after does
-  row (V.Ijump which rs1 imm label) fits free tame after does = goes_so _ _ (computed_here which rs1 imm label (free rs1 (is_self rs1)) tame) after does
-  row (V.Icall rs1 imm label) fits free tame after does =
-      calls_so _ _ _ (computed_here First rs1 imm label (free rs1 (is_self rs1)) tame.0) after does
-  row V.Return fits free tame after does = returned (o.pc + 20) o.pending after does
+
+  act_matches : (act : Act) (exit : Exit) (past : ℕ) → is_untested exit ≡ true → ActFits act → (is_single act ≡ true → past ≡ h.pc + 4) → 4 ≤ past →
+      ((k : ℕ) → act_names act exit k ≡ true → is_reserved k ≡ false) → ActTame act exit F.keeps o.pending o.regs → (after : After) →
+      ActDoes p part image base Unchanged h s act exit F.keeps past o.pending after → MatchesAfter part image base (own_act p o act exit F.keeps past) after
+  act_matches F.none exit past is fits single some free tame after does = exit_matches exit past is free tame after does
+  act_matches (F.does instr) exit past is fits single some free tame after does =
+      executed_matches part image base p instr o past h s (single refl) m.pointer
+      (at_here instr (plain_alike p o.regs o.shared h s same alike instr fits free tame)) after does
+  act_matches (F.system S.Ecall) exit past is fits single some free tame after does =
+      executed_matches part image base p Ecall o past h s (single refl) m.pointer (call_alike o.regs o.pc h same o.shared s alike) after does
+  act_matches (F.system S.Ebreak) exit past is fits single some free tame after does =
+      executed_matches part image base p Ebreak o past h s (single refl) m.pointer
+      (at_here Ebreak (break_alike p o.regs o.shared h s same alike)) after does
+  act_matches F.calls exit past is fits single some free tame after does = made past some after does
+  act_matches (F.stores rs1 imm members) exit past is fits single some free tame after does =
+      let base_is = base_free rs1 members free in
+      let values = stores_free rs1 members free in
+      left_matches part image base (record o { pc = past; shared = stored rs1 imm members }) past h.regs _ refl same
+      (stored_here rs1 imm members base_is values) after (only_stored rs1 imm members base_is values tame past after does)
+
+  flow_matches : (f : Flow) → Suits f → (past : ℕ) → ActFits f.act → (is_single f.act ≡ true → past ≡ h.pc + 4) → 4 ≤ past →
+      ((k : ℕ) → act_names f.act f.exit k ≡ true → is_reserved k ≡ false) → TestTame image f.test f o.pending o.regs → (after : After) →
+      FlowDoes p part image base Unchanged h s f past o.pending after → MatchesAfter part image base (own_act p o f.act f.exit f.sites past) after
+  flow_matches f (untested exit act is) past fits single some free tame after does = act_matches act exit past is fits single some free tame after does
+  flow_matches f (direct_call target) past fits single some free tame after does = called _ _ _ refl tame after does
+  flow_matches f (guarded_call numbers) past fits single some free tame after (inl does) = made past some after does.1
+  flow_matches f (guarded_call numbers) past fits single some free tame after (inr halts) =
+      absurd (false≢true (sym halts.0 ∙ ap (λ (x : ℕ). is_listed x numbers) (same.same 17 refl) ∙ tame))
+  flow_matches f (computed_jump which rs1 imm label) past fits single some free tame after (inl does) =
+      goes_so _ _ (computed_here which rs1 imm label (free rs1 (is_self rs1)) tame) after does.1
+  flow_matches f (computed_jump which rs1 imm label) past fits single some free tame after (inr halts) =
+      absurd (halts.0 (bears which rs1 imm label (free rs1 (is_self rs1)) tame))
+  flow_matches f (computed_call rs1 imm label) past fits single some free tame after (inl does) =
+      called _ _ _ (computed_here First rs1 imm label (free rs1 (is_self rs1)) tame.0) tame.1 after does.1
+  flow_matches f (computed_call rs1 imm label) past fits single some free tame after (inr halts) =
+      absurd (halts.0 (bears First rs1 imm label (free rs1 (is_self rs1)) tame.0))
+  flow_matches f turned_back past fits single some free tame after does = returned o.pending tame after does
+
+  unit_matches : (unit : U.Unit) → Fits unit o.pc → NamesNoReserved unit → IsTame image unit o.pending o.regs → (after : After) →
+      UnitDoes p part image base Unchanged h s unit o.pc o.pending after → MatchesAfter part image base (own_step p o unit) after
+  unit_matches unit fits free tame =
+      let e = m.pc in let some = some_word unit in
+      flow_matches (flow_of unit) (suits unit) (after_unit unit o.pc) (act_fits unit o.pc fits) (λ single. let one = single_word unit single in omega arith) (omega arith) free tame
 
 -- the newest site is an instruction's address
 returns_to : (pending : List ℕ) → SitesFit pending → ReturnsTo pending
@@ -269,8 +311,6 @@ unit_keeps_match p part image base unit o h s own bytes fit step_is m =
       pc = m.pc;
       pointer = m.pointer;
     } in
-    within_weaker p (StandsFor p part image base h s unit o.pc o.pending) (MatchesAfter part image base (own_step p o unit))
-    (row p part image base o h s own.low m unit step_is.fits step_is.free step_is.tame)
-    (word_count unit - 1) (step p h s)
-    (unit_runs p part image base unit o.pc o.pending h s i
-    (passes p part image base o h s own.low m unit step_is.free step_is.tame))
+    within_weaker p (UnitDoes p part image base Unchanged h s unit o.pc o.pending) (MatchesAfter part image base (own_step p o unit))
+    (unit_matches p part image base o h s own.low m unit step_is.fits step_is.free step_is.tame)
+    (word_count unit - 1) (step p h s) (unit_runs p part image base unit o.pc o.pending h s i)

@@ -1,73 +1,63 @@
 -- A path of tame steps is matched, unit after unit.
-use Rattle.std.proofs.Common.{◌≡◌, ℕ, suc, ◌-◌, ◌%◌, ◌^◌, ◌<◌, inr, List, [], ◌∷◌, length, refl, sym, subst, ◌∙◌, arith}
+use Rattle.std.proofs.Common.{◌≡◌, ℕ, suc, ◌-◌, ◌%◌, ◌^◌, ◌<◌, inr, true, false, List, [], ◌∷◌, length, refl, sym, subst, ◌∙◌, arith}
 use Rattle.rv_word.specs.MemoryMap.{Profile}
 use Rattle.rv_word.specs.Memory.{Memory}
 use Rattle.rv_code.specs.State.{Hart, Shared, After}
 use Rattle.rv_code.specs.Step.{stops}
 use Rattle.rv_code.specs.declared.turn.Turn.TheVariants.{Ran}
 use Rattle.cfi_unit.specs.declared.unit.Unit as U
-use Rattle.cfi_unit.specs.declared.unit.Unit.TheVariants as V
-use Rattle.cfi_unit.specs.UnitWords.{instrs_of, word_count}
+use Rattle.cfi_unit.specs.Flow as F
+use Rattle.cfi_unit.specs.Flow.{Act, Exit, Flow, flow_of}
+use Rattle.cfi_unit.specs.UnitWords.{after_unit, word_count}
 use Rattle.cfi_unit.specs.Shadow.{IsPart, MOST_PENDING}
-use Rattle.cfi_unit.specs.Stand.{Stand}
+use Rattle.cfi_unit.proofs.Counts.{most_words, some_word}
+use Rattle.cfi_unit.proofs.Flows.{Suits, is_untested, suits, untested, direct_call, guarded_call, computed_jump, computed_call, turned_back}
 use Rattle.cfi_runs.specs.MatchLaws as law
 use Rattle.cfi_runs.specs.MatchLaws.{ComesTo}
 use Rattle.cfi_runs.specs.Matching.{Matches, MatchesAfter}
-use Rattle.cfi_runs.specs.Own.{Own, own_step, returns}
+use Rattle.cfi_runs.specs.Own.{Own, own_act, own_exit, own_step, returns}
 use Rattle.cfi_runs.specs.OwnRuns.{SitesFit, words_along}
-use Rattle.cfi_runs.specs.Tame.{IsTame, TameStep}
+use Rattle.cfi_runs.specs.Tame.{ReturnTame, TameStep, TestTame}
 use Rattle.cfi_runs.specs.Within.{Within}
 use Rattle.cfi_runs.proofs.Calmly.{within_going, within_then}
 use Rattle.cfi_runs.proofs.Matched.{unit_keeps_match}
 
 -- each unit has a word
 pub one_word : (unit : U.Unit) → suc (word_count unit - 1) ≡ word_count unit
-one_word (V.Gate label) = refl
-one_word (V.Plain instr) = refl
-one_word (V.Branch op rs1 rs2 target) = refl
-one_word (V.Near op rs1 rs2 target) = refl
-one_word (V.Jump target) = refl
-one_word V.Stop = refl
-one_word (V.System op) = refl
-one_word (V.Guarded numbers) = omega arith
-one_word (V.Stores rs1 imm members) = omega arith
-one_word (V.Call target) = refl
-one_word (V.Ijump which rs1 imm label) = refl
-one_word (V.Icall rs1 imm label) = refl
-one_word V.Return = refl
+one_word unit = let some = some_word unit in omega arith
 
--- a call's site lies in code
-called_fit : {image : Memory} (unit : U.Unit) (at site : ℕ) (pending : List ℕ) → Stand image at (instrs_of unit at) → site % 2 ≡ 0 → site < 2 ^ 64 →
-    length pending < MOST_PENDING → SitesFit pending → SitesFit (site ∷ pending)
-called_fit unit at site pending w even small room fit = record { each = ((even, small), fit.each); most = omega arith }
+module _ (p : Profile) (image : Memory) (o : Own) (past : ℕ) (even : past % 2 ≡ 0) (small : past < 2 ^ 64) (fit : SitesFit o.pending) where
+  called_fit : length o.pending < MOST_PENDING → SitesFit (past ∷ o.pending)
+  called_fit room = let most = fit.most in record { each = ((even, small), fit.each); most = omega arith }
 
-returned_fit : (p : Profile) (image : Memory) (o : Own) (sites : List ℕ) → IsTame image V.Return sites o.regs → SitesFit sites →
-    SitesFit (returns p o sites).state.pending
-returned_fit p image o [] tame fit = absurd tame
-returned_fit p image o (site ∷ sites) tame fit = record { each = fit.each.1; most = let most = fit.most in omega arith }
+  returned_fit : (sites : List ℕ) → ReturnTame sites o.regs → SitesFit sites → SitesFit (returns p o sites).state.pending
+  returned_fit [] tame fit = absurd tame
+  returned_fit (site ∷ sites) tame fit = record { each = fit.each.1; most = let most = fit.most in omega arith }
 
--- a tame step leaves pending sites that fit
+  exit_fit : (exit : Exit) → is_untested exit ≡ true → SitesFit (own_exit p o exit F.keeps past).state.pending
+  exit_fit F.back is = absurd (cc)
+  exit_fit (F.either op rs1 rs2 true target) is = fit
+  exit_fit (F.either op rs1 rs2 false target) is = fit
+  exit_fit other is = fit
+
+  act_fit : (act : Act) (exit : Exit) → is_untested exit ≡ true → SitesFit (own_act p o act exit F.keeps past).state.pending
+  act_fit F.none exit is = exit_fit exit is
+  act_fit other exit is = fit
+
+  flow_fit : (f : Flow) → Suits f → TestTame image f.test f o.pending o.regs → SitesFit (own_act p o f.act f.exit f.sites past).state.pending
+  flow_fit f (untested exit act is) tame = act_fit act exit is
+  flow_fit f (direct_call target) tame = called_fit tame
+  flow_fit f (guarded_call numbers) tame = fit
+  flow_fit f (computed_jump which rs1 imm label) tame = fit
+  flow_fit f (computed_call rs1 imm label) tame = called_fit tame.1
+  flow_fit f turned_back tame = returned_fit o.pending tame fit
+
+-- a tame step leaves pending sites that fit: a call's lies in code
 pub sites_fit : (p : Profile) (image : Memory) (unit : U.Unit) (o : Own) → TameStep image unit o → SitesFit o.pending →
     SitesFit (own_step p o unit).state.pending
-sites_fit p image (V.Gate label) o now fit = fit
-sites_fit p image (V.Plain instr) o now fit = fit
-sites_fit p image (V.Branch op rs1 rs2 target) o now fit = fit
-sites_fit p image (V.Near op rs1 rs2 target) o now fit = fit
-sites_fit p image (V.Jump target) o now fit = fit
-sites_fit p image V.Stop o now fit = fit
-sites_fit p image (V.System op) o now fit = fit
-sites_fit p image (V.Guarded numbers) o now fit = fit
-sites_fit p image (V.Stores rs1 imm members) o now fit = fit
-sites_fit p image (V.Call target) o now fit =
-    let round = now.stands.round in
-    let high = now.stands.high in
-    called_fit (V.Call target) o.pc _ o.pending now.stands (omega arith) (omega arith) now.tame fit
-sites_fit p image (V.Ijump which rs1 imm label) o now fit = fit
-sites_fit p image (V.Icall rs1 imm label) o now fit =
-    let round = now.stands.round in
-    let high = now.stands.high in
-    called_fit (V.Icall rs1 imm label) o.pc _ o.pending now.stands (omega arith) (omega arith) now.tame.1 fit
-sites_fit p image V.Return o now fit = returned_fit p image o o.pending now.tame fit
+sites_fit p image unit o now fit =
+    let round = now.stands.round in let high = now.stands.high in let most = most_words unit o.pc now.fits in
+    flow_fit p image o (after_unit unit o.pc) (omega arith) (omega arith) fit (flow_of unit) (suits unit) now.tame
 
 -- the first step made
 pub unit_within : (p : Profile) (part : ℕ) (image base : Memory) (unit : U.Unit) (o : Own) (h : Hart) (s : Shared) →

@@ -1,6 +1,4 @@
 pub mod Within
-pub mod Passes
-pub mod StandsFor
 pub mod Laws
 pub mod Own
 pub mod Tame

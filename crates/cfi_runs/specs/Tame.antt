@@ -13,9 +13,9 @@ use Rattle.rv_instr.specs.declared.instr.Instr.{Instr}
 use Rattle.rv_instr.specs.declared.instr.Instr.TheVariants.{Load, Store}
 use Rattle.rv_code.specs.Arithmetic.{load_size, store_size}
 use Rattle.cfi_unit.specs.declared.members.Member.{Member}
-use Rattle.cfi_unit.specs.declared.target_word.TargetWord.TheVariants.{First}
 use Rattle.cfi_unit.specs.declared.unit.Unit as U
-use Rattle.cfi_unit.specs.declared.unit.Unit.TheVariants as V
+use Rattle.cfi_unit.specs.Flow as F
+use Rattle.cfi_unit.specs.Flow.{Act, Exit, Flow, Sites, Test, flow_of}
 use Rattle.cfi_unit.specs.UnitWords.{Fits, instrs_of}
 use Rattle.cfi_unit.specs.Shadow.{MOST_PENDING}
 use Rattle.cfi_unit.specs.Stand.{Stand}
@@ -28,31 +28,52 @@ touched (Load op rd rs1 imm) r = sum_of r rs1 imm + load_size op
 touched (Store op rs1 rs2 imm) r = sum_of r rs1 imm + store_size op
 touched other r = 0
 
+-- a site is put on top where there is room
+abbrev pub SitesTame : Sites → List ℕ → Type 0
+SitesTame F.pushes pending = length pending < MOST_PENDING
+SitesTame other pending = Unit {0}
+
+-- a stop is a section's end
+abbrev pub ExitTame : Exit → Sites → List ℕ → Type 0
+ExitTame (F.halts stop) sites pending = ⊥
+ExitTame other sites pending = SitesTame sites pending
+
+abbrev pub ActTame : Act → Exit → Sites → List ℕ → Registers → Type 0
+ActTame (F.does instr) exit sites pending r = touched instr r ≤ 2 ^ 28
+ActTame (F.stores rs1 imm members) exit sites pending r = sum_of r rs1 imm < 2 ^ 28
+ActTame other exit sites pending r = ExitTame exit sites pending
+
+abbrev pub LabelTame : Sites → List ℕ → Type 0 → Type 0
+LabelTame F.pushes pending borne = borne × (length pending < MOST_PENDING)
+LabelTame other pending borne = borne
+
+abbrev pub ReturnTame : List ℕ → Registers → Type 0
+ReturnTame [] r = ⊥
+ReturnTame (site ∷ pending) r = r 1 ≡ site
+
+-- a unit's test holds
+abbrev pub TestTame : Memory → Test → Flow → List ℕ → Registers → Type 0
+TestTame image F.always f pending r = ActTame f.act f.exit f.sites pending r
+TestTame image (F.listed numbers) f pending r = is_listed (r 17) numbers ≡ true
+TestTame image (F.borne which rs1 imm label) f pending r = LabelTame f.sites pending (HasLabel image which label (computed r rs1 imm))
+TestTame image F.newest f pending r = ReturnTame pending r
+
 abbrev pub IsTame : Memory → U.Unit → List ℕ → Registers → Type 0
-IsTame image (V.Gate label) pending r = Unit {0}
-IsTame image (V.Plain instr) pending r = touched instr r ≤ 2 ^ 28
-IsTame image (V.Branch op rs1 rs2 target) pending r = Unit {0}
-IsTame image (V.Near op rs1 rs2 target) pending r = Unit {0}
-IsTame image (V.Jump target) pending r = Unit {0}
-IsTame image V.Stop pending r = ⊥
-IsTame image (V.System op) pending r = Unit {0}
-IsTame image (V.Guarded numbers) pending r = is_listed (r 17) numbers ≡ true
-IsTame image (V.Stores rs1 imm members) pending r = sum_of r rs1 imm < 2 ^ 28
-IsTame image (V.Call target) pending r = length pending < MOST_PENDING
-IsTame image (V.Ijump which rs1 imm label) pending r = HasLabel image which label (computed r rs1 imm)
-IsTame image (V.Icall rs1 imm label) pending r = HasLabel image First label (computed r rs1 imm) × (length pending < MOST_PENDING)
-IsTame image V.Return [] r = ⊥
-IsTame image V.Return (site ∷ pending) r = r 1 ≡ site
+IsTame image unit pending r = TestTame image (flow_of unit).test (flow_of unit) pending r
 
 -- the registers that the program's own instructions name
+abbrev pub exit_names : Exit → ℕ → Bool
+exit_names (F.either op rs1 rs2 met target) k = rs1 == k || rs2 == k
+exit_names (F.computed rs1 imm) k = rs1 == k
+exit_names other k = false
+
+abbrev pub act_names : Act → Exit → ℕ → Bool
+act_names (F.does instr) exit k = names instr k
+act_names (F.stores rs1 imm members) exit k = rs1 == k || list_any (λ (m : Member). m.value == k) members
+act_names other exit k = exit_names exit k
+
 abbrev pub own_names : U.Unit → ℕ → Bool
-own_names (V.Plain instr) k = names instr k
-own_names (V.Branch op rs1 rs2 target) k = rs1 == k || rs2 == k
-own_names (V.Near op rs1 rs2 target) k = rs1 == k || rs2 == k
-own_names (V.Stores rs1 imm members) k = rs1 == k || list_any (λ (m : Member). m.value == k) members
-own_names (V.Ijump which rs1 imm label) k = rs1 == k
-own_names (V.Icall rs1 imm label) k = rs1 == k
-own_names other k = false
+own_names unit k = act_names (flow_of unit).act (flow_of unit).exit k
 
 abbrev pub NamesNoReserved : U.Unit → Type 0
 NamesNoReserved unit = (k : ℕ) → own_names unit k ≡ true → is_reserved k ≡ false

@@ -4,7 +4,7 @@ ghost use Rattle.cfi_runs.specs.MatchLaws.{ClosingKeepsMatch, OpeningKeepsMatch,
 ghost use Rattle.cfi_runs.specs.WholeRun.{RunKeepsMatch};
 ghost use Rattle.cfi_runs.specs.GroupLaws.{GroupIsOneStep, GroupsAreMasked, PlacesWalked};
 
-/// A unit that passes on is left, within as many steps as it has words, as its row says.
+/// Where nothing is disturbed a unit does, within as many steps as it has words, what its flow says.
 pub fn unit_runs()
     ensures { UnitRuns }
 {}

@@ -2,6 +2,7 @@ pub mod Stand
 pub mod MemberWords
 pub mod GuardedWords
 pub mod Counts
+pub mod Flows
 pub mod Found
 pub mod Told
 pub mod Splits

@@ -54,8 +54,6 @@ call_is calls (V.System S.Ebreak) a fits = refl
 call_is calls _ a fits = refl
 
 site_is : (calls : List ℕ) (u : U.Unit) (a : ℕ) → site_of (body u) ≡ site_in (entry_of_unit calls u a)
-site_is calls (V.Ijump which rs1 imm label) a = refl
-site_is calls (V.Icall rs1 imm label) a = refl
 site_is calls (V.System S.Ecall) a = refl
 site_is calls (V.System S.Ebreak) a = refl
 site_is calls _ a = refl
@@ -72,41 +70,25 @@ bars version None (V.System S.Ecall) a = refl
 bars version (Some calls) (V.System S.Ecall) a = refl
 bars version None (V.System S.Ebreak) a = refl
 bars version (Some calls) (V.System S.Ebreak) a = refl
-bars version None (V.Guarded numbers) a = refl
-bars version (Some calls) (V.Guarded numbers) a = refl
 bars version None _ a = refl
 bars version (Some calls) _ a = refl
 
 gate_is : (calls : List ℕ) (u : U.Unit) (a : ℕ) → gate_of u ≡ gate_in (entry_of_unit calls u a)
-gate_is calls (V.Gate l) a = refl
 gate_is calls (V.System S.Ecall) a = refl
 gate_is calls (V.System S.Ebreak) a = refl
 gate_is calls _ a = refl
 
 astray_is : (lines : List GraphLine) (calls : List ℕ) (u : U.Unit) (a : ℕ) → is_astray lines a u ≡ holds_of (gate_in (entry_of_unit calls u a)) (λ label. is_outside lines label a)
-astray_is lines calls (V.Gate l) a = refl
 astray_is lines calls (V.System S.Ecall) a = refl
 astray_is lines calls (V.System S.Ebreak) a = refl
 astray_is lines calls _ a = refl
 
 unit_is : (calls : List ℕ) (u : U.Unit) (a : ℕ) → is_unit (entry_of_unit calls u a) ≡ true
-unit_is calls (V.Gate label) at = refl
-unit_is calls (V.Plain i) at = refl
-unit_is calls (V.Branch op rs1 rs2 target) at = refl
-unit_is calls (V.Near op rs1 rs2 target) at = refl
-unit_is calls (V.Jump target) at = refl
-unit_is calls V.Stop at = refl
-unit_is calls (V.System S.Ecall) at = refl
-unit_is calls (V.System S.Ebreak) at = refl
-unit_is calls (V.Guarded numbers) at = refl
-unit_is calls (V.Stores rs1 imm members) at = refl
-unit_is calls (V.Call target) at = refl
-unit_is calls (V.Ijump which rs1 imm label) at = refl
-unit_is calls (V.Icall rs1 imm label) at = refl
-unit_is calls V.Return at = refl
+unit_is calls (V.System S.Ecall) a = refl
+unit_is calls (V.System S.Ebreak) a = refl
+unit_is calls _ a = refl
 
 stop_is : (calls : List ℕ) (u : U.Unit) (a : ℕ) → is_stop u ≡ is_stop_entry (entry_of_unit calls u a)
-stop_is calls V.Stop a = refl
 stop_is calls (V.System S.Ecall) a = refl
 stop_is calls (V.System S.Ebreak) a = refl
 stop_is calls _ a = refl

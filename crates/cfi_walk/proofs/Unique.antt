@@ -11,20 +11,20 @@ use Rattle.cfi_graph.specs.declared.line.SiteKind.TheVariants as K
 use Rattle.cfi_graph.specs.Graph.{GraphParts}
 use Rattle.cfi_unit.specs.declared.target_word.TargetWord.{TargetWord}
 use Rattle.cfi_unit.specs.declared.target_word.TargetWord.TheVariants.{First}
-use Rattle.cfi_unit.specs.declared.unit.Unit as U
-use Rattle.cfi_unit.specs.declared.unit.Unit.TheVariants as V
-use Rattle.cfi_unit.specs.declared.unit.SystemOp.TheVariants as S
 use Rattle.cfi_unit.specs.declared.place.Place.{Place}
 use Rattle.cfi_unit.specs.declared.place.Place.TheVariants.{Handler as handler, Opening as opening, Closing as closing, Body as body}
+use Rattle.cfi_unit.specs.Flow.{Flow, flow_of}
 use Rattle.cfi_unit.specs.UnitWords.{BAD_TARGET, DEEP, after_unit}
+use Rattle.cfi_unit.proofs.Flows.{Suits, suits, untested, direct_call, guarded_call, computed_jump, computed_call, turned_back}
 use Rattle.cfi_rules.specs.Lines.{holds_of, is_among, targets_for}
 use Rattle.cfi_rules.specs.Rules.{IsWellFormed}
 use Rattle.cfi_rules.specs.Split.{code_words}
-use Rattle.cfi_rules.specs.Walk.{InClass, CallGoes, JumpGoes, ComputedCallGoes, ReturnGoes, UnitGoes, Goes}
+use Rattle.cfi_rules.specs.Walk.{InClass, CallGoes, ComputedCallGoes, FlowGoes, ReturnGoes, Goes}
 use Rattle.cfi_rules.proofs.RuleFacts.{target_bears, unit_borne}
 use Rattle.cfi_walk.specs.Laws.{AreSites, StepIsUnique}
 use Rattle.cfi_walk.specs.State.{WalkState}
 use Rattle.cfi_walk.proofs.Reach.{unit_within}
+use Rattle.cfi_walk.proofs.Sites.{either_kept, exit_kept, jump_kept}
 
 class_above : (p : Profile) → LaidOut p → (image : Contents) (graph : GraphParts) → IsWellFormed p image graph → (kind : SiteKind) (which : TargetWord) (label v : ℕ) → InClass graph.lines kind which label v → DEEP < v
 class_above p laid image graph formed kind which label v inside =
@@ -42,12 +42,6 @@ call_same site target pending v a b (inl g) (inl h) = g.2 ∙ sym h.2
 call_same site target pending v a b (inl (room, t, s)) (inr (full, to)) = absurd (omega arith)
 call_same site target pending v a b (inr (full, to)) (inl (room, t, s)) = absurd (omega arith)
 call_same site target pending v a b (inr g) (inr h) = g.1.1 ∙ sym h.1.1
-
-jump_same : (lines : List GraphLine) (which : TargetWord) (label : ℕ) (pending : List ℕ) (v : ℕ) (a b : List ℕ) → JumpGoes lines which label pending v a → JumpGoes lines which label pending v b → a ≡ b
-jump_same lines which label pending v a b (inl g) (inl h) = g.1 ∙ sym h.1
-jump_same lines which label pending v a b (inl g) (inr h) = g.1 ∙ sym h.1
-jump_same lines which label pending v a b (inr g) (inl h) = g.1 ∙ sym h.1
-jump_same lines which label pending v a b (inr g) (inr h) = g.1 ∙ sym h.1
 
 module _ (p : Profile) (lines : List GraphLine) (above : (kind : SiteKind) (which : TargetWord) (label v : ℕ) → InClass lines kind which label v → DEEP < v) where
   never : (kind : SiteKind) (which : TargetWord) (label v : ℕ) → InClass lines kind which label v → v ≡ BAD_TARGET → ⊥
@@ -71,36 +65,19 @@ module _ (p : Profile) (lines : List GraphLine) (above : (kind : SiteKind) (whic
   return_same (site ∷ pending) v a b (low, s) (inr (bad, g)) (inl (to, h)) = absurd (omega arith)
   return_same (site ∷ pending) v a b s (inr g) (inr h) = g.1 ∙ sym h.1
 
-  unit_same : (unit : U.Unit) (at : ℕ) (pending : List ℕ) (v : ℕ) (a b : List ℕ) → AreSites pending → UnitGoes lines unit at pending v a → UnitGoes lines unit at pending v b → a ≡ b
-  unit_same (V.Gate label) at pending v a b s g h = g.1 ∙ sym h.1
-  unit_same (V.Plain instr) at pending v a b s g h = g.1 ∙ sym h.1
-  unit_same (V.Branch op rs1 rs2 target) at pending v a b s (inl g) (inl h) = g.1 ∙ sym h.1
-  unit_same (V.Branch op rs1 rs2 target) at pending v a b s (inl g) (inr h) = g.1 ∙ sym h.1
-  unit_same (V.Branch op rs1 rs2 target) at pending v a b s (inr g) (inl h) = g.1 ∙ sym h.1
-  unit_same (V.Branch op rs1 rs2 target) at pending v a b s (inr g) (inr h) = g.1 ∙ sym h.1
-  unit_same (V.Near op rs1 rs2 target) at pending v a b s (inl g) (inl h) = g.1 ∙ sym h.1
-  unit_same (V.Near op rs1 rs2 target) at pending v a b s (inl g) (inr h) = g.1 ∙ sym h.1
-  unit_same (V.Near op rs1 rs2 target) at pending v a b s (inr g) (inl h) = g.1 ∙ sym h.1
-  unit_same (V.Near op rs1 rs2 target) at pending v a b s (inr g) (inr h) = g.1 ∙ sym h.1
-  unit_same (V.Jump target) at pending v a b s g h = g.1 ∙ sym h.1
-  unit_same V.Stop at pending v a b s g h = g.1 ∙ sym h.1
-  unit_same (V.System S.Ecall) at pending v a b s g h = g.1 ∙ sym h.1
-  unit_same (V.System S.Ebreak) at pending v a b s g h = absurd g
-  unit_same (V.Guarded numbers) at pending v a b s (inl g) (inl h) = g.1 ∙ sym h.1
-  unit_same (V.Guarded numbers) at pending v a b s (inl g) (inr h) = g.1 ∙ sym h.1
-  unit_same (V.Guarded numbers) at pending v a b s (inr g) (inl h) = g.1 ∙ sym h.1
-  unit_same (V.Guarded numbers) at pending v a b s (inr g) (inr h) = g.1 ∙ sym h.1
-  unit_same (V.Stores rs1 imm members) at pending v a b s g h = g.1 ∙ sym h.1
-  unit_same (V.Call target) at pending v a b s g h = call_same (after_unit (V.Call target) at) target pending v a b g h
-  unit_same (V.Ijump which rs1 imm label) at pending v a b s g h = jump_same lines which label pending v a b g h
-  unit_same (V.Icall rs1 imm label) at pending v a b s g h = computed_call_same (after_unit (V.Icall rs1 imm label) at) label pending v a b g h
-  unit_same V.Return at pending v a b s g h = return_same pending v a b s g h
+  flow_same : (f : Flow) → Suits f → (following : ℕ) (pending : List ℕ) (v : ℕ) (a b : List ℕ) → AreSites pending → FlowGoes lines f following pending v a → FlowGoes lines f following pending v b → a ≡ b
+  flow_same f (untested exit act is) following pending v a b s g h = exit_kept exit following pending v a is g ∙ sym (exit_kept exit following pending v b is h)
+  flow_same f (direct_call target) following pending v a b s g h = call_same following target pending v a b g h
+  flow_same f (guarded_call numbers) following pending v a b s g h = either_kept following BAD_TARGET pending v a g ∙ sym (either_kept following BAD_TARGET pending v b h)
+  flow_same f (computed_jump which rs1 imm label) following pending v a b s g h = jump_kept lines which label pending v a g ∙ sym (jump_kept lines which label pending v b h)
+  flow_same f (computed_call rs1 imm label) following pending v a b s g h = computed_call_same following label pending v a b g h
+  flow_same f turned_back following pending v a b s g h = return_same pending v a b s g h
 
   place_same : (place : Place) (at : ℕ) (pending : List ℕ) (v : ℕ) (a b : List ℕ) → AreSites pending → Goes p lines place at pending v a → Goes p lines place at pending v b → a ≡ b
   place_same handler at pending v a b s g h = absurd g
   place_same (opening entry) at pending v a b s g h = call_same p.closing entry pending v a b g h
   place_same closing at pending v a b s g h = absurd g
-  place_same (body unit) at pending v a b s g h = unit_same unit at pending v a b s g h
+  place_same (body unit) at pending v a b s g h = flow_same (flow_of unit) (suits unit) (after_unit unit at) pending v a b s g h
 
 abbrev state : ℕ → List ℕ → WalkState
 state at pending = record { at = at; pending = pending }
