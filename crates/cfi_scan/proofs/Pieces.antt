@@ -2,10 +2,11 @@
 use Rattle.std.proofs.Common.{◌≡◌, ℕ, ◌+◌, ◌*◌, ◌/◌, ◌%◌, ◌<◌, ◌≤◌, List, [], ◌∷◌, ◌++◌, length, min, get_or, set, take, drop, Some, None, inl, inr, refl, sym, ap, ◌∙◌, subst, arith}
 use Rattle.std.proofs.lemmas.List.{append-nil, append_assoc, length_push, length-append, take_more_set, take_all, nil_from_length}
 use Rattle.std.proofs.lemmas.Bool.{cases_eq, eq-eqb, ne_eqb}
-use Rattle.rv_word.specs.MemoryMap.{Profile}
+use Rattle.rv_word.specs.MemoryMap.{CODE_START, Profile}
 use Rattle.cfi_reader.specs.declared.entry.Entry.{Entry}
 use Rattle.cfi_scan.specs.declared.kept.Kept.{Kept}
-use Rattle.cfi_reader.specs.declared.reader.Reader.TheVariants as R
+use Rattle.cfi_reader.specs.Reading.{START}
+use Rattle.cfi_reader.proofs.Closed.{start_reads}
 use Rattle.cfi_scan.specs.Carry.{Taken, after_byte, made, word_of}
 use Rattle.cfi_reader.specs.Entries.{entries_of, inside}
 use Rattle.cfi_scan.specs.Pieces.{HasSeen, IsCut, IsOf, Keeps, Sight, ends, goes_on, prologue_count}
@@ -75,9 +76,9 @@ keeps_none most prologue =
     ap (λ (n : ℕ). take n prologue) none ∙ sym (take_all {A = ℕ} most [] (omega arith))
 
 -- no word yet
-pub splits_none : (calls : List ℕ) (from room : ℕ) → Splits calls from [] (inside room) 0 0 R.Start []
+pub splits_none : (calls : List ℕ) (from room : ℕ) → CODE_START ≤ from → Splits calls from [] (inside room) 0 0 START []
 unfolding spelled width last_of AllStand entries_of
-splits_none calls from room = record {
+splits_none calls from room low = record {
   units = [];
   held = [];
   room = room;
@@ -86,7 +87,7 @@ splits_none calls from room = record {
   entries_are = refl;
   done_is = refl;
   last_is = refl;
-  reading = refl;
+  reading = start_reads calls (from + 4 * 0) (omega (arith, low));
 }
 
 -- what is kept of words, and what a feeder shows of it
