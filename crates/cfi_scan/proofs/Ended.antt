@@ -1,8 +1,8 @@
 -- The words so far, after one word more: a unit is read further, or it ends.
-use Rattle.std.proofs.Common.{◌≡◌, ℕ, ◌+◌, ◌-◌, ◌*◌, ◌%◌, ◌<◌, ◌≤◌, ◌^◌, true, IsTrue, List, [], ◌∷◌, ◌++◌, length, slice_set, arith, refl, ap, ap₂, sym, subst, ◌∙◌, append_assoc, append-nil, length-append, add-zero}
+use Rattle.std.proofs.Common.{◌≡◌, ℕ, ◌+◌, ◌-◌, ◌*◌, ◌%◌, ◌<◌, ◌≤◌, ◌^◌, ◌==◌, true, inl, inr, lit≤, IsTrue, List, [], ◌∷◌, ◌++◌, length, slice_set, arith, refl, ap, ap₂, sym, subst, ◌∙◌, append_assoc, append-nil, length-append, add-zero}
 use Rattle.std.specs.Prelude.{None}
-use Rattle.std.proofs.lemmas.Bool.{eqb-true}
-use Rattle.rv_word.specs.MemoryMap.{CODE_START, CODE_SIZE}
+use Rattle.std.proofs.lemmas.Bool.{cases_Bool, eqb-true}
+use Rattle.rv_word.specs.MemoryMap.{CODE_START, CODE_SIZE, profile_of}
 use Rattle.cfi_unit.specs.declared.unit.Unit as U
 use Rattle.cfi_unit.specs.Opens.{InCode}
 use Rattle.cfi_unit.specs.UnitWords.{Fits, may_precede, word_count, words_of}
@@ -242,6 +242,13 @@ up_open calls from entries done last reader words s none = record {
   last_is = s.last_is;
   none = none;
 }
+
+-- where units start
+pub units_low : (version : ℕ) → CODE_START ≤ (profile_of version).units_from
+units_low version = elim (cases_Bool (version == 1)) [ inl e ↦ rw e (lit≤ tt) | inr e ↦ rw e (lit≤ tt) ]
+
+pub units_round : (version : ℕ) → (profile_of version).units_from % 4 ≡ 0
+units_round version = elim (cases_Bool (version == 1)) [ inl e ↦ rw e refl | inr e ↦ rw e refl ]
 
 -- what is held lies in code
 pub held_in_code : (calls : List ℕ) (from : ℕ) (entries : List Entry) (done last : ℕ) (reader : Reader) (words : List ℕ) → length words ≤ length entries →

@@ -1,6 +1,6 @@
 -- Bytes that are cut into words, one byte or one word more, and what is kept of them.
 use Rattle.std.proofs.Common.{◌≡◌, ℕ, ◌+◌, ◌*◌, ◌/◌, ◌%◌, ◌<◌, ◌≤◌, List, [], ◌∷◌, ◌++◌, length, min, get_or, set, take, drop, Some, None, inl, inr, refl, sym, ap, ◌∙◌, subst, arith}
-use Rattle.std.proofs.lemmas.List.{append-nil, append_assoc, length_push, length-append, take_more_set, take_all, nil_from_length}
+use Rattle.std.proofs.lemmas.List.{append-nil, append_assoc, length_push, length-append, take-append-le, take_more_set, take_all, nil_from_length}
 use Rattle.std.proofs.lemmas.Bool.{cases_eq, eq-eqb, ne_eqb}
 use Rattle.rv_word.specs.MemoryMap.{CODE_START, Profile}
 use Rattle.cfi_reader.specs.declared.entry.Entry.{Entry}
@@ -76,6 +76,14 @@ keeps_none most prologue =
     ap (λ (n : ℕ). take n prologue) none ∙ sym (take_all {A = ℕ} most [] (omega arith))
 
 -- no word yet
+pub keeps_after : (most : ℕ) (prologue words : List ℕ) (word : ℕ) → most ≤ length words → take (min (length words) most) prologue ≡ take most words →
+    take (min (length (words ++ word ∷ [])) most) prologue ≡ take most (words ++ word ∷ [])
+keeps_after most prologue words word high is =
+    let longer : length (words ++ word ∷ []) ≡ length words + 1 = length-append words (word ∷ []) in
+    let one : min (length (words ++ word ∷ [])) most ≡ most = omega arith in
+    let two : min (length words) most ≡ most = omega arith in
+    ap (λ (n : ℕ). take n prologue) (one ∙ sym two) ∙ is ∙ sym (take-append-le most words (word ∷ []) high)
+
 pub splits_none : (calls : List ℕ) (from room : ℕ) → CODE_START ≤ from → Splits calls from [] (inside room) 0 0 START []
 unfolding spelled width last_of AllStand entries_of
 splits_none calls from room low = record {

@@ -129,8 +129,9 @@ impl Splitter {
         ensures calls { self.new.calls ≡ self.old.calls }
         ensures room { length self.new.entries.items ≡ length self.old.entries.items }
     {
-        if let Some(entry) = self.reader.close() {
-            self.end(entry, count);
+        match self.reader.close() {
+            Some(entry) => self.end(entry, count),
+            None => {}
         }
     }
 
