@@ -49,20 +49,11 @@ module _ (part : ℕ) (m m' : Memory) (same : SameOn part (part + PART_SIZE) m m
 
   unit_same : (image : Memory) (unit : U.Unit) (at : ℕ) (pending : List ℕ) (r : Registers) (h : Hart) →
       InUnit part image unit at pending r h m → InUnit part image unit at pending r h m'
-  unit_same image (V.Gate label) at pending r h i = i
-  unit_same image (V.Plain instr) at pending r h i = i
-  unit_same image (V.Branch op rs1 rs2 target) at pending r h i = i
-  unit_same image (V.Near op rs1 rs2 target) at pending r h i = i
-  unit_same image (V.Jump target) at pending r h i = i
-  unit_same image V.Stop at pending r h i = i
-  unit_same image (V.System op) at pending r h i = i
-  unit_same image (V.Guarded numbers) at pending r h i = i
-  unit_same image (V.Stores rs1 imm members) at pending r h i = i
   unit_same image (V.Call target) at pending r h i = call_same i
-  unit_same image (V.Ijump which rs1 imm label) at pending r h i = i
   unit_same image (V.Icall rs1 imm label) at pending r h i = icall_same i
   unit_same image V.Return at [] r h i = i
   unit_same image V.Return at (site ∷ pending) r h i = i
+  unit_same image other at pending r h i = i
 
   pub in_place_changed : (p : Profile) (image : Memory) (place : Place) (at : ℕ) (pending : List ℕ) (r : Registers) (h : Hart) →
       InPlace.InPlace p part image place at pending r h m → InPlace.InPlace p part image place at pending r h m'
@@ -83,13 +74,7 @@ IsReady part (body unit) (site ∷ pending) h = h.regs 3 ≡ slot part (suc (len
 module _ (part : ℕ) (image : Memory) (at : ℕ) (h : Hart) (m : Memory) where
   unit_begins : (unit : U.Unit) (site : ℕ) (pending : List ℕ) → h.regs 3 ≡ slot part (suc (length pending)) → h.pc ≡ at →
       InUnit part image unit at (site ∷ pending) h.regs h m
-  unit_begins (V.Gate label) site pending x3 e = only e x3
-  unit_begins (V.Plain instr) site pending x3 e = only e x3
   unit_begins (V.Branch op rs1 rs2 target) site pending x3 e = branch_test e x3
-  unit_begins (V.Near op rs1 rs2 target) site pending x3 e = only e x3
-  unit_begins (V.Jump target) site pending x3 e = only e x3
-  unit_begins V.Stop site pending x3 e = only e x3
-  unit_begins (V.System op) site pending x3 e = only e x3
   unit_begins (V.Guarded []) site pending x3 e = guarded_other (omega arith) x3 refl
   unit_begins (V.Guarded (n ∷ ns)) site pending x3 e = guarded_load 0 (omega arith) (omega arith) x3 refl refl
   unit_begins (V.Stores rs1 imm members) site pending x3 e = stores_addi e x3
@@ -97,6 +82,7 @@ module _ (part : ℕ) (image : Memory) (at : ℕ) (h : Hart) (m : Memory) where
   unit_begins (V.Ijump which rs1 imm label) site pending x3 e = ijump_check (check_addi e x3 refl)
   unit_begins (V.Icall rs1 imm label) site pending x3 e = icall_check (check_addi e x3 refl)
   unit_begins V.Return site pending x3 e = return_ld e x3 refl
+  unit_begins other site pending x3 e = only e x3
 
   opening_begins : (p : Profile) → IsProfile p → part ≡ part_of (h.regs 10) → h.pc ≡ OPENING → InOpening p part h m
   opening_begins p (inl version) own e = opening_lone version (lone_stack e)

@@ -15,7 +15,7 @@ use Rattle.cfi_unit.specs.UnitWords.{BAD_TARGET, CheckFits, check, past}
 use Rattle.cfi_unit.specs.Stand.{Stand}
 use Rattle.cfi_unit.specs.Context.{Context}
 use Rattle.cfi_unit.specs.Leads.{HasLabel}
-use Rattle.cfi_unit.specs.InPlace.{InCode, InCheck, Checked, check_addi, check_andi, check_lui, check_sub, check_srli, check_region, check_outside, check_lw, check_label, check_opcode, check_word, check_other}
+use Rattle.cfi_unit.specs.InPlace.{IsCodeAddress, InCheck, Checked, check_addi, check_andi, check_lui, check_sub, check_srli, check_region, check_outside, check_lw, check_label, check_opcode, check_word, check_other}
 use Rattle.cfi_unit.proofs.Context.{at_word}
 use Rattle.cfi_unit.proofs.Jumps.{jump_leads}
 use Rattle.cfi_unit.proofs.Labels.{word_small, same_word, word_same, past_near, read_at}
@@ -55,11 +55,11 @@ module _ (p : Profile) (part : ℕ) (image base : Memory) (which : TargetWord) (
       (elim (cases_Bool (h.regs 30 == 0)) [
         | inl inside ↦
             let zero_is = eqb-true (h.regs 30) 0 inside in
-            let code : InCode v = record { low = omega arith; high = omega arith } in
+            let code : IsCodeAddress v = record { low = omega arith; high = omega arith } in
             rw inside (check_inside refl c (omega arith) (check_lw (omega arith) x3 x31 code))
         | inr outside ↦
             let not_zero = eqb-false (h.regs 30) 0 outside in
-            let beyond : InCode v → ⊥ = λ code. let first = code.low in let last = code.high in not_zero (omega arith) in
+            let beyond : IsCodeAddress v → ⊥ = λ code. let first = code.low in let last = code.high in not_zero (omega arith) in
             rw outside (check_inside refl c (omega arith) (check_outside (omega arith) x3 beyond))
       ])
   check_law small fits low v_is w c (check_outside e x3 outside) =

@@ -11,19 +11,8 @@ use Rattle.cfi_unit.proofs.Listed.{each_among}
 use Rattle.cfi_unit.proofs.ShapedUnits.{counted, shape_among}
 
 pub some_word : (unit : U.Unit) → 1 ≤ word_count unit
-some_word (V.Gate label) = omega arith
-some_word (V.Plain instr) = omega arith
-some_word (V.Branch op rs1 rs2 target) = omega arith
-some_word (V.Near op rs1 rs2 target) = omega arith
-some_word (V.Jump target) = omega arith
-some_word V.Stop = omega arith
-some_word (V.System op) = omega arith
-some_word (V.Guarded numbers) = omega arith
-some_word (V.Stores rs1 imm members) = omega arith
-some_word (V.Call target) = omega arith
-some_word (V.Ijump which rs1 imm label) = omega arith
-some_word (V.Icall rs1 imm label) = omega arith
 some_word V.Return = omega arith
+some_word other = omega arith
 
 pub most_words : (unit : U.Unit) (at : ℕ) → Fits unit at → word_count unit ≤ 20
 most_words unit at f =

@@ -27,6 +27,7 @@ use Rattle.cfi_unit.specs.EffectLaw.{Enters, GoesOn, Inside, DoneWithin, UnitEff
 use Rattle.cfi_unit.proofs.Context.{kept_data}
 use Rattle.cfi_unit.proofs.EffectSteps.{IsHarmless, Now, RunsOn, before}
 use Rattle.cfi_unit.proofs.EffectUnits.{plain_does, ecall_does, ebreak_does, stop_does, gate_does, jump_does, branch_does, near_does}
+use Rattle.cfi_unit.proofs.Counts.{some_word}
 use Rattle.cfi_unit.proofs.EffectStores.{stores_does}
 use Rattle.cfi_unit.proofs.EffectGuarded.{guarded_does}
 use Rattle.cfi_unit.proofs.EffectTransfers.{call_does, return_does, ijump_does, icall_does}
@@ -124,19 +125,7 @@ data_allowed (cs ∷ changes) all = (
 
 -- each unit has a word
 one_word : (unit : U.Unit) → suc (word_count unit - 1) ≡ word_count unit
-one_word (V.Gate label) = refl
-one_word (V.Plain instr) = refl
-one_word (V.Branch op rs1 rs2 target) = refl
-one_word (V.Near op rs1 rs2 target) = refl
-one_word (V.Jump target) = refl
-one_word V.Stop = refl
-one_word (V.System op) = refl
-one_word (V.Guarded numbers) = omega arith
-one_word (V.Stores rs1 imm members) = omega arith
-one_word (V.Call target) = refl
-one_word (V.Ijump which rs1 imm label) = refl
-one_word (V.Icall rs1 imm label) = refl
-one_word V.Return = refl
+one_word unit = let some = some_word unit in omega arith
 
 pub unit_effect : UnitEffect
 unit_effect p part image base unit at pending h s i =

@@ -115,21 +115,13 @@ module _ (p : Profile) (part : ℕ) (image : Memory) (at : ℕ) (pending : List 
   none_there unit none is = absurd (nowhere false (instrs_of unit at) k Ecall refl none is)
 
   unit_may : (unit : U.Unit) → Fits unit at → InUnit part image unit at pending r h m → slice_get (instrs_of unit at) k ≡ Some Ecall → UnitMayCall unit h
-  unit_may (V.Gate label) fits i is = none_there (V.Gate label) refl is
   unit_may (V.Plain instr) fits i is = none_there (V.Plain instr) (plain_lacks false instr fits.1) is
-  unit_may (V.Branch op rs1 rs2 target) fits i is = none_there (V.Branch op rs1 rs2 target) refl is
-  unit_may (V.Near op rs1 rs2 target) fits i is = none_there (V.Near op rs1 rs2 target) refl is
-  unit_may (V.Jump target) fits i is = none_there (V.Jump target) refl is
-  unit_may V.Stop fits i is = none_there V.Stop refl is
   unit_may (V.System S.Ecall) fits i is = tt
   unit_may (V.System S.Ebreak) fits i is = none_there (V.System S.Ebreak) refl is
   unit_may (V.Guarded ns) fits i is =
       let word = last_call ns (at + 8 * length ns) BAD_TARGET k is in guarded_may i (omega arith)
   unit_may (V.Stores rs1 imm members) fits i is = none_there (V.Stores rs1 imm members) (members_lack false members) is
-  unit_may (V.Call target) fits i is = none_there (V.Call target) refl is
-  unit_may (V.Ijump which rs1 imm label) fits i is = none_there (V.Ijump which rs1 imm label) refl is
-  unit_may (V.Icall rs1 imm label) fits i is = none_there (V.Icall rs1 imm label) refl is
-  unit_may V.Return fits i is = none_there V.Return refl is
+  unit_may other fits i is = none_there other refl is
 
   place_may : (place : Place) → MayStand p place at pending → InPlace p part image place at pending r h m →
       slice_get (place_instrs p place at) k ≡ Some Ecall → MayCall place at h

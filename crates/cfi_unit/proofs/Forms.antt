@@ -67,11 +67,7 @@ label_hole w here small m =
 
 -- a plain instruction
 pub plain_hole : (w here : ℕ) → w < 2 ^ 32 → matches P.Plain w here ≡ true → (i : Instr) × ((IsInstr i) × ((is_plain i ≡ true) × (code_of i ≡ w)))
-plain_hole w here small m =
-    let f = formed (has_form P.Plain here) w small m in (f.instr, (f.fields, (plain_form f.instr f.has, f.code)))
-  where
-    plain_form : (i : Instr) → has_form P.Plain here i ≡ true → is_plain i ≡ true
-    plain_form i e = e
+plain_hole w here small m = let f = formed (has_form P.Plain here) w small m in (f.instr, (f.fields, (f.has, f.code)))
 
 -- a branch
 pub record IsBranch (w : ℕ) : Type 0 where

@@ -44,19 +44,9 @@ starts_prefix p rest =
 
 pub words_counted : (u : U.Unit) (at : ℕ) → length (words_of u at) ≡ word_count u
 unfolding words_of
-words_counted (V.Gate label) at = refl
-words_counted (V.Plain i) at = refl
-words_counted (V.Branch op rs1 rs2 target) at = refl
-words_counted (V.Near op rs1 rs2 target) at = refl
-words_counted (V.Jump target) at = refl
-words_counted V.Stop at = refl
-words_counted (V.System op) at = refl
 words_counted (V.Guarded ns) at = guarded_counted ns at
 words_counted (V.Stores rs1 imm members) at = let counted = members_counted members in omega arith
-words_counted (V.Call target) at = refl
-words_counted (V.Ijump which rs1 imm label) at = refl
-words_counted (V.Icall rs1 imm label) at = refl
-words_counted V.Return at = refl
+words_counted other at = refl
 
 -- what follows a unit's words
 after_words : (u : U.Unit) (at : ℕ) (rest : List ℕ) → drop (word_count u) (words_of u at ++ rest) ≡ rest

@@ -1,24 +1,23 @@
 -- A label's word stands in code only as the gate of that label.
 use Rattle.std.proofs.Common.{◌≡◌, ℕ, zero, suc, ◌+◌, ◌-◌, ◌*◌, ◌/◌, ◌%◌, ◌^◌, ◌<◌, ◌≤◌, true, inl, inr, List, [], ◌∷◌, ◌++◌, length, Some, refl, sym, ap, ◌∙◌, arith}
 use Rattle.std.specs.Prelude.{slice_get}
-use Rattle.std.proofs.lemmas.List.{length-append, length-map}
+use Rattle.std.proofs.lemmas.List.{length-map}
 use Rattle.std.proofs.lemmas.Option.{slice_get_cases}
 use Rattle.rv_word.specs.MemoryMap.{Profile}
 use Rattle.rv_word.specs.Memory.{Memory, read}
 use Rattle.rv_instr.specs.declared.instr.Instr.{Instr}
-use Rattle.rv_instr.specs.declared.instr.Instr.TheVariants.{Ecall}
 use Rattle.rv_code.specs.Decode.{decoded}
+use Rattle.rv_code.specs.Encode.{code_of}
 use Rattle.rv_code.specs.Fields.{fields_of, imm_u}
 use Rattle.cfi_unit.specs.declared.unit.Unit as U
 use Rattle.cfi_unit.specs.declared.unit.Unit.TheVariants as V
 use Rattle.cfi_unit.specs.declared.unit.SystemOp.TheVariants as S
-use Rattle.cfi_unit.specs.Members.{member_instr}
 use Rattle.cfi_unit.specs.Guarded.{guards}
-use Rattle.cfi_unit.specs.UnitWords.{BAD_TARGET, Fits, gate, instrs_of, jump, word_count}
+use Rattle.cfi_unit.specs.UnitWords.{Fits, gate, instrs_of, word_count, words_of}
 use Rattle.cfi_unit.specs.Place.{Place, handler, opening, closing, body, place_instrs, place_size}
 use Rattle.cfi_unit.specs.Stand.{Stand}
 use Rattle.cfi_unit.specs.UnitLaw.{MayStand}
-use Rattle.cfi_unit.proofs.GuardedWords.{guards_counted}
+use Rattle.cfi_unit.proofs.Found.{words_counted}
 use Rattle.cfi_unit.proofs.Parts.{opening_length}
 use Rattle.cfi_unit.proofs.Sought.{lacks, members_lack, nowhere, opening_lacks, plain_lacks}
 
@@ -44,18 +43,11 @@ pub gate_unit : (unit : U.Unit) (at k label : ℕ) → Fits unit at → slice_ge
 gate_unit (V.Gate other) at zero label fits is = let same : other ≡ label = cc in (ap V.Gate same, refl)
 gate_unit (V.Gate other) at (suc k) label fits is = absurd (cc)
 gate_unit (V.Plain instr) at k label fits is = other_unit (V.Plain instr) at k label (plain_lacks true instr fits.1) is
-gate_unit (V.Branch op rs1 rs2 target) at k label fits is = other_unit (V.Branch op rs1 rs2 target) at k label refl is
-gate_unit (V.Near op rs1 rs2 target) at k label fits is = other_unit (V.Near op rs1 rs2 target) at k label refl is
-gate_unit (V.Jump target) at k label fits is = other_unit (V.Jump target) at k label refl is
-gate_unit V.Stop at k label fits is = other_unit V.Stop at k label refl is
 gate_unit (V.System S.Ecall) at k label fits is = other_unit (V.System S.Ecall) at k label refl is
 gate_unit (V.System S.Ebreak) at k label fits is = other_unit (V.System S.Ebreak) at k label refl is
 gate_unit (V.Guarded numbers) at k label fits is = other_unit (V.Guarded numbers) at k label (guards_gate numbers _ refl) is
 gate_unit (V.Stores rs1 imm members) at k label fits is = other_unit (V.Stores rs1 imm members) at k label (members_lack true members) is
-gate_unit (V.Call target) at k label fits is = other_unit (V.Call target) at k label refl is
-gate_unit (V.Ijump which rs1 imm other) at k label fits is = other_unit (V.Ijump which rs1 imm other) at k label refl is
-gate_unit (V.Icall rs1 imm other) at k label fits is = other_unit (V.Icall rs1 imm other) at k label refl is
-gate_unit V.Return at k label fits is = other_unit V.Return at k label refl is
+gate_unit other at k label fits is = other_unit other at k label refl is
 
 gate_place : (p : Profile) (pending : List ℕ) (place : Place) (at k label : ℕ) → MayStand p place at pending →
     slice_get (place_instrs p place at) k ≡ Some (gate label) → (place ≡ body (V.Gate label)) × (k ≡ 0)
@@ -67,24 +59,8 @@ gate_place p pending (body unit) at k label may is =
 
 -- the words of a place are its bytes
 unit_size : (unit : U.Unit) (at : ℕ) → 4 * length (instrs_of unit at) ≡ 4 * word_count unit
-unit_size (V.Gate label) at = refl
-unit_size (V.Plain instr) at = refl
-unit_size (V.Branch op rs1 rs2 target) at = refl
-unit_size (V.Near op rs1 rs2 target) at = refl
-unit_size (V.Jump target) at = refl
-unit_size V.Stop at = refl
-unit_size (V.System S.Ecall) at = refl
-unit_size (V.System S.Ebreak) at = refl
-unit_size (V.Guarded numbers) at =
-    let last : List Instr = jump (at + 8 * length numbers) BAD_TARGET ∷ Ecall ∷ [] in
-    let tests = guards_counted numbers in
-    let whole = length-append (guards numbers) last in
-    omega arith
-unit_size (V.Stores rs1 imm members) at = let counted = length-map members member_instr in omega arith
-unit_size (V.Call target) at = refl
-unit_size (V.Ijump which rs1 imm label) at = refl
-unit_size (V.Icall rs1 imm label) at = refl
-unit_size V.Return at = refl
+unfolding words_of
+unit_size unit at = let words = length-map (instrs_of unit at) code_of in let counted = words_counted unit at in omega arith
 
 pub place_length : (p : Profile) (pending : List ℕ) (place : Place) (at : ℕ) → MayStand p place at pending →
     4 * length (place_instrs p place at) ≡ place_size p place

@@ -29,7 +29,6 @@ use Rattle.cfi_unit.proofs.Holes.{Fill, filled, holes_in, opened_length}
 use Rattle.cfi_unit.proofs.LedBack.{near_back}
 use Rattle.cfi_unit.proofs.Listed.{among_either, guarded_of, stores_of}
 use Rattle.cfi_unit.proofs.Near.{near_reached}
-use Rattle.cfi_unit.proofs.ShapedUnits.{tests_length}
 use Rattle.cfi_unit.proofs.UnitHoles.{holes_of, load_word, member_word, unit_filled}
 
 -- a jump from code reaches a handler
@@ -236,6 +235,10 @@ tests_in (suc n) at k (h ∷ hs) s f =
       each = (low, more.each);
       holes = ap (λ w. w ∷ map load_word more.numbers) is ∙ ap (λ l. h ∷ l) more.holes;
     }
+
+tests_length : (n : ℕ) → length (guarded n) ≡ 2 + 2 * n
+tests_length zero = refl
+tests_length (suc n) = let more = tests_length n in omega arith
 
 guarded_by : (n at : ℕ) → 0 < n → n ≤ 8 → By (shape E.Guarded (guarded n)) at
 unfolding By

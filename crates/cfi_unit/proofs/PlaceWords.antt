@@ -119,13 +119,7 @@ module _ {part : ℕ} {h : Hart} where
 
 unit_word : (part : ℕ) (image : Memory) (unit : U.Unit) (at : ℕ) (pending : List ℕ) (r : Registers) (h : Hart) (m : Memory) →
     InUnit part image unit at pending r h m → Among (word_count unit) at h.pc
-unit_word part image (V.Gate label) at pending r h m i = only_word i
-unit_word part image (V.Plain instr) at pending r h m i = only_word i
 unit_word part image (V.Branch op rs1 rs2 target) at pending r h m i = branch_word i
-unit_word part image (V.Near op rs1 rs2 target) at pending r h m i = only_word i
-unit_word part image (V.Jump target) at pending r h m i = only_word i
-unit_word part image V.Stop at pending r h m i = only_word i
-unit_word part image (V.System op) at pending r h m i = only_word i
 unit_word part image (V.Guarded numbers) at pending r h m i = guarded_word i
 unit_word part image (V.Stores rs1 imm members) at pending r h m i = stores_word i
 unit_word part image (V.Call target) at pending r h m i = call_word i
@@ -133,6 +127,7 @@ unit_word part image (V.Ijump which rs1 imm label) at pending r h m i = ijump_wo
 unit_word part image (V.Icall rs1 imm label) at pending r h m i = icall_word i
 unit_word part image V.Return at [] r h m i = absurd i
 unit_word part image V.Return at (site ∷ pending) r h m i = return_word i
+unit_word part image other at pending r h m i = only_word i
 
 pub place_word : (p : Profile) (part : ℕ) (image : Memory) (place : Place) (at : ℕ) (pending : List ℕ) (r : Registers) (h : Hart) (m : Memory) →
     MayStand p place at pending → InPlace p part image place at pending r h m → IsWordOf p place at h.pc

@@ -48,12 +48,6 @@ with_last front n m last none longer =
     ∙ ap (λ (l : List (Option ℕ)). l ++ last ∷ []) (replicate-append-replicate n 1 None ∙ ap (λ k. replicate k None) (sym longer))
 
 unit_listed : (unit : U.Unit) (at : ℕ) → map program_result (instrs_of unit at) ≡ unit_results unit
-unit_listed (V.Gate label) at = refl
-unit_listed (V.Plain instr) at = refl
-unit_listed (V.Branch op rs1 rs2 target) at = refl
-unit_listed (V.Near op rs1 rs2 target) at = refl
-unit_listed (V.Jump target) at = refl
-unit_listed V.Stop at = refl
 unit_listed (V.System S.Ecall) at = refl
 unit_listed (V.System S.Ebreak) at = refl
 unit_listed (V.Guarded ns) at =
@@ -62,10 +56,7 @@ unit_listed (V.Stores rs1 imm members) at =
     ap (λ (l : List (Option ℕ)). None ∷ None ∷ None ∷ l) (members_results members)
     ∙ replicate-append-replicate 3 (length members) None ∙ ap (λ n. replicate n None) (omega arith)
     ∙ sym (replicate-append-replicate (3 + length members - 1) 1 None)
-unit_listed (V.Call target) at = refl
-unit_listed (V.Ijump which rs1 imm label) at = refl
-unit_listed (V.Icall rs1 imm label) at = refl
-unit_listed V.Return at = refl
+unit_listed other at = refl
 
 set_up_listed : (p : Profile) → map program_result (set_up p) ≡ set_up_results p
 set_up_listed p =

@@ -1,13 +1,11 @@
 -- The words of a unit that fits are as its shape says, and its shape is one of the table.
-use Rattle.std.proofs.Common.{◌≡◌, ℕ, zero, suc, ◌+◌, ◌*◌, ◌==◌, ◌<◌, ◌≤◌, ◌^◌, true, not, refl, ap, sym, subst, ◌∙◌, lit<, inl, inr, List, [], ◌∷◌, ◌++◌, length, map, arith}
+use Rattle.std.proofs.Common.{◌≡◌, ℕ, zero, suc, ◌+◌, ◌==◌, ◌<◌, ◌≤◌, ◌^◌, true, not, refl, ap, sym, subst, ◌∙◌, lit<, inl, inr, List, [], ◌∷◌, ◌++◌, length, map, arith}
 use Rattle.std.specs.Prelude.{if◌then◌else◌, replicate, take, ◌≢◌}
 use Rattle.std.specs.List.{AllByRecursion}
 use Rattle.std.proofs.lemmas.Bool.{cases_Bool, cases_eq, lt-ltb, ne_eqb}
-use Rattle.std.proofs.lemmas.List.{length-replicate}
 use Rattle.std.proofs.lemmas.Nat.{mod_below}
 use Rattle.rv_word.specs.Numbers.{IsNumber}
 use Rattle.rv_instr.specs.InRange.{IsInstr}
-use Rattle.rv_instr.specs.declared.instr.Instr.{Instr}
 use Rattle.rv_instr.specs.declared.instr.Instr.TheVariants.{Upper, Jal, Branch, Immediate}
 use Rattle.rv_instr.specs.declared.instr.UpperOp.TheVariants.{Lui}
 use Rattle.rv_instr.specs.declared.instr.ImmediateOp.TheVariants.{Addi}
@@ -20,15 +18,15 @@ use Rattle.cfi_unit.specs.declared.unit.Unit as U
 use Rattle.cfi_unit.specs.declared.unit.Unit.TheVariants as V
 use Rattle.cfi_unit.specs.declared.unit.SystemOp.TheVariants as S
 use Rattle.cfi_unit.specs.Members.{IsMember, member_instr}
-use Rattle.cfi_unit.specs.UnitWords.{BAD_TARGET, Fits, Reaches, gate, is_plain, jump, jump_offset, near_offset, skip_offset, word_count, words_of}
+use Rattle.cfi_unit.specs.UnitWords.{BAD_TARGET, Fits, Reaches, gate, jump, jump_offset, near_offset, skip_offset, word_count, words_of}
 use Rattle.cfi_unit.specs.Patterns.{has_form, matches}
 use Rattle.cfi_unit.specs.Shapes.{SHAPES, all_stores, each_guarded, each_stores, guarded, shape, stores}
 use Rattle.cfi_unit.specs.ShapeOf.{shape_of}
 use Rattle.cfi_unit.specs.Opens.{Among, Opens}
 use Rattle.cfi_unit.proofs.Forms.{passes}
-use Rattle.cfi_unit.proofs.Found.{is_jump_instr}
+use Rattle.cfi_unit.proofs.Found.{is_jump_instr, words_counted}
 use Rattle.cfi_unit.proofs.GuardedWords.{is_load}
-use Rattle.cfi_unit.proofs.Holes.{Fill, filled_opens}
+use Rattle.cfi_unit.proofs.Holes.{Fill, filled_opens, opened_length}
 use Rattle.cfi_unit.proofs.Listed.{among_back, among_front, guarded_listed, listed, stores_listed}
 use Rattle.cfi_unit.proofs.UnitHoles.{holes_of, load_word, member_word, unit_filled}
 
@@ -59,10 +57,7 @@ goes at target other reach = ap (λ (t : ℕ). not (t == BAD_TARGET)) reach ∙ 
 
 unit_fill : (u : U.Unit) (at : ℕ) → Fits u at → Fill ((shape_of u at).words) at 0 (holes_of u at)
 unit_fill (V.Gate label) at f = (passes (has_form P.Gate (at + 0)) (gate label) (lit< tt, f) refl, tt)
-unit_fill (V.Plain instr) at f = (passes (has_form P.Plain (at + 0)) instr f.0 (plain_form instr f.1), tt)
-  where
-    plain_form : (i : Instr) → is_plain i ≡ true → has_form P.Plain (at + 0) i ≡ true
-    plain_form i e = e
+unit_fill (V.Plain instr) at f = (passes (has_form P.Plain (at + 0)) instr f.0 f.1, tt)
 unit_fill (V.Branch op rs1 rs2 target) at f = (
   passes (has_form P.Skip (at + 0)) (Branch op rs1 rs2 skip_offset) (f.0, f.1, lit< tt) refl,
   (passes (has_form P.Jump (at + 4)) (jump (at + 4) target) (is_jump_instr 0 (at + 4) target (lit< tt)) refl, tt),
@@ -79,7 +74,6 @@ unit_fill (V.Jump target) at f =
           (passes (has_form P.Goto at) (jump at target) (is_jump_instr 0 at target (lit< tt)) (goes at target f.0 f.1)),
       tt,
     )
-unit_fill V.Stop at f = tt
 unit_fill (V.System S.Ecall) at f = tt
 unit_fill (V.System S.Ebreak) at f = tt
 unit_fill (V.Guarded numbers) at f = guards_fill numbers at 0 f.0.each
@@ -88,7 +82,7 @@ unit_fill (V.Call target) at f =
     (passes (has_form P.Link (at + 28)) (Jal 1 (jump_offset (at + 28) target)) (is_jump_instr 1 (at + 28) target (lit< tt)) refl, tt)
 unit_fill (V.Ijump which rs1 imm label) at f = (address (at + 0) rs1 imm f.0 f.1, (labelled (at + 32) label f.2, tt))
 unit_fill (V.Icall rs1 imm label) at f = (address (at + 0) rs1 imm f.0.0 f.0.1, (labelled (at + 32) label f.0.2, tt))
-unit_fill V.Return at f = tt
+unit_fill other at f = tt
 
 pub unit_opens : (u : U.Unit) (at : ℕ) → Fits u at → Opens ((shape_of u at).words) (words_of u at) at []
 unit_opens u at f =
@@ -137,24 +131,6 @@ shape_among (V.Ijump Second rs1 imm label) at f = listed SHAPES 11 _ refl
 shape_among (V.Icall rs1 imm label) at f = listed SHAPES 12 _ refl
 shape_among V.Return at f = listed SHAPES 13 _ refl
 
--- how many words
-pub tests_length : (n : ℕ) → length (guarded n) ≡ 2 + 2 * n
-tests_length zero = refl
-tests_length (suc n) = let more = tests_length n in omega arith
-
+-- and it has as many patterns as the unit has words
 pub counted : (u : U.Unit) (at : ℕ) → Fits u at → word_count u ≡ length ((shape_of u at).words)
-counted (V.Gate label) at f = refl
-counted (V.Plain instr) at f = refl
-counted (V.Branch op rs1 rs2 target) at f = refl
-counted (V.Near op rs1 rs2 target) at f =
-    elim (cases_Bool (near_offset at target == skip_offset)) [ inl over ↦ rw over refl | inr other ↦ rw other refl ]
-counted (V.Jump target) at f = refl
-counted V.Stop at f = refl
-counted (V.System S.Ecall) at f = refl
-counted (V.System S.Ebreak) at f = refl
-counted (V.Guarded numbers) at f = sym (tests_length (length numbers))
-counted (V.Stores rs1 imm members) at f = let many = length-replicate (length members) P.Member in omega arith
-counted (V.Call target) at f = refl
-counted (V.Ijump which rs1 imm label) at f = refl
-counted (V.Icall rs1 imm label) at f = refl
-counted V.Return at f = refl
+counted u at f = sym (words_counted u at) ∙ opened_length ((shape_of u at).words) (words_of u at) at (unit_opens u at f)

@@ -59,12 +59,8 @@ members_filled (m ∷ ms) at k = ap (λ l. member_word m ∷ l) (members_filled 
 
 pub unit_filled : (u : U.Unit) (at : ℕ) → filled ((shape_of u at).words) at 0 (holes_of u at) ≡ words_of u at
 unfolding words_of
-unit_filled (V.Gate label) at = refl
-unit_filled (V.Plain instr) at = refl
-unit_filled (V.Branch op rs1 rs2 target) at = refl
 unit_filled (V.Near op rs1 rs2 target) at =
     elim (cases_Bool (near_offset at target == skip_offset)) [ inl over ↦ rw over refl | inr other ↦ rw other refl ]
-unit_filled (V.Jump target) at = refl
 unit_filled V.Stop at = let e : at + 0 ≡ at = omega arith in ap (λ (a : ℕ). code_of (jump a BAD_TARGET) ∷ []) e
 unit_filled (V.System S.Ecall) at = refl
 unit_filled (V.System S.Ebreak) at = refl
@@ -74,11 +70,9 @@ unit_filled (V.Guarded numbers) at =
     ∙ ap (λ (a : ℕ). map code_of (guards numbers) ++ (code_of (jump a BAD_TARGET) ∷ code_of Ecall ∷ [])) e
     ∙ sym (map-append code_of (guards numbers) (jump (at + 8 * length numbers) BAD_TARGET ∷ Ecall ∷ []))
 unit_filled (V.Stores rs1 imm members) at = ap (λ l. map code_of (mask rs1 imm) ++ l) (members_filled members at 12)
-unit_filled (V.Call target) at = refl
-unit_filled (V.Ijump which rs1 imm label) at = refl
 unit_filled (V.Icall rs1 imm label) at =
     let e : at + 56 ≡ at + 48 + 8 = omega arith in
     ap
     (λ (a : ℕ). map code_of (check at rs1 imm label First ++ take 2 (push at))
     ++ (code_of (jump a DEEP) ∷ map code_of (drop 3 (push at) ++ Jalr 1 31 0 ∷ []))) e
-unit_filled V.Return at = refl
+unit_filled other at = refl

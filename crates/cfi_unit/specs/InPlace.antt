@@ -73,7 +73,7 @@ pub data InCall (part at v n : ℕ) (h : Hart) (m : Memory) : Type 0 where
   call_jump : h.pc ≡ at + 28 → Pushed part (at + 32) v n h m → InCall part at v n h m
 
 -- an address in the region of code
-pub record InCode (v : ℕ) : Type 0 where
+pub record IsCodeAddress (v : ℕ) : Type 0 where
   pub low : CODE_START ≤ v
   pub high : v < CODE_START + CODE_SIZE
 
@@ -92,16 +92,16 @@ pub data InCheck (part : ℕ) (image : Memory) (which : TargetWord) (at rs1 imm 
       InCheck part image which at rs1 imm label sum v n h
   check_region : h.pc ≡ at + 20 → h.regs 3 ≡ slot part n → h.regs 31 ≡ v → h.regs 30 ≡ difference v CODE_START / 2 ^ 20 →
       InCheck part image which at rs1 imm label sum v n h
-  check_outside : h.pc ≡ at + 24 → h.regs 3 ≡ slot part n → (InCode v → ⊥) →
+  check_outside : h.pc ≡ at + 24 → h.regs 3 ≡ slot part n → (IsCodeAddress v → ⊥) →
       InCheck part image which at rs1 imm label sum v n h
-  check_lw : h.pc ≡ at + 28 → h.regs 3 ≡ slot part n → h.regs 31 ≡ v → InCode v →
+  check_lw : h.pc ≡ at + 28 → h.regs 3 ≡ slot part n → h.regs 31 ≡ v → IsCodeAddress v →
       InCheck part image which at rs1 imm label sum v n h
-  check_label : h.pc ≡ at + 32 → h.regs 3 ≡ slot part n → h.regs 31 ≡ v → InCode v →
+  check_label : h.pc ≡ at + 32 → h.regs 3 ≡ slot part n → h.regs 31 ≡ v → IsCodeAddress v →
       h.regs 30 ≡ offset 32 (read 4 image (v + past which)) → InCheck part image which at rs1 imm label sum v n h
-  check_opcode : h.pc ≡ at + 36 → h.regs 3 ≡ slot part n → h.regs 31 ≡ v → InCode v →
+  check_opcode : h.pc ≡ at + 36 → h.regs 3 ≡ slot part n → h.regs 31 ≡ v → IsCodeAddress v →
       h.regs 30 ≡ offset 32 (read 4 image (v + past which)) → h.regs 4 ≡ offset 32 (label * 2 ^ 12) →
       InCheck part image which at rs1 imm label sum v n h
-  check_word : h.pc ≡ at + 40 → h.regs 3 ≡ slot part n → h.regs 31 ≡ v → InCode v →
+  check_word : h.pc ≡ at + 40 → h.regs 3 ≡ slot part n → h.regs 31 ≡ v → IsCodeAddress v →
       h.regs 30 ≡ offset 32 (read 4 image (v + past which)) → h.regs 4 ≡ wrap (offset 32 (label * 2 ^ 12) + 55) →
       InCheck part image which at rs1 imm label sum v n h
   check_other : h.pc ≡ at + 44 → h.regs 3 ≡ slot part n → (HasLabel image which label v → ⊥) →

@@ -12,7 +12,7 @@ use Rattle.rv_code.specs.State.{Hart}
 use Rattle.cfi_unit.specs.declared.unit.Unit as U
 use Rattle.cfi_unit.specs.declared.unit.Unit.TheVariants as V
 use Rattle.cfi_unit.specs.Members.{MOST_MEMBERS}
-use Rattle.cfi_unit.specs.UnitWords.{Begins, Fits, IsNear, Reaches, instr_at, may_precede, near_offset, skip_offset, skips_jump, word_count, words_of}
+use Rattle.cfi_unit.specs.UnitWords.{Begins, Fits, IsNear, Reaches, instr_at, may_precede, near_offset, skip_offset, skips_jump, words_of}
 use Rattle.cfi_unit.specs.Recognise.{near_to, recognised}
 use Rattle.cfi_unit.specs.Split.{IsSplit}
 use Rattle.cfi_unit.specs.Place.{Place}
@@ -39,10 +39,6 @@ abbrev pub EmittedRecognised : Type 0
 EmittedRecognised =
     (unit : U.Unit) (at : ℕ) (rest : List ℕ) → Fits unit at → IsTrue (may_precede unit at rest) →
     recognised (words_of unit at ++ rest) at ≡ Some unit
-
--- a unit has as many words as its kind says
-abbrev pub WordsCounted : Type 0
-WordsCounted = (unit : U.Unit) (at : ℕ) → length (words_of unit at) ≡ word_count unit
 
 -- a unit that looks at the word after it: a near branch over the next word, and stores of which there
 -- may be more

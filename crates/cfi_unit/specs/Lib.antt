@@ -7,6 +7,7 @@ pub mod Patterns
 pub mod Shapes
 pub mod ShapeOf
 pub mod Opens
+pub mod FoundShape
 pub mod ShapeLaw
 pub mod Split
 pub mod Laws

@@ -1,7 +1,9 @@
 -- What holds of units and the table of their shapes, each law by its name.
-use Rattle.std.specs.Prelude.{◌≡◌, ℕ, List, [], length}
+use Rattle.std.specs.Prelude.{◌≡◌, ℕ, List, [], length, option_map}
 use Rattle.cfi_unit.specs.declared.unit.Unit as U
 use Rattle.cfi_unit.specs.UnitWords.{Fits, word_count, words_of}
+use Rattle.cfi_unit.specs.Recognise.{recognised}
+use Rattle.cfi_unit.specs.FoundShape.{found_shape}
 use Rattle.cfi_unit.specs.Shapes.{SHAPES, Shape}
 use Rattle.cfi_unit.specs.ShapeOf.{shape_of}
 use Rattle.cfi_unit.specs.Opens.{Among, InCode, Made, Opens, Small}
@@ -29,3 +31,9 @@ ShapesApart =
 -- each shape of the table is one of a unit
 abbrev pub ShapesUsed : Type 0
 ShapesUsed = (s : Shape) → Among s SHAPES → (unit : U.Unit) × ((at : ℕ) × (Fits unit at × (shape_of unit at ≡ s)))
+
+-- the unit that is recognised in code is one of the first shape of the table that the words begin as
+abbrev pub RecognisedFound : Type 0
+RecognisedFound =
+    (words : List ℕ) (at : ℕ) → InCode at (length words) → Small words →
+    option_map (λ unit. shape_of unit at) (recognised words at) ≡ found_shape words at

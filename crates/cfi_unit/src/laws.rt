@@ -9,7 +9,6 @@ ghost use Rattle.cfi_unit.specs.Laws.{
   OthersKeep,
   RecognisedBegins,
   SplitUnique,
-  WordsCounted,
   WordsDetermine,
 };
 ghost use Rattle.cfi_unit.specs.Results.{ResultsListed};
@@ -30,12 +29,6 @@ pub fn begins_recognised()
 #[tactic(auto, using(crate::proofs::Found::found))]
 pub fn emitted_recognised()
     ensures { EmittedRecognised }
-{}
-
-/// A unit has as many words as its kind says.
-#[tactic(auto, using(crate::proofs::Found::words_counted))]
-pub fn words_counted()
-    ensures { WordsCounted }
 {}
 
 /// No unit's words are a prefix of another's, but those of a near branch over the next word, and those

@@ -1,5 +1,5 @@
 //! The table of shapes says what the units are. Each function states one law; nothing is computed.
-ghost use Rattle.cfi_unit.specs.ShapeLaw.{ShapesApart, ShapesMade, ShapesUsed, UnitsShaped};
+ghost use Rattle.cfi_unit.specs.ShapeLaw.{RecognisedFound, ShapesApart, ShapesMade, ShapesUsed, UnitsShaped};
 
 /// The words of a unit that fits are as its shape says, which is one of the table and as long as the unit.
 pub fn units_shaped()
@@ -21,4 +21,10 @@ pub fn shapes_apart()
 /// Each shape of the table is one of a unit.
 pub fn shapes_used()
     ensures { ShapesUsed }
+{}
+
+/// The unit that is recognised in code is one of the first shape of the table that the words begin as.
+#[tactic(auto, using(crate::proofs::FoundShapes::recognised_found))]
+pub fn recognised_found()
+    ensures { RecognisedFound }
 {}

@@ -1,0 +1,24 @@
+-- The shape of the unit that begins a list of words, by the table: the first that the words begin as. A branch over
+-- a jump is tried before all others, and more stores before fewer.
+use Rattle.std.specs.Prelude.{ℕ, ◌+◌, ◌&&◌, Bool, true, false, if◌then◌else◌, List, [], ◌∷◌, Option, Some, None}
+use Rattle.cfi_unit.specs.declared.pattern.End.TheVariants as E
+use Rattle.cfi_unit.specs.declared.pattern.Pattern.{Pattern}
+use Rattle.cfi_unit.specs.declared.pattern.Pattern.TheVariants as P
+use Rattle.cfi_unit.specs.Patterns.{matches}
+use Rattle.cfi_unit.specs.Shapes.{SHAPES, Shape, shape}
+
+-- the first of these words are as patterns say
+abbrev pub begins_as : List Pattern → List ℕ → ℕ → Bool
+begins_as [] words at = true
+begins_as (p ∷ ps) [] at = false
+begins_as (p ∷ ps) (w ∷ words) at = matches p w at && begins_as ps words (at + 4)
+
+abbrev pub first_of : List Shape → List ℕ → ℕ → Option Shape
+first_of [] words at = None
+first_of (s ∷ ss) words at = if begins_as s.words words at then Some s else first_of ss words at
+
+abbrev pub OVER_JUMP : Shape
+OVER_JUMP = shape E.Branch (P.Skip ∷ P.Jump ∷ [])
+
+abbrev pub found_shape : List ℕ → ℕ → Option Shape
+found_shape words at = first_of (OVER_JUMP ∷ SHAPES) words at
