@@ -1,5 +1,5 @@
 -- Units that go on where a word follows: a branch over the next word with a jump, and stores with a store.
-use Rattle.std.proofs.Common.{◌≡◌, ◌≢◌, ℕ, zero, suc, ◌+◌, ◌*◌, ◌<◌, ◌≤◌, ◌==◌, ◌&&◌, ◌||◌, Bool, true, false, not, inl, inr, List, [], ◌∷◌, ◌++◌, length, replicate, refl, ap, sym, subst, ◌∙◌, arith, lit<, length-append, append_assoc}
+use Rattle.std.proofs.Common.{◌≡◌, ℕ, zero, suc, ◌+◌, ◌<◌, ◌≤◌, ◌==◌, ◌&&◌, ◌||◌, Bool, true, false, not, inl, inr, List, [], ◌∷◌, ◌++◌, length, replicate, refl, ap, sym, subst, ◌∙◌, arith, lit<, length-append}
 use Rattle.std.specs.Prelude.{Option, Some, None, is_none, if◌then◌else◌, nat_le}
 use Rattle.std.specs.List.{AllByRecursion}
 use Rattle.std.proofs.lemmas.Bool.{cases_Bool, eqb-true, eq-eqb, and_parts, leb-false, leb-true}
@@ -9,7 +9,6 @@ use Rattle.rv_instr.specs.declared.instr.BranchOp.{BranchOp}
 use Rattle.rv_code.specs.Decode.{decoded}
 use Rattle.cfi_unit.specs.declared.pattern.Pattern.{Pattern}
 use Rattle.cfi_unit.specs.declared.pattern.Pattern.TheVariants as P
-use Rattle.cfi_unit.specs.declared.pattern.End.{End}
 use Rattle.cfi_unit.specs.declared.pattern.End.TheVariants as D
 use Rattle.cfi_unit.specs.declared.unit.Unit as U
 use Rattle.cfi_unit.specs.declared.unit.Unit.TheVariants as V

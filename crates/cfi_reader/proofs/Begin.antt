@@ -1,17 +1,13 @@
 -- The first word of a unit: what is left of the shapes that it opens, by its instruction.
-use Rattle.std.proofs.Common.{◌≡◌, ◌≢◌, ℕ, zero, suc, ◌+◌, ◌*◌, ◌/◌, ◌%◌, ◌^◌, ◌<◌, ◌≤◌, ◌==◌, ◌&&◌, ◌||◌, Bool, true, false, not, inl, inr, List, [], ◌∷◌, ◌++◌, length, refl, ap, ap₂, sym, subst, ◌∙◌, arith, lit<, lit≤}
-use Rattle.std.specs.Prelude.{Option, Some, None, if◌then◌else◌, nat_lt}
+use Rattle.std.proofs.Common.{◌≡◌, ℕ, ◌^◌, ◌<◌, ◌==◌, ◌&&◌, ◌||◌, Bool, true, false, inl, inr, List, [], ◌∷◌, refl, ap, ap₂, sym, subst, ◌∙◌, arith, lit<}
+use Rattle.std.specs.Prelude.{Some, None, if◌then◌else◌}
 use Rattle.std.proofs.lemmas.Bool.{and_parts, cases_Bool, eqb-true, eq-eqb}
 use Rattle.std.proofs.lemmas.Nat.{mod_below}
 use Rattle.std.proofs.lemmas.Option.{same_Some}
-use Rattle.rv_word.specs.MemoryMap.{CODE_START, CODE_SIZE}
 use Rattle.rv_instr.specs.InRange.{IsInstr}
-use Rattle.rv_instr.specs.Reserved.{is_reserved}
 use Rattle.rv_instr.specs.declared.instr.Instr.{Instr}
-use Rattle.rv_instr.specs.declared.instr.Instr.TheVariants.{Upper, Jal, Jalr, Branch, Load, Store, Immediate, Shift, ShiftWord, Register, Fence, Ecall, Ebreak}
-use Rattle.rv_instr.specs.declared.instr.ShiftOp.{ShiftOp}
+use Rattle.rv_instr.specs.declared.instr.Instr.TheVariants.{Jal, Load, Shift, Ecall, Ebreak}
 use Rattle.rv_instr.specs.declared.instr.ShiftOp.TheVariants.{Slli}
-use Rattle.rv_instr.specs.declared.instr.LoadOp.{LoadOp}
 use Rattle.rv_instr.specs.declared.instr.LoadOp.TheVariants.{Ld}
 use Rattle.rv_code.specs.Decode.{decoded}
 use Rattle.rv_code.specs.Encode.{code_of}
@@ -20,17 +16,25 @@ use Rattle.rv_code.proofs.Inverse.{IsWordOf, word-decoded}
 use Rattle.cfi_unit.specs.declared.pattern.Pattern.{Pattern}
 use Rattle.cfi_unit.specs.declared.pattern.Pattern.TheVariants as P
 use Rattle.cfi_unit.specs.declared.pattern.End.{End}
-use Rattle.cfi_unit.specs.declared.pattern.End.TheVariants as D
 use Rattle.cfi_unit.specs.Recognise.{led_to}
-use Rattle.cfi_unit.specs.UnitWords.{BAD_TARGET, MINUS_EIGHT, Reaches, is_lui, is_plain, jump, jump_offset, skip_offset}
-use Rattle.cfi_unit.specs.Patterns.{decodes_to, has_form, is_addi, matches}
+use Rattle.cfi_unit.specs.UnitWords.{BAD_TARGET, MINUS_EIGHT, Reaches, jump, jump_offset}
+use Rattle.cfi_unit.specs.Patterns.{decodes_to, has_form, matches}
 use Rattle.cfi_unit.specs.Shapes.{SHAPES, Shape, is, shape}
 use Rattle.cfi_unit.specs.Opens.{Among, InCode, Opens}
 use Rattle.cfi_unit.proofs.LedBack.{led_back}
 use Rattle.cfi_unit.proofs.Near.{near_reached}
-use Rattle.cfi_reader.specs.Left.{Reads, pick, pick_one, same}
-use Rattle.cfi_reader.specs.FirstStep.{is_number, opens_address, opens_call, opens_return}
+use Rattle.cfi_reader.specs.Left.{Reads, same}
+use Rattle.cfi_reader.specs.FirstStep.{opens_call, opens_return}
 use Rattle.cfi_reader.proofs.Steps.{same_is}
+
+-- what is left of those whose first pattern a word has
+abbrev pub pick_one : (Pattern → Bool) → End → List Pattern → List Shape → List Shape
+pick_one test end [] rest = rest
+pick_one test end (q ∷ left) rest = if test q then shape end left ∷ rest else rest
+
+abbrev pub pick : (Pattern → Bool) → List Shape → List Shape
+pick test [] = []
+pick test (r ∷ rs) = pick_one test r.end r.words (pick test rs)
 
 -- the patterns with which units begin
 abbrev pub FIRSTS : List Pattern

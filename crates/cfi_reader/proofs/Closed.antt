@@ -1,17 +1,16 @@
 -- Where no word follows: what is read is a unit, or none is recognised there; and where none is read yet.
-use Rattle.std.proofs.Common.{◌≡◌, ℕ, ◌+◌, ◌*◌, ◌≤◌, ◌==◌, true, false, inl, inr, List, [], ◌∷◌, ◌++◌, length, refl, ap, sym, subst, ◌∙◌, arith}
-use Rattle.std.specs.Prelude.{Option, Some, None}
+use Rattle.std.proofs.Common.{◌≡◌, ℕ, ◌≤◌, false, List, [], ◌∷◌, length, refl, ap, sym, subst, ◌∙◌, arith}
+use Rattle.std.specs.Prelude.{Some, None}
 use Rattle.rv_word.specs.MemoryMap.{CODE_START}
 use Rattle.cfi_unit.specs.declared.pattern.Pattern.{Pattern}
 use Rattle.cfi_unit.specs.declared.pattern.End.{End}
 use Rattle.cfi_unit.specs.Recognise.{recognised}
-use Rattle.cfi_unit.specs.Shapes.{SHAPES, Shape, shape}
+use Rattle.cfi_unit.specs.Shapes.{SHAPES, shape}
 use Rattle.cfi_unit.specs.ShapeOf.{shape_of}
-use Rattle.cfi_unit.specs.Opens.{Among, InCode, Made, Opens}
-use Rattle.cfi_reader.specs.Left.{Reads, is_alone}
+use Rattle.cfi_unit.specs.Opens.{Among, InCode, Opens}
+use Rattle.cfi_reader.specs.Left.{is_alone}
 use Rattle.cfi_reader.specs.Nodes.{rest_of}
 use Rattle.cfi_reader.specs.Kept.{label_by, numbers_by, open_entry, told_by}
-use Rattle.cfi_reader.specs.Entries.{entry_of}
 use Rattle.cfi_reader.specs.Reading.{IsReading, IsUnit, START}
 use Rattle.cfi_reader.specs.Trying.{Ended}
 use Rattle.cfi_reader.specs.declared.reader.Reader.{Reader}

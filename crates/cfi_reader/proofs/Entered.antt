@@ -1,32 +1,27 @@
 -- The entry of a unit, by what is kept of it and by its last word.
-use Rattle.std.proofs.Common.{◌≡◌, ◌≢◌, ℕ, zero, suc, ◌+◌, ◌-◌, ◌*◌, ◌/◌, ◌%◌, ◌^◌, ◌<◌, ◌≤◌, ◌==◌, ◌&&◌, Bool, true, false, inl, inr, List, [], ◌∷◌, ◌++◌, map, length, refl, ap, ap₂, sym, subst, ◌∙◌, arith, lit<}
-use Rattle.std.specs.Prelude.{Option, Some, None, if◌then◌else◌}
-use Rattle.std.proofs.lemmas.Bool.{cases_Bool, eqb-true, eq-eqb}
+use Rattle.std.proofs.Common.{◌≡◌, ℕ, ◌+◌, ◌*◌, ◌/◌, ◌^◌, ◌<◌, ◌≤◌, ◌==◌, true, false, inl, inr, List, [], ◌∷◌, ◌++◌, map, length, refl, ap, ap₂, sym, ◌∙◌, arith, lit<}
+use Rattle.std.specs.Prelude.{Some, None}
+use Rattle.std.proofs.lemmas.Bool.{cases_Bool, eqb-true}
 use Rattle.std.proofs.lemmas.Nat.{mod_below}
-use Rattle.rv_word.specs.Numbers.{MOST_NUMBERS, are_same}
-use Rattle.rv_instr.specs.InRange.{IsInstr}
+use Rattle.rv_word.specs.Numbers.{MOST_NUMBERS}
 use Rattle.rv_instr.specs.declared.instr.Instr.{Instr}
-use Rattle.rv_instr.specs.declared.instr.Instr.TheVariants.{Upper, Jal, Branch, Immediate, Ecall}
+use Rattle.rv_instr.specs.declared.instr.Instr.TheVariants.{Upper, Jal, Immediate, Ecall}
 use Rattle.rv_instr.specs.declared.instr.UpperOp.TheVariants.{Lui}
 use Rattle.rv_instr.specs.declared.instr.ImmediateOp.TheVariants.{Addi}
 use Rattle.rv_code.specs.Decode.{decoded}
 use Rattle.rv_code.specs.Encode.{code_of}
 use Rattle.rv_code.proofs.ReadBack.{decoded-code_of}
-use Rattle.cfi_unit.specs.declared.pattern.End.{End}
-use Rattle.cfi_unit.specs.declared.pattern.End.TheVariants as D
 use Rattle.cfi_unit.specs.declared.target_word.TargetWord.TheVariants.{First, Second}
 use Rattle.cfi_unit.specs.declared.unit.Unit as U
 use Rattle.cfi_unit.specs.declared.unit.Unit.TheVariants as V
 use Rattle.cfi_unit.specs.declared.unit.SystemOp.TheVariants as S
 use Rattle.cfi_unit.specs.Guarded.{guards}
 use Rattle.cfi_unit.specs.UnitWords.{BAD_TARGET, Fits, jump, jump_offset, near_offset, skip_offset, words_of}
-use Rattle.cfi_unit.specs.Shapes.{SHAPES, Shape, guarded}
+use Rattle.cfi_unit.specs.Shapes.{guarded}
 use Rattle.cfi_unit.specs.ShapeOf.{shape_of}
-use Rattle.cfi_unit.specs.Opens.{Among, Opens}
 use Rattle.cfi_reader.specs.Left.{is_alone}
 use Rattle.cfi_reader.specs.Entries.{entry_of}
 use Rattle.cfi_reader.specs.Kept.{Keeps, entry_by, field_in, is_longer, label_by, numbers_by, open_entry, told_by, with_field}
-use Rattle.cfi_reader.specs.declared.entry.Entry.{Entry}
 use Rattle.cfi_reader.specs.declared.entry.Entry.TheVariants as E
 use Rattle.cfi_reader.specs.declared.kept.Kept.{Kept}
 use Rattle.cfi_reader.proofs.Keeping.{told_all}

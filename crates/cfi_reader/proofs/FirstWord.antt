@@ -1,6 +1,6 @@
 -- Where the first word of a unit leads, by its instruction.
-use Rattle.std.proofs.Common.{◌≡◌, ◌≢◌, ℕ, zero, suc, ◌+◌, ◌*◌, ◌/◌, ◌^◌, ◌<◌, ◌==◌, ◌&&◌, Bool, true, false, not, inl, inr, List, [], ◌∷◌, refl, ap, ap₂, sym, subst, ◌∙◌, arith}
-use Rattle.std.specs.Prelude.{Option, Some, None, if◌then◌else◌, nat_lt}
+use Rattle.std.proofs.Common.{◌≡◌, ◌≢◌, ℕ, ◌/◌, ◌^◌, ◌<◌, ◌==◌, ◌&&◌, Bool, true, false, not, inl, inr, List, [], ◌∷◌, refl, ap, sym, subst, ◌∙◌, arith}
+use Rattle.std.specs.Prelude.{Some, None, if◌then◌else◌, nat_lt}
 use Rattle.std.proofs.lemmas.Bool.{and_parts, cases_Bool, eqb-true}
 use Rattle.rv_instr.specs.Reserved.{is_reserved}
 use Rattle.rv_instr.specs.declared.instr.Instr.{Instr}
@@ -20,19 +20,17 @@ use Rattle.cfi_unit.specs.declared.pattern.Pattern.TheVariants as P
 use Rattle.cfi_unit.specs.declared.pattern.End.{End}
 use Rattle.cfi_unit.specs.declared.pattern.End.TheVariants as D
 use Rattle.cfi_unit.specs.Recognise.{led_to}
-use Rattle.cfi_unit.specs.UnitWords.{BAD_TARGET, is_lui, is_plain, skip_offset}
-use Rattle.cfi_unit.specs.Patterns.{decodes_to, has_form, is_addi, matches}
+use Rattle.cfi_unit.specs.UnitWords.{BAD_TARGET, is_lui, skip_offset}
+use Rattle.cfi_unit.specs.Patterns.{decodes_to, has_form, is_addi}
 use Rattle.cfi_unit.specs.Shapes.{SHAPES, Shape, shape}
 use Rattle.cfi_unit.specs.Opens.{InCode}
-use Rattle.cfi_reader.specs.Left.{Reads, pick}
+use Rattle.cfi_reader.specs.Left.{Reads}
 use Rattle.cfi_reader.specs.Nodes.{rest_of}
 use Rattle.cfi_reader.specs.Kept.{count_on}
 use Rattle.cfi_reader.specs.Reading.{Opened}
 use Rattle.cfi_reader.specs.FirstStep.{at_node, first_step, is_number, opens_address, opens_call, opens_return, stuck}
-use Rattle.cfi_reader.specs.declared.first.First.{First}
 use Rattle.cfi_reader.specs.declared.first.First.TheVariants.{More, Done}
-use Rattle.cfi_reader.specs.declared.kept.Kept.{Kept}
-use Rattle.cfi_reader.proofs.Begin.{Agrees, FIRSTS, agrees, answers, choose, first_reads, none_agrees}
+use Rattle.cfi_reader.proofs.Begin.{Agrees, FIRSTS, agrees, answers, choose, first_reads, none_agrees, pick}
 use Rattle.cfi_reader.proofs.Opening.{done_by, first_entry, is_single, node_by}
 
 -- what each pattern is told, and what that leaves

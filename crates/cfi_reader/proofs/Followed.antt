@@ -1,26 +1,23 @@
 -- Where a word leads that is as a row says, and one that is not.
-use Rattle.std.proofs.Common.{◌≡◌, ◌≢◌, ℕ, ◌+◌, ◌*◌, ◌%◌, ◌^◌, ◌<◌, ◌≤◌, ◌==◌, ◌&&◌, Bool, true, false, not, inl, inr, List, [], ◌∷◌, ◌++◌, length, refl, ap, sym, subst, ◌∙◌, arith, length-append}
+use Rattle.std.proofs.Common.{◌≡◌, ℕ, ◌+◌, ◌*◌, ◌^◌, ◌<◌, ◌≤◌, ◌==◌, ◌&&◌, Bool, true, false, not, inl, inr, List, [], ◌∷◌, ◌++◌, length, refl, ap, sym, subst, ◌∙◌, arith, length-append}
 use Rattle.std.specs.Prelude.{Option, Some, None, nat_lt}
-use Rattle.std.specs.List.{AllByRecursion}
-use Rattle.std.proofs.lemmas.Bool.{and_parts, cases_Bool, eqb-true, eq-eqb, ltb-true}
-use Rattle.rv_word.specs.MemoryMap.{CODE_START, CODE_SIZE}
+use Rattle.std.proofs.lemmas.Bool.{and_parts, cases_Bool, eq-eqb, ltb-true}
+use Rattle.rv_word.specs.MemoryMap.{CODE_START}
 use Rattle.rv_word.specs.Numbers.{MOST_NUMBERS}
 use Rattle.rv_code.specs.Decode.{decoded}
 use Rattle.cfi_unit.specs.declared.pattern.Pattern.{Pattern}
 use Rattle.cfi_unit.specs.declared.pattern.End.{End}
 use Rattle.cfi_unit.specs.declared.pattern.End.TheVariants as D
-use Rattle.cfi_unit.specs.UnitWords.{may_precede, words_of}
+use Rattle.cfi_unit.specs.UnitWords.{may_precede}
 use Rattle.cfi_unit.specs.Patterns.{matches}
 use Rattle.cfi_unit.specs.Shapes.{SHAPES, Shape, shape}
 use Rattle.cfi_unit.specs.ShapeOf.{shape_of}
 use Rattle.cfi_unit.specs.Opens.{Among, InCode, Made, Opens, Small}
-use Rattle.cfi_reader.specs.Left.{Reads, Tries, after, go_else, goes_on, is_alone, lets, none_ended, same, tells, without}
+use Rattle.cfi_reader.specs.Left.{Reads, Tries, after, go_else, goes_on, is_alone, none_ended, same, without}
 use Rattle.cfi_reader.specs.Nodes.{else_to, goes_to, is_row_of, rest_of, same_shapes}
 use Rattle.cfi_reader.specs.Kept.{Keeps, entry_by, is_longer, keep, open_entry}
-use Rattle.cfi_reader.specs.Entries.{entry_of}
-use Rattle.cfi_reader.specs.Reading.{AtLeast, IsReading, IsUnit, Leads}
+use Rattle.cfi_reader.specs.Reading.{IsReading, Leads}
 use Rattle.cfi_reader.specs.Trying.{Ended, IsTrying}
-use Rattle.cfi_reader.specs.declared.entry.Entry.{Entry}
 use Rattle.cfi_reader.specs.declared.kept.Kept.{Kept}
 use Rattle.cfi_reader.specs.declared.node.Row.{Row}
 use Rattle.cfi_reader.specs.declared.node.Else.TheVariants as L
@@ -107,7 +104,7 @@ not_true true e = absurd (cc)
 not_true false e = refl
 
 module _ (calls : List ℕ) (reader : Reader) (row : Row) (word here : ℕ) (most : length calls ≤ MOST_NUMBERS) (place : InCode here 1) (low : word < 2 ^ 32) (table : is_row_of reader.node row ≡ true)
-  (held : List ℕ) (at : ℕ) (t : IsTrying calls reader held word at) (e : here ≡ at + 4 * length held) where
+    (held : List ℕ) (at : ℕ) (t : IsTrying calls reader held word at) (e : here ≡ at + 4 * length held) where
   said : Says reader.node row
   said = says reader.node row table
 

@@ -1,5 +1,5 @@
 -- What is kept of a unit, after one word more.
-use Rattle.std.proofs.Common.{◌≡◌, ℕ, zero, suc, ◌+◌, ◌*◌, ◌/◌, ◌^◌, ◌<◌, ◌≤◌, ◌==◌, ◌&&◌, Bool, true, false, inl, inr, List, [], ◌∷◌, ◌++◌, length, take, refl, ap, ap₂, sym, subst, ◌∙◌, arith, length-append}
+use Rattle.std.proofs.Common.{◌≡◌, ℕ, zero, suc, ◌+◌, ◌*◌, ◌/◌, ◌^◌, ◌≤◌, ◌==◌, ◌&&◌, Bool, true, false, inl, inr, List, [], ◌∷◌, ◌++◌, length, take, refl, ap, ap₂, sym, ◌∙◌, arith, length-append}
 use Rattle.std.specs.Prelude.{Option, Some, None, slice_get, if◌then◌else◌}
 use Rattle.std.proofs.lemmas.Bool.{and_parts, cases_Bool, eqb-true, eq-eqb}
 use Rattle.std.proofs.lemmas.List.{take_all}
@@ -7,10 +7,9 @@ use Rattle.std.proofs.lemmas.Option.{same_Some}
 use Rattle.rv_word.specs.Numbers.{MOST_NUMBERS, are_same}
 use Rattle.cfi_unit.specs.declared.pattern.Pattern.{Pattern}
 use Rattle.cfi_unit.specs.declared.pattern.Pattern.TheVariants as P
-use Rattle.cfi_unit.specs.declared.pattern.End.TheVariants as D
 use Rattle.cfi_unit.specs.Patterns.{matches}
-use Rattle.cfi_unit.specs.Shapes.{SHAPES, Shape, shape}
-use Rattle.cfi_unit.specs.Opens.{Among, Opens}
+use Rattle.cfi_unit.specs.Shapes.{Shape}
+use Rattle.cfi_unit.specs.Opens.{Opens}
 use Rattle.cfi_reader.specs.Left.{Tries, tells}
 use Rattle.cfi_reader.specs.Kept.{Keeps, MISSED, count_on, is_it, keep, label_by, numbers_by, relabel, told_by, with_number}
 use Rattle.cfi_reader.specs.declared.kept.Kept.{Kept}

@@ -1,10 +1,9 @@
 -- A unit that is being read, and one word more.
-use Rattle.std.proofs.Common.{◌≡◌, ◌≢◌, ℕ, zero, suc, ◌+◌, ◌-◌, ◌*◌, ◌^◌, ◌<◌, ◌≤◌, ◌==◌, ◌&&◌, Bool, true, false, not, inl, inr, List, [], ◌∷◌, ◌++◌, length, take, drop, refl, ap, sym, subst, ◌∙◌, arith, append_assoc, append-nil, length-append}
+use Rattle.std.proofs.Common.{◌≡◌, ℕ, zero, suc, ◌+◌, ◌*◌, ◌^◌, ◌<◌, ◌≤◌, true, false, inl, inr, List, [], ◌∷◌, ◌++◌, length, take, drop, refl, ap, sym, subst, ◌∙◌, arith, append_assoc, append-nil, length-append}
 use Rattle.std.specs.Prelude.{Option, Some, None}
-use Rattle.std.proofs.lemmas.Bool.{and_parts, cases_Bool, cases_lt, eqb-true, eq-eqb}
+use Rattle.std.proofs.lemmas.Bool.{and_parts, cases_lt}
 use Rattle.std.proofs.lemmas.List.Elements.{All-cons, All-nil}
 use Rattle.std.proofs.Math.Seq.{take-append_seam, drop-append_seam}
-use Rattle.rv_word.specs.MemoryMap.{CODE_START}
 use Rattle.cfi_unit.specs.declared.pattern.Pattern.{Pattern}
 use Rattle.cfi_unit.specs.declared.pattern.End.{End}
 use Rattle.cfi_unit.specs.declared.unit.Unit as U
@@ -12,16 +11,14 @@ use Rattle.cfi_unit.specs.UnitWords.{Begins, Fits, may_precede, word_count, word
 use Rattle.cfi_unit.specs.Recognise.{recognised}
 use Rattle.cfi_unit.specs.Laws.{AreWords}
 use Rattle.cfi_unit.specs.Patterns.{matches}
-use Rattle.cfi_unit.specs.Shapes.{SHAPES, Shape, shape}
+use Rattle.cfi_unit.specs.Shapes.{Shape, shape}
 use Rattle.cfi_unit.specs.ShapeOf.{shape_of}
-use Rattle.cfi_unit.specs.Opens.{Among, InCode, Made, Opens, Small}
-use Rattle.cfi_unit.proofs.Counts.{some_word}
+use Rattle.cfi_unit.specs.Opens.{Among, Opens, Small}
 use Rattle.cfi_reader.specs.Left.{Reads, Tries, goes_on, lets, none_ended}
 use Rattle.cfi_reader.specs.Reading.{AtLeast, NeverBegins}
 use Rattle.cfi_reader.proofs.Ahead.{goes_on_with}
 use Rattle.cfi_reader.proofs.Steps.{first_words, lets_ended}
 use Rattle.cfi_unit.proofs.Found.{words_counted}
-use Rattle.cfi_unit.proofs.MadeUnits.{made}
 use Rattle.cfi_unit.proofs.ShapedUnits.{shape_among, unit_opens}
 use Rattle.cfi_unit.proofs.Told.{recognised_begins}
 

@@ -1,20 +1,12 @@
 -- Where the first word of a unit leads.
-use Rattle.std.proofs.Common.{◌≡◌, ◌≢◌, ℕ, zero, suc, ◌+◌, ◌*◌, ◌/◌, ◌%◌, ◌^◌, ◌<◌, ◌≤◌, ◌==◌, ◌&&◌, ◌||◌, Bool, true, false, not, inl, inr, List, [], ◌∷◌, ◌++◌, length, refl, ap, ap₂, sym, subst, ◌∙◌, arith, lit<, lit≤}
-use Rattle.std.specs.Prelude.{Option, Some, None, if◌then◌else◌, nat_lt}
-use Rattle.std.proofs.lemmas.Bool.{and_parts, cases_Bool, eqb-true, eq-eqb}
+use Rattle.std.proofs.Common.{◌≡◌, ◌≢◌, ℕ, ◌/◌, ◌^◌, ◌<◌, ◌==◌, ◌&&◌, Bool, true, false, inl, inr, List, [], ◌∷◌, length, refl, ap, sym, ◌∙◌, arith, lit<}
+use Rattle.std.specs.Prelude.{Some, None}
+use Rattle.std.proofs.lemmas.Bool.{and_parts, cases_Bool}
 use Rattle.std.proofs.lemmas.Nat.{mod_below}
 use Rattle.std.proofs.lemmas.Option.{same_Some}
-use Rattle.rv_word.specs.Numbers.{MOST_NUMBERS}
 use Rattle.rv_instr.specs.InRange.{IsInstr}
-use Rattle.rv_instr.specs.Reserved.{is_reserved}
 use Rattle.rv_instr.specs.declared.instr.Instr.{Instr}
-use Rattle.rv_instr.specs.declared.instr.Instr.TheVariants.{Upper, Jal, Jalr, Branch, Load, Store, Immediate, Shift, ShiftWord, Register, Fence, Ecall, Ebreak}
-use Rattle.rv_instr.specs.declared.instr.ImmediateOp.{ImmediateOp}
-use Rattle.rv_instr.specs.declared.instr.ImmediateOp.TheVariants.{Addi}
-use Rattle.rv_instr.specs.declared.instr.ShiftOp.{ShiftOp}
-use Rattle.rv_instr.specs.declared.instr.ShiftOp.TheVariants.{Slli}
-use Rattle.rv_instr.specs.declared.instr.LoadOp.{LoadOp}
-use Rattle.rv_instr.specs.declared.instr.LoadOp.TheVariants.{Ld}
+use Rattle.rv_instr.specs.declared.instr.Instr.TheVariants.{Upper, Jal, Branch}
 use Rattle.rv_code.specs.Decode.{decoded}
 use Rattle.rv_code.specs.Encode.{code_of}
 use Rattle.rv_code.proofs.ReadBack.{decoded-code_of}
@@ -26,26 +18,24 @@ use Rattle.cfi_unit.specs.declared.pattern.End.TheVariants as D
 use Rattle.cfi_unit.specs.declared.unit.Unit as U
 use Rattle.cfi_unit.specs.declared.unit.Unit.TheVariants as V
 use Rattle.cfi_unit.specs.declared.unit.SystemOp.TheVariants as S
-use Rattle.cfi_unit.specs.Recognise.{led_to}
-use Rattle.cfi_unit.specs.UnitWords.{BAD_TARGET, Begins, Fits, gate, is_lui, jump, jump_offset, near_offset, skip_offset, word_count, words_of}
-use Rattle.cfi_unit.specs.Patterns.{is_addi, matches}
+use Rattle.cfi_unit.specs.UnitWords.{Fits, gate, jump, near_offset, skip_offset, words_of}
+use Rattle.cfi_unit.specs.Patterns.{matches}
 use Rattle.cfi_unit.specs.Shapes.{SHAPES, Shape, shape}
 use Rattle.cfi_unit.specs.ShapeOf.{shape_of}
-use Rattle.cfi_unit.specs.Opens.{Among, InCode, Made, Opens}
+use Rattle.cfi_unit.specs.Opens.{Among, InCode}
 use Rattle.cfi_unit.proofs.Counts.{some_word}
-use Rattle.cfi_reader.specs.Left.{Reads, is_alone, pick}
+use Rattle.cfi_reader.specs.Left.{Reads, is_alone}
 use Rattle.cfi_reader.specs.Nodes.{rest_of}
 use Rattle.cfi_reader.specs.Kept.{Keeps, count_on, label_by, numbers_by, told_by}
 use Rattle.cfi_reader.specs.Entries.{entry_of}
-use Rattle.cfi_reader.specs.Reading.{AtLeast, IsReading, Opened}
+use Rattle.cfi_reader.specs.Reading.{AtLeast, Opened}
 use Rattle.cfi_reader.specs.PlainWord.{IsPlainWord}
-use Rattle.cfi_reader.specs.FirstStep.{at_node, first_step, is_number, opens_address, opens_call, opens_return}
 use Rattle.cfi_reader.specs.declared.entry.Entry.{Entry}
 use Rattle.cfi_reader.specs.declared.entry.Entry.TheVariants as E
 use Rattle.cfi_reader.specs.declared.first.First.TheVariants.{More, Done}
 use Rattle.cfi_reader.specs.declared.kept.Kept.{Kept}
 use Rattle.cfi_reader.proofs.Ahead.{alone_precedes}
-use Rattle.cfi_reader.proofs.Begin.{Agrees, FIRSTS, agrees, answers, choose, first_reads, none_agrees, opens_one}
+use Rattle.cfi_reader.proofs.Begin.{opens_one}
 use Rattle.cfi_reader.proofs.Followed.{Whole, first_ended, whole_unit}
 
 -- a word that opens a unit is in it
@@ -210,13 +200,12 @@ module _ (calls : List ℕ) (word at : ℕ) (place : InCode at 1) (small : word 
 -- a plain word is a unit
 pub plain_opens : (calls : List ℕ) (word at : ℕ) → word < 2 ^ 32 → IsPlainWord word → Opened calls word at (Done E.Other)
 unfolding words_of
-plain_opens calls word at small p =
-    (
-      record {
-        unit = V.Plain p.instr;
-        fits = (decoded-in_range word p.instr small p.is, p.plain);
-        entry_is = refl;
-        words_are = ap (λ (w : ℕ). w ∷ []) (sym (code_of-decoded word p.instr small p.is));
-      },
-      λ rest. refl,
-    )
+plain_opens calls word at small p = (
+  record {
+    unit = V.Plain p.instr;
+    fits = (decoded-in_range word p.instr small p.is, p.plain);
+    entry_is = refl;
+    words_are = ap (λ (w : ℕ). w ∷ []) (sym (code_of-decoded word p.instr small p.is));
+  },
+  λ rest. refl,
+)

@@ -1,14 +1,13 @@
 -- One word more: what is left of each shape that has begun, where the word is as a pattern says, and where it is not.
-use Rattle.std.proofs.Common.{◌≡◌, ℕ, ◌+◌, ◌*◌, ◌==◌, ◌&&◌, ◌||◌, ◌⊎◌, Bool, true, false, not, inl, inr, List, [], ◌∷◌, ◌++◌, length, refl, ap, sym, subst, ◌∙◌, arith}
-use Rattle.std.specs.Prelude.{if◌then◌else◌}
+use Rattle.std.proofs.Common.{◌≡◌, ℕ, ◌+◌, ◌*◌, ◌==◌, ◌||◌, Bool, true, false, not, inl, inr, List, [], ◌∷◌, ◌++◌, length, refl, ap, sym, subst, ◌∙◌, arith}
 use Rattle.std.proofs.lemmas.Bool.{and_parts, cases_Bool, eqb-true, eq-eqb}
 use Rattle.cfi_unit.specs.declared.pattern.Pattern.{Pattern}
 use Rattle.cfi_unit.specs.declared.pattern.Pattern.TheVariants as P
 use Rattle.cfi_unit.specs.declared.pattern.End.{End}
 use Rattle.cfi_unit.specs.Patterns.{matches}
-use Rattle.cfi_unit.specs.Shapes.{SHAPES, Shape, shape}
+use Rattle.cfi_unit.specs.Shapes.{Shape, shape}
 use Rattle.cfi_unit.specs.Opens.{Among, Opens}
-use Rattle.cfi_reader.specs.Left.{Reads, Tries, after, are_apart, continues, go_else, go_on, is_told, lets, lets_one, none_ended, pick, pick_one, same, tells, without}
+use Rattle.cfi_reader.specs.Left.{Reads, Tries, after, are_apart, continues, go_else, go_on, is_told, lets, lets_one, same, tells, without}
 
 -- what the tests of patterns say
 pub same_is : (p q : Pattern) → same p q ≡ true → p ≡ q

@@ -1,6 +1,6 @@
 -- What the test of a row says.
-use Rattle.std.proofs.Common.{◌≡◌, ℕ, ◌<◌, ◌≤◌, ◌&&◌, Bool, true, false, List, [], ◌∷◌, refl, ap, ap₂, sym, subst, ◌∙◌, arith}
-use Rattle.std.proofs.lemmas.Bool.{and_parts, le-ltb, ltb-true}
+use Rattle.std.proofs.Common.{◌≡◌, ℕ, ◌<◌, ◌&&◌, true, List, [], ◌∷◌, refl, ap, ap₂, sym, subst, arith}
+use Rattle.std.proofs.lemmas.Bool.{and_parts, le-ltb}
 use Rattle.cfi_unit.specs.declared.pattern.Pattern.{Pattern}
 use Rattle.cfi_unit.specs.declared.pattern.Pattern.TheVariants as P
 use Rattle.cfi_unit.specs.declared.pattern.End.{End}
@@ -18,10 +18,24 @@ use Rattle.cfi_reader.proofs.Steps.{same_is}
 -- the row of a number that is no node's
 beyond : (node : ℕ) → 81 < node → rest_of node ≡ []
 beyond node high =
-    rw (le-ltb node 2 (omega arith), le-ltb node 3 (omega arith), le-ltb node 11 (omega arith), le-ltb node 12 (omega arith), le-ltb node 13 (omega arith),
-    le-ltb node 29 (omega arith), le-ltb node 31 (omega arith), le-ltb node 46 (omega arith), le-ltb node 53 (omega arith), le-ltb node 59 (omega arith),
-    le-ltb node 60 (omega arith), le-ltb node 65 (omega arith), le-ltb node 66 (omega arith), le-ltb node 71 (omega arith), le-ltb node 78 (omega arith),
-    le-ltb node 82 (omega arith)) refl
+    rw (
+      le-ltb node 2 (omega arith),
+      le-ltb node 3 (omega arith),
+      le-ltb node 11 (omega arith),
+      le-ltb node 12 (omega arith),
+      le-ltb node 13 (omega arith),
+      le-ltb node 29 (omega arith),
+      le-ltb node 31 (omega arith),
+      le-ltb node 46 (omega arith),
+      le-ltb node 53 (omega arith),
+      le-ltb node 59 (omega arith),
+      le-ltb node 60 (omega arith),
+      le-ltb node 65 (omega arith),
+      le-ltb node 66 (omega arith),
+      le-ltb node 71 (omega arith),
+      le-ltb node 78 (omega arith),
+      le-ltb node 82 (omega arith),
+    ) refl
 
 pub stuck_at : (node : ℕ) → 81 < node → is_row_of node (record { pattern = P.Is 0; yes = N.More 0; no = L.Stuck }) ≡ true
 stuck_at node high =

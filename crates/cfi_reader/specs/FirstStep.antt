@@ -1,5 +1,5 @@
 -- Where the first instruction of a unit leads. Only private contracts cite it.
-use Rattle.std.specs.Prelude.{ℕ, ◌==◌, ◌&&◌, Bool, true, false, List, if◌then◌else◌, nat_lt}
+use Rattle.std.specs.Prelude.{ℕ, ◌==◌, ◌&&◌, Bool, false, List, if◌then◌else◌, nat_lt}
 use Rattle.rv_instr.specs.Reserved.{is_reserved}
 use Rattle.rv_instr.specs.declared.instr.Instr.{Instr}
 use Rattle.rv_instr.specs.declared.instr.Instr.TheVariants.{Upper, Jal, Jalr, Branch, Load, Store, Immediate, Shift, ShiftWord, Register, Fence, Ecall, Ebreak}
@@ -13,7 +13,6 @@ use Rattle.cfi_unit.specs.Patterns.{is_addi}
 use Rattle.cfi_unit.specs.Recognise.{led_to}
 use Rattle.cfi_unit.specs.UnitWords.{BAD_TARGET, MINUS_EIGHT, is_lui, skip_offset}
 use Rattle.cfi_reader.specs.Kept.{count_on}
-use Rattle.cfi_reader.specs.Reading.{START}
 use Rattle.cfi_reader.specs.declared.entry.Entry.TheVariants as E
 use Rattle.cfi_reader.specs.declared.first.First.{First}
 use Rattle.cfi_reader.specs.declared.first.First.TheVariants.{More, Done}

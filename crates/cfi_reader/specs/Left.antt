@@ -100,12 +100,3 @@ goes_on (q ∷ left) = true
 abbrev pub none_ended : List Shape → Bool
 none_ended [] = true
 none_ended (r ∷ rs) = goes_on r.words && none_ended rs
-
--- what is left of those whose first pattern a word has
-abbrev pub pick_one : (Pattern → Bool) → End → List Pattern → List Shape → List Shape
-pick_one test end [] rest = rest
-pick_one test end (q ∷ left) rest = if test q then shape end left ∷ rest else rest
-
-abbrev pub pick : (Pattern → Bool) → List Shape → List Shape
-pick test [] = []
-pick test (r ∷ rs) = pick_one test r.end r.words (pick test rs)

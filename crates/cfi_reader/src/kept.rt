@@ -16,7 +16,7 @@ const MISSED: u8 = 255;
 
 /// What is kept of a unit while it is read.
 #[derive(Clone, Copy)]
-pub struct Kept {
+pub(crate) struct Kept {
     /// How many numbers of system calls it tests so far, if they are the list's first.
     pub(crate) numbers: u8,
     /// The label that it asks for, once that is read.

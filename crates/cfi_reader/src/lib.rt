@@ -4,7 +4,6 @@
 
 pub use entry::Entry;
 pub use first::{First, first_word};
-pub use kept::Kept;
 pub use plain::is_plain_word;
 pub use reader::{Reader, Step, next};
 

@@ -103,10 +103,7 @@ fn is_number(word: u32) -> bool
     };
     match instr {
         Instr::Immediate(op, rd, rs1, imm) => {
-            op == ImmediateOp::Addi
-                && rd.number() == 31
-                && rs1.number() == 0
-                && imm.bits() < 2048
+            op == ImmediateOp::Addi && rd.number() == 31 && rs1.number() == 0 && imm.bits() < 2048
         }
         _ => false,
     }

@@ -33,8 +33,11 @@ pub(crate) enum Else {
 /// A row of the table.
 #[derive(Clone, Copy)]
 pub(crate) struct Row {
+    /// What the next word is asked for.
     pub(crate) pattern: Pattern,
+    /// Where it leads if it is so.
     pub(crate) yes: Next,
+    /// And if it is not.
     pub(crate) no: Else,
 }
 

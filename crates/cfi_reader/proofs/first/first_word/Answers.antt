@@ -1,6 +1,4 @@
-use Rattle.std.proofs.Common.{◌≡◌, ◌<◌, ◌^◌, ap, subst, sym, ◌∙◌, arith}
-use Rattle.std.specs.Prelude.{Some, None}
-use Rattle.rv_code.specs.Decode.{decoded}
+use Rattle.std.proofs.Common.{◌<◌, ◌^◌, subst, sym, arith}
 use Rattle.cfi_reader.specs.Reading.{Opened}
 use Rattle.cfi_reader.specs.declared.first.First.{First}
 use Rattle.cfi_reader.proofs.FirstWord.{first_leads, none_leads}

@@ -1,9 +1,7 @@
-use Rattle.std.proofs.Common.{◌≡◌, ◌<◌, ◌≤◌, true, sym, subst, ap, refl, inl, inr, arith, ℕ, List}
+use Rattle.std.proofs.Common.{◌≡◌, true, sym, subst, refl, inl, inr, arith, ℕ}
 use Rattle.std.proofs.lemmas.Bool.{cases_lt}
-use Rattle.cfi_unit.specs.Shapes.{Shape}
 use Rattle.cfi_unit.specs.declared.pattern.Pattern.TheVariants as P
-use Rattle.cfi_reader.specs.Nodes.{is_row_of, rest_of, says_of}
-use Rattle.cfi_reader.specs.declared.node.Row.{Row}
+use Rattle.cfi_reader.specs.Nodes.{is_row_of}
 use Rattle.cfi_reader.specs.declared.node.Else.TheVariants as L
 use Rattle.cfi_reader.specs.declared.node.Next.TheVariants as N
 use Rattle.cfi_reader.proofs.Table.{stuck_at}

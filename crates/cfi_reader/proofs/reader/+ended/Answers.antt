@@ -1,4 +1,4 @@
-use Rattle.std.proofs.Common.{◌≡◌, ◌<◌, arith}
+use Rattle.std.proofs.Common.{arith}
 use Rattle.cfi_reader.proofs.Followed.{ended_else, ended_none, ended_one, later}
 use Rattle.cfi_reader.proofs.reader.+ended.Goals as goal
 

@@ -1,10 +1,8 @@
-use Rattle.std.proofs.Common.{◌≡◌, ◌<◌, ◌≤◌, ◌^◌, true, false, [], ◌∷◌, ◌++◌, length, ap, subst, sym, ◌∙◌, arith}
+use Rattle.std.proofs.Common.{◌<◌, ◌^◌, [], ◌∷◌, ◌++◌, ap, subst, sym, ◌∙◌, arith}
 use Rattle.std.proofs.lemmas.Bool.{ne_eqb}
-use Rattle.rv_word.specs.Numbers.{MOST_NUMBERS}
 use Rattle.rv_code.specs.Decode.{decoded}
 use Rattle.cfi_reader.specs.Kept.{entry_by}
-use Rattle.cfi_reader.specs.Nodes.{is_row_of}
-use Rattle.cfi_reader.specs.Reading.{IsReading, IsUnit, Leads}
+use Rattle.cfi_reader.specs.Reading.{IsReading, Leads}
 use Rattle.cfi_reader.specs.declared.entry.Entry.{Entry}
 use Rattle.cfi_reader.specs.declared.kept.Kept.{Kept}
 use Rattle.cfi_reader.specs.declared.reader.Step.TheVariants.{Before, Done}
