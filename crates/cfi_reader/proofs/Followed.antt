@@ -14,7 +14,7 @@ use Rattle.cfi_unit.specs.Shapes.{SHAPES, Shape, shape}
 use Rattle.cfi_unit.specs.ShapeOf.{shape_of}
 use Rattle.cfi_unit.specs.Opens.{Among, InCode, Made, Opens, Small}
 use Rattle.cfi_reader.specs.Left.{Reads, Tries, after, go_else, goes_on, is_alone, none_ended, same, without}
-use Rattle.cfi_reader.specs.Nodes.{else_to, goes_to, is_row_of, rest_of, same_shapes}
+use Rattle.cfi_reader.specs.Nodes.{else_to, goes_to, is_asked, is_row_of, rest_of, same_shapes}
 use Rattle.cfi_reader.specs.Kept.{Keeps, entry_by, is_longer, keep, open_entry}
 use Rattle.cfi_reader.specs.Reading.{IsReading, Leads}
 use Rattle.cfi_reader.specs.Trying.{Ended, IsTrying}
@@ -160,7 +160,7 @@ module _ (calls : List ℕ) (reader : Reader) (row : Row) (word here : ℕ) (mos
 
   pub goes_try : (node : ℕ) → matches row.pattern word here ≡ false → row.no ≡ L.Try node → IsTrying calls (record { node = node; kept = reader.kept }) held word at
   goes_try node fails is =
-      let test = and_parts (nat_lt reader.node node && nat_lt 1 node) (same_shapes (rest_of node) (without row.pattern (rest_of reader.node)))
+      let test = and_parts (nat_lt reader.node node && is_asked node) (same_shapes (rest_of node) (without row.pattern (rest_of reader.node)))
       (ap (λ (n : _). else_to reader.node n (without row.pattern (rest_of reader.node))) (sym is) ∙ said.passes) in
       record {
         tries = subst (λ (rs : List Shape). Tries rs held word at) (sym (shapes_are (rest_of node) (without row.pattern (rest_of reader.node)) test.1)) (tries_else fails);
@@ -211,13 +211,19 @@ module _ (calls : List ℕ) (reader : Reader) (row : Row) (word here : ℕ) (mos
       }
 
 -- the node of another pattern is a later one
-pub later : (node : ℕ) (row : Row) (other : ℕ) → is_row_of node row ≡ true → row.no ≡ L.Try other → (node < other) × (1 < other)
+pub record Later (node other : ℕ) : Type 0 where
+  pub more : node < other
+  pub low : 1 < other
+  pub high : other < 82
+
+pub later : (node : ℕ) (row : Row) (other : ℕ) → is_row_of node row ≡ true → row.no ≡ L.Try other → Later node other
 later node row other table is =
     let s : Says node row = says node row table in
-    let test = and_parts (nat_lt node other && nat_lt 1 other) (same_shapes (rest_of other) (without row.pattern (rest_of node)))
+    let test = and_parts (nat_lt node other && is_asked other) (same_shapes (rest_of other) (without row.pattern (rest_of node)))
     (ap (λ (n : _). else_to node n (without row.pattern (rest_of node))) (sym is) ∙ s.passes) in
-    let two = and_parts (nat_lt node other) (nat_lt 1 other) test.0 in
-    (ltb-true node other two.0, ltb-true 1 other two.1)
+    let two = and_parts (nat_lt node other) (is_asked other) test.0 in
+    let ends = and_parts (nat_lt 1 other) (nat_lt other 82) two.1 in
+    record { more = ltb-true node other two.0; low = ltb-true 1 other ends.0; high = ltb-true other 82 ends.1 }
 
 -- what a word is asked first
 pub trying : (calls : List ℕ) (reader : Reader) (held : List ℕ) (word at : ℕ) → IsReading calls reader held at → IsTrying calls reader held word at
@@ -250,7 +256,7 @@ ended_of p rs (Some end) e = (without_from p (shape end []) rs e.0, e.1)
 pub ended_else : (node : ℕ) (row : Row) (other : ℕ) → is_row_of node row ≡ true → row.no ≡ L.Try other → (o : Option End) → Ended (rest_of other) o → Ended (rest_of node) o
 ended_else node row other table is o e =
     let s : Says node row = says node row table in
-    let test = and_parts (nat_lt node other && nat_lt 1 other) (same_shapes (rest_of other) (without row.pattern (rest_of node)))
+    let test = and_parts (nat_lt node other && is_asked other) (same_shapes (rest_of other) (without row.pattern (rest_of node)))
     (ap (λ (n : _). else_to node n (without row.pattern (rest_of node))) (sym is) ∙ s.passes) in
     ended_of row.pattern (rest_of node) o
     (subst (λ (rs : List Shape). Ended rs o) (shapes_are (rest_of other) (without row.pattern (rest_of node)) test.1) e)

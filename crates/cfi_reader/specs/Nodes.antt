@@ -94,9 +94,13 @@ abbrev pub goes_to : Next → List Shape → Bool
 goes_to (N.More node) rests = not (node == 1) && same_shapes (rest_of node) rests
 goes_to (N.Done end) rests = is_longer end && same_shapes (shape end [] ∷ []) rests
 
+-- a node that has a pattern
+abbrev pub is_asked : ℕ → Bool
+is_asked node = nat_lt 1 node && nat_lt node 82
+
 -- and one that is not: another pattern is that of a later node
 abbrev pub else_to : ℕ → Else → List Shape → Bool
-else_to node (L.Try other) rests = (nat_lt node other && nat_lt 1 other) && same_shapes (rest_of other) rests
+else_to node (L.Try other) rests = (nat_lt node other && is_asked other) && same_shapes (rest_of other) rests
 else_to node (L.Ended end) rests = not (is_alone end) && same_shapes (shape end [] ∷ []) rests
 else_to node L.Stuck rests = same_shapes [] rests
 

@@ -4,7 +4,7 @@ ghost use Rattle.std.specs.Prelude.{◌≡◌, ◌≢◌, ℕ, List, false, leng
 ghost use Rattle.cfi_unit.specs.Opens.{InCode};
 ghost use Rattle.cfi_reader.specs.Reading.{Closes, IsReading, LeadsOn, START, is_new};
 ghost use Rattle.cfi_reader.specs.Nodes.{rest_of};
-ghost use Rattle.cfi_reader.specs.Trying.{Ended, LeadsTrying};
+ghost use Rattle.cfi_reader.specs.Trying.{Ended};
 
 use crate::entry::Entry;
 use crate::kept::{Kept, open_entry};
@@ -63,35 +63,30 @@ impl Reader {
     }
 }
 
-/// Reads one word more, which stands at an address, under a list of system calls.
+/// Reads one word more, which stands at an address, under a list of system calls: it is asked for the pattern of one node
+/// after another.
+#[inline(always)]
 pub fn next(calls: &Numbers, reader: Reader, word: u32, here: u64) -> Step
     requires place { InCode here 1 }
     requires begun { is_new reader ≡ false }
     ensures { LeadsOn calls.now reader word here result }
 {
-    follow(calls, reader, word, here)
-}
-
-/// Asks a word for the patterns of a node, one after another.
-fn follow(calls: &Numbers, reader: Reader, word: u32, here: u64) -> Step
-    requires place { InCode here 1 }
-    requires begun { is_new reader ≡ false }
-    ensures { LeadsTrying calls.now reader word here result }
-{
     let _few = calls.len();
-    let row = row_at(reader.node);
     let kept = reader.kept;
-    if matches(row.pattern, word, here) {
-        let kept = kept.keep(calls, row.pattern, word);
-        match row.yes {
-            Next::More(node) => Step::More(Reader { node, kept }),
-            Next::Done(end) => Step::Done(kept.entry(calls, end, word)),
+    let mut node = reader.node;
+    'asked: loop {
+        let row = row_at(node);
+        if matches(row.pattern, word, here) {
+            let kept = kept.keep(calls, row.pattern, word);
+            return match row.yes {
+                Next::More(node) => Step::More(Reader { node, kept }),
+                Next::Done(end) => Step::Done(kept.entry(calls, end, word)),
+            };
         }
-    } else {
         match row.no {
-            Else::Try(node) => follow(calls, Reader { node, kept }, word, here),
-            Else::Ended(end) => Step::Before(open_entry(end)),
-            Else::Stuck => Step::More(Reader { node: 0, kept }),
+            Else::Try(other) => node = other,
+            Else::Ended(end) => return Step::Before(open_entry(end)),
+            Else::Stuck => return Step::More(Reader { node: 0, kept }),
         }
     }
 }

@@ -5,8 +5,6 @@ use Rattle.cfi_reader.proofs.reader.+ended.Goals as goal
 pub ended-requires : goal.ended-requires
 ended-requires t c =
     let l = later c.args.node c.row_at.result c.in-Try.other c.row_at.ensures c.in-Try.is in
-    let a = l.0 in
-    let b = l.1 in
     (omega arith, λ e. omega arith)
 
 pub returns-in-Try : goal.returns-in-Try
