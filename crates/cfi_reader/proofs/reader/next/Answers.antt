@@ -1,4 +1,4 @@
-use Rattle.std.proofs.Common.{◌≡◌, ◌<◌, ◌≤◌, ◌^◌, true, false, [], ◌∷◌, ◌++◌, length, ap, subst, sym, ◌∙◌, arith}
+use Rattle.std.proofs.Common.{◌<◌, ◌^◌, [], ◌∷◌, ◌++◌, ap, subst, sym, ◌∙◌, arith}
 use Rattle.rv_code.specs.Decode.{decoded}
 use Rattle.cfi_reader.specs.Kept.{entry_by}
 use Rattle.cfi_reader.specs.Reading.{IsReading, Leads}
@@ -40,7 +40,7 @@ asked-preserved c =
       other = λ e. omega arith;
       tries = λ held at reading e.
           goes_try c.args.calls.now asked c.row_at-row.result c.args.word c.args.here c.len-few.ensures.most c.requires.place small c.row_at-row.ensures held at
-    (c.asked.invariant.tries held at reading e) e c.in-Try.other (sym c.if-matches.ensures) c.in-Try.is;
+          (c.asked.invariant.tries held at reading e) e c.in-Try.other (sym c.if-matches.ensures) c.in-Try.is;
     }
 
 pub returns-in-Ended : goal.returns-in-Ended

@@ -1,4 +1,4 @@
-use Rattle.std.proofs.Common.{rules, ◌≡◌, ◌+◌, ◌<◌, ℕ, true, [], ◌∷◌, ◌++◌, length, ap, sym, ◌∙◌, arith}
+use Rattle.std.proofs.Common.{rules, ◌+◌, ◌<◌, ℕ, [], ◌∷◌, ◌++◌, length, ap, sym, ◌∙◌, arith}
 use Rattle.rv_word.specs.MemoryMap.{profile_of}
 use Rattle.cfi_reader.specs.PlainWord.{IsPlainWord}
 use Rattle.cfi_scan.proofs.Ended.{as_ended, splits_plain}
