@@ -48,8 +48,8 @@ start_reads calls at low = record {
   };
   least = λ rest u b. omega arith;
   keeps = record {
-    label = λ s left among opens label e. absurd (no_label s.words label e);
-    numbers = λ s left among opens guarded. ap (told_by calls) (sym (no_numbers s.words));
+    label_is = λ s left among opens told e. absurd (no_label s.words told e);
+    numbers_are = λ s left among opens guarded. ap (told_by calls) (sym (no_numbers s.words));
   };
   begun = λ one. refl;
   low = low;

@@ -23,7 +23,6 @@ use Rattle.cfi_reader.specs.Left.{is_alone}
 use Rattle.cfi_reader.specs.Entries.{entry_of}
 use Rattle.cfi_reader.specs.Kept.{Keeps, entry_by, field_in, is_longer, label_by, numbers_by, open_entry, told_by, with_field}
 use Rattle.cfi_reader.specs.declared.entry.Entry.TheVariants as E
-use Rattle.cfi_reader.specs.declared.kept.Kept.{Kept}
 use Rattle.cfi_reader.proofs.Keeping.{told_all}
 use Rattle.cfi_reader.proofs.Law.{whole_opens}
 use Rattle.cfi_unit.proofs.ShapedUnits.{shape_among}
@@ -63,53 +62,53 @@ numbers_there [] a b = refl
 numbers_there (n ∷ ns) a b = ap₂ (λ (k : ℕ) (ks : List ℕ). k ∷ ks) (number_there n) (numbers_there ns a b)
 
 -- the entry
-pub entry_told : (u : U.Unit) (calls : List ℕ) (kept : Kept) (held : List ℕ) (word at : ℕ) → length calls ≤ MOST_NUMBERS → Fits u at →
-    words_of u at ≡ held ++ word ∷ [] → Keeps calls kept (held ++ word ∷ []) at → is_longer ((shape_of u at).end) ≡ true →
-    entry_by calls ((shape_of u at).end) kept (decoded word) ≡ entry_of calls u at
+pub entry_told : (u : U.Unit) (calls : List ℕ) (numbers label : ℕ) (held : List ℕ) (word at : ℕ) → length calls ≤ MOST_NUMBERS → Fits u at →
+    words_of u at ≡ held ++ word ∷ [] → Keeps calls numbers label (held ++ word ∷ []) at → is_longer ((shape_of u at).end) ≡ true →
+    entry_by calls ((shape_of u at).end) numbers label (decoded word) ≡ entry_of calls u at
 unfolding words_of last
-entry_told (V.Gate label) calls kept held word at most f e k l = absurd (cc)
-entry_told (V.Plain instr) calls kept held word at most f e k l = refl
-entry_told (V.Branch op rs1 rs2 target) calls kept held word at most f e k l =
+entry_told (V.Gate own) calls numbers label held word at most f e k l = absurd (cc)
+entry_told (V.Plain instr) calls numbers label held word at most f e k l = refl
+entry_told (V.Branch op rs1 rs2 target) calls numbers label held word at most f e k l =
     ap (with_field E.Branch) (last_field (words_of (V.Branch op rs1 rs2 target) at) held word 0 (at + 4) target (lit< tt) refl e)
-entry_told (V.Near op rs1 rs2 target) calls kept held word at most f e k l =
+entry_told (V.Near op rs1 rs2 target) calls numbers label held word at most f e k l =
     elim (cases_Bool (near_offset at target == skip_offset)) [
       | inl over ↦ let g : false ≡ true = rw over at l in absurd (cc)
       | inr near ↦ let g : false ≡ true = rw near at l in absurd (cc)
     ]
-entry_told (V.Jump target) calls kept held word at most f e k l = absurd (cc)
-entry_told V.Stop calls kept held word at most f e k l = absurd (cc)
-entry_told (V.System S.Ecall) calls kept held word at most f e k l = absurd (cc)
-entry_told (V.System S.Ebreak) calls kept held word at most f e k l = refl
-entry_told (V.Guarded ns) calls kept held word at most f e k l =
+entry_told (V.Jump target) calls numbers label held word at most f e k l = absurd (cc)
+entry_told V.Stop calls numbers label held word at most f e k l = absurd (cc)
+entry_told (V.System S.Ecall) calls numbers label held word at most f e k l = absurd (cc)
+entry_told (V.System S.Ebreak) calls numbers label held word at most f e k l = refl
+entry_told (V.Guarded ns) calls numbers label held word at most f e k l =
     let u : U.Unit = V.Guarded ns in
-    let told : kept.numbers ≡ told_by calls ns =
-    k.numbers (shape_of u at) [] (shape_among u at f) (whole_opens u at (held ++ word ∷ []) f e) refl
+    let told : numbers ≡ told_by calls ns =
+    k.numbers_are (shape_of u at) [] (shape_among u at f) (whole_opens u at (held ++ word ∷ []) f e) refl
     ∙ ap (λ (ws : List ℕ). told_by calls (numbers_by (guarded (length ns)) ws)) (sym e)
     ∙ ap (told_by calls) (numbers_there ns (jump (at + 8 * length ns) BAD_TARGET) Ecall) in
     ap E.Guarded (ap (λ (n : ℕ). n == length calls) told ∙ told_all calls ns most)
-entry_told (V.Stores rs1 imm members) calls kept held word at most f e k l =
+entry_told (V.Stores rs1 imm members) calls numbers label held word at most f e k l =
     elim (cases_Bool (length members == 16)) [
       | inl all ↦ rw all refl
       | inr fewer ↦ let g : false ≡ true = rw fewer at l in absurd (cc)
     ]
-entry_told (V.Call target) calls kept held word at most f e k l =
+entry_told (V.Call target) calls numbers label held word at most f e k l =
     ap (with_field E.Call) (last_field (words_of (V.Call target) at) held word 1 (at + 28) target (lit< tt) refl e)
-entry_told (V.Ijump First rs1 imm label) calls kept held word at most f e k l =
-    let u : U.Unit = V.Ijump First rs1 imm label in
+entry_told (V.Ijump First rs1 imm own) calls numbers label held word at most f e k l =
+    let u : U.Unit = V.Ijump First rs1 imm own in
     ap (E.Ijump First)
-    (sym (k.label (shape_of u at) [] (shape_among u at f) (whole_opens u at (held ++ word ∷ []) f e) label
-    (ap (λ (ws : List ℕ). label_by (shape_of u at).words ws None) (sym e) ∙ ap Some (label_there label))))
-entry_told (V.Ijump Second rs1 imm label) calls kept held word at most f e k l =
-    let u : U.Unit = V.Ijump Second rs1 imm label in
+    (sym (k.label_is (shape_of u at) [] (shape_among u at f) (whole_opens u at (held ++ word ∷ []) f e) own
+    (ap (λ (ws : List ℕ). label_by (shape_of u at).words ws None) (sym e) ∙ ap Some (label_there own))))
+entry_told (V.Ijump Second rs1 imm own) calls numbers label held word at most f e k l =
+    let u : U.Unit = V.Ijump Second rs1 imm own in
     ap (E.Ijump Second)
-    (sym (k.label (shape_of u at) [] (shape_among u at f) (whole_opens u at (held ++ word ∷ []) f e) label
-    (ap (λ (ws : List ℕ). label_by (shape_of u at).words ws None) (sym e) ∙ ap Some (label_there label))))
-entry_told (V.Icall rs1 imm label) calls kept held word at most f e k l =
-    let u : U.Unit = V.Icall rs1 imm label in
+    (sym (k.label_is (shape_of u at) [] (shape_among u at f) (whole_opens u at (held ++ word ∷ []) f e) own
+    (ap (λ (ws : List ℕ). label_by (shape_of u at).words ws None) (sym e) ∙ ap Some (label_there own))))
+entry_told (V.Icall rs1 imm own) calls numbers label held word at most f e k l =
+    let u : U.Unit = V.Icall rs1 imm own in
     ap (E.Icall)
-    (sym (k.label (shape_of u at) [] (shape_among u at f) (whole_opens u at (held ++ word ∷ []) f e) label
-    (ap (λ (ws : List ℕ). label_by (shape_of u at).words ws None) (sym e) ∙ ap Some (label_there label))))
-entry_told V.Return calls kept held word at most f e k l = refl
+    (sym (k.label_is (shape_of u at) [] (shape_among u at f) (whole_opens u at (held ++ word ∷ []) f e) own
+    (ap (λ (ws : List ℕ). label_by (shape_of u at).words ws None) (sym e) ∙ ap Some (label_there own))))
+entry_told V.Return calls numbers label held word at most f e k l = refl
 
 -- that of one which more may follow
 pub open_told : (u : U.Unit) (calls : List ℕ) (at : ℕ) → is_alone ((shape_of u at).end) ≡ false → open_entry ((shape_of u at).end) ≡ entry_of calls u at

@@ -165,13 +165,13 @@ module _ (calls : List ℕ) (word at : ℕ) (place : InCode at 1) (small : word 
   goes : (bs : List Bool) (node : ℕ) → answers i at ≡ bs → pick (choose FIRSTS bs) SHAPES ≡ rest_of node → node ≢ 1 → has_form P.Number at i ≡ false →
       Opened calls word at (at_node node)
   goes bs node e p other number =
-      node_by calls word at place small node other (record { numbers = 0; label = 0 }) (left_of bs (rest_of node) e p)
+      node_by calls word at place small node other 0 0 (left_of bs (rest_of node) e p)
       (λ fits. let f : false ≡ true = sym (ap (decodes_to (has_form P.Number at)) is ∙ number) ∙ fits in absurd (cc))
 
   counts : (bs : List Bool) (imm : ℕ) → answers i at ≡ bs → pick (choose FIRSTS bs) SHAPES ≡ rest_of 3 → word / 2 ^ 20 ≡ imm →
-      Opened calls word at (More (record { node = 3; kept = record { numbers = count_on calls 0 imm; label = 0 } }))
+      Opened calls word at (More (record { node = 3; numbers = count_on calls 0 imm; label = 0 }))
   counts bs imm e p is_imm =
-      node_by calls word at place small 3 (λ one. omega arith) (record { numbers = count_on calls 0 imm; label = 0 }) (left_of bs (rest_of 3) e p)
+      node_by calls word at place small 3 (λ one. omega arith) (count_on calls 0 imm) 0 (left_of bs (rest_of 3) e p)
       (λ fits. ap (count_on calls 0) (sym is_imm))
 
 module _ (calls : List ℕ) (word at : ℕ) (place : InCode at 1) (small : word < 2 ^ 32) where
@@ -298,6 +298,6 @@ module _ (calls : List ℕ) (word at : ℕ) (place : InCode at 1) (small : word 
   -- a word that is no instruction
   pub none_leads : decoded word ≡ None → Opened calls word at stuck
   none_leads is =
-      node_by calls word at place small 0 (λ e. omega arith) (record { numbers = 0; label = 0 })
+      node_by calls word at place small 0 (λ e. omega arith) 0 0
       (subst (λ (l : List Shape). Reads l (word ∷ []) at) leaves_none (first_reads word at told_none (none_agrees word at place is)))
       (λ fits. let f : false ≡ true = sym (ap (decodes_to (has_form P.Number at)) is) ∙ fits in absurd (cc))

@@ -1,7 +1,7 @@
 -- Where a word leads that is as a row says, and one that is not.
 use Rattle.std.proofs.Common.{◌≡◌, ℕ, ◌+◌, ◌*◌, ◌^◌, ◌<◌, ◌≤◌, ◌==◌, ◌&&◌, Bool, true, false, not, inl, inr, List, [], ◌∷◌, ◌++◌, length, refl, ap, sym, subst, ◌∙◌, arith, length-append}
 use Rattle.std.specs.Prelude.{Option, Some, None, nat_lt}
-use Rattle.std.proofs.lemmas.Bool.{and_parts, cases_Bool, eq-eqb, ltb-true}
+use Rattle.std.proofs.lemmas.Bool.{eqb-true, and_parts, cases_Bool, eq-eqb, ltb-true}
 use Rattle.rv_word.specs.MemoryMap.{CODE_START}
 use Rattle.rv_word.specs.Numbers.{MOST_NUMBERS}
 use Rattle.rv_code.specs.Decode.{decoded}
@@ -15,10 +15,9 @@ use Rattle.cfi_unit.specs.ShapeOf.{shape_of}
 use Rattle.cfi_unit.specs.Opens.{Among, InCode, Made, Opens, Small}
 use Rattle.cfi_reader.specs.Left.{Reads, Tries, after, go_else, goes_on, is_alone, none_ended, same, without}
 use Rattle.cfi_reader.specs.Nodes.{else_to, goes_to, is_asked, is_row_of, rest_of, same_shapes}
-use Rattle.cfi_reader.specs.Kept.{Keeps, entry_by, is_longer, keep, open_entry}
-use Rattle.cfi_reader.specs.Reading.{IsReading, Leads}
+use Rattle.cfi_reader.specs.Kept.{Keeps, count_by, entry_by, is_longer, label_after, open_entry}
+use Rattle.cfi_reader.specs.Reading.{IsReading, Leads, is_stuck}
 use Rattle.cfi_reader.specs.Trying.{Ended, IsTrying}
-use Rattle.cfi_reader.specs.declared.kept.Kept.{Kept}
 use Rattle.cfi_reader.specs.declared.node.Row.{Row}
 use Rattle.cfi_reader.specs.declared.node.Else.TheVariants as L
 use Rattle.cfi_reader.specs.declared.node.Next.TheVariants as N
@@ -92,11 +91,11 @@ reads_none held word at t = record {
   made = λ r a. absurd a;
 }
 
-pub keeps_none : (calls : List ℕ) (kept : Kept) (ws : List ℕ) (at : ℕ) → Reads [] ws at → Keeps calls kept ws at
+pub keeps_none : (calls : List ℕ) (numbers label : ℕ) (ws : List ℕ) (at : ℕ) → Reads [] ws at → Keeps calls numbers label ws at
 unfolding Among
-keeps_none calls kept ws at r = record {
-  label = λ s left among opens label e. absurd (r.sound s left among opens);
-  numbers = λ s left among opens e. absurd (r.sound s left among opens);
+keeps_none calls numbers label ws at r = record {
+  label_is = λ s left among opens told e. absurd (r.sound s left among opens);
+  numbers_are = λ s left among opens e. absurd (r.sound s left among opens);
 }
 
 not_true : (b : Bool) → not b ≡ true → b ≡ false
@@ -105,6 +104,13 @@ not_true false e = refl
 
 module _ (calls : List ℕ) (reader : Reader) (row : Row) (word here : ℕ) (most : length calls ≤ MOST_NUMBERS) (place : InCode here 1) (low : word < 2 ^ 32) (table : is_row_of reader.node row ≡ true)
     (held : List ℕ) (at : ℕ) (t : IsTrying calls reader held word at) (e : here ≡ at + 4 * length held) where
+  -- what is kept
+  abbrev count : ℕ
+  count = count_by calls row.pattern word reader.numbers
+
+  abbrev label : ℕ
+  label = label_after row.pattern word reader.label
+
   said : Says reader.node row
   said = says reader.node row table
 
@@ -114,11 +120,11 @@ module _ (calls : List ℕ) (reader : Reader) (row : Row) (word here : ℕ) (mos
   reads_on : matches row.pattern word here ≡ true → Reads (after row.pattern (rest_of reader.node)) (held ++ word ∷ []) at
   reads_on fits = taken row.pattern (rest_of reader.node) held word at t.tries said.told (fits_there fits)
 
-  keeps_on : matches row.pattern word here ≡ true → Keeps calls (keep calls row.pattern word reader.kept) (held ++ word ∷ []) at
-  keeps_on fits = keeps_more calls row.pattern (rest_of reader.node) held word at reader.kept most t.tries said.told (fits_there fits) t.keeps
+  keeps_on : matches row.pattern word here ≡ true → Keeps calls count label (held ++ word ∷ []) at
+  keeps_on fits = keeps_more calls row.pattern (rest_of reader.node) held word at reader.numbers reader.label most t.tries said.told (fits_there fits) t.keeps
 
   pub goes_more : (node : ℕ) → matches row.pattern word here ≡ true → row.yes ≡ N.More node →
-      Leads calls held word at (More (record { node = node; kept = keep calls row.pattern word reader.kept }))
+      Leads calls held word at (More (record { node = node; numbers = count; label = label }))
   goes_more node fits is =
       let test = and_parts (not (node == 1)) (same_shapes (rest_of node) (after row.pattern (rest_of reader.node)))
       (ap (λ (n : _). goes_to n (after row.pattern (rest_of reader.node))) (sym is) ∙ said.goes) in
@@ -135,7 +141,7 @@ module _ (calls : List ℕ) (reader : Reader) (row : Row) (word here : ℕ) (mos
       }
 
   pub goes_done : (end : End) → matches row.pattern word here ≡ true → row.yes ≡ N.Done end →
-      Leads calls held word at (Done (entry_by calls end (keep calls row.pattern word reader.kept) (decoded word)))
+      Leads calls held word at (Done (entry_by calls end count label (decoded word)))
   goes_done end fits is =
       let test = and_parts (is_longer end) (same_shapes (shape end [] ∷ []) (after row.pattern (rest_of reader.node)))
       (ap (λ (n : _). goes_to n (after row.pattern (rest_of reader.node))) (sym is) ∙ said.goes) in
@@ -148,8 +154,8 @@ module _ (calls : List ℕ) (reader : Reader) (row : Row) (word here : ℕ) (mos
         record {
           unit = m.unit;
           fits = m.fits;
-          entry_is = ap (λ (d : End). entry_by calls d (keep calls row.pattern word reader.kept) (decoded word)) (sym w.end_is)
-              ∙ entry_told m.unit calls (keep calls row.pattern word reader.kept) held word at most m.fits m.words (keeps_on fits) longer;
+          entry_is = ap (λ (d : End). entry_by calls d count label (decoded word)) (sym w.end_is)
+              ∙ entry_told m.unit calls count label held word at most m.fits m.words (keeps_on fits) longer;
           words_are = sym m.words;
         },
         λ rest. alone_precedes m.unit at rest (longer_alone ((shape_of m.unit at).end) longer),
@@ -158,7 +164,7 @@ module _ (calls : List ℕ) (reader : Reader) (row : Row) (word here : ℕ) (mos
   tries_else : matches row.pattern word here ≡ false → Tries (without row.pattern (rest_of reader.node)) held word at
   tries_else fails = passed row.pattern (rest_of reader.node) held word at t.tries (ap (matches row.pattern word) (sym e) ∙ fails)
 
-  pub goes_try : (node : ℕ) → matches row.pattern word here ≡ false → row.no ≡ L.Try node → IsTrying calls (record { node = node; kept = reader.kept }) held word at
+  pub goes_try : (node : ℕ) → matches row.pattern word here ≡ false → row.no ≡ L.Try node → IsTrying calls (record { node = node; numbers = reader.numbers; label = reader.label }) held word at
   goes_try node fails is =
       let test = and_parts (nat_lt reader.node node && is_asked node) (same_shapes (rest_of node) (without row.pattern (rest_of reader.node)))
       (ap (λ (n : _). else_to reader.node n (without row.pattern (rest_of reader.node))) (sym is) ∙ said.passes) in
@@ -195,7 +201,7 @@ module _ (calls : List ℕ) (reader : Reader) (row : Row) (word here : ℕ) (mos
             ],
       )
 
-  pub goes_stuck : matches row.pattern word here ≡ false → row.no ≡ L.Stuck → Leads calls held word at (More (record { node = 0; kept = reader.kept }))
+  pub goes_stuck : matches row.pattern word here ≡ false → row.no ≡ L.Stuck → Leads calls held word at (More (record { node = 0; numbers = reader.numbers; label = reader.label }))
   goes_stuck fails is =
       let none : [] ≡ without row.pattern (rest_of reader.node) =
       shapes_are [] (without row.pattern (rest_of reader.node)) (ap (λ (n : _). else_to reader.node n (without row.pattern (rest_of reader.node))) (sym is) ∙ said.passes) in
@@ -204,7 +210,7 @@ module _ (calls : List ℕ) (reader : Reader) (row : Row) (word here : ℕ) (mos
       record {
         reads = reads;
         least = least_none held word at tries t.least;
-        keeps = keeps_none calls reader.kept (held ++ word ∷ []) at reads;
+        keeps = keeps_none calls reader.numbers reader.label (held ++ word ∷ []) at reads;
         begun = λ one. absurd (omega arith);
         low = t.low;
         small = small_push held word t.small low;
@@ -276,3 +282,20 @@ ended_none node row table is =
     let none : [] ≡ without row.pattern (rest_of node) =
     shapes_are [] (without row.pattern (rest_of node)) (ap (λ (n : _). else_to node n (without row.pattern (rest_of node))) (sym is) ∙ s.passes) in
     ended_of row.pattern (rest_of node) None (subst (λ (rs : List Shape). Ended rs None) none refl)
+
+-- with which no unit begins, none does with one word more
+pub stuck_stays : (calls : List ℕ) (reader : Reader) (held : List ℕ) (word at : ℕ) → is_stuck reader ≡ true → word < 2 ^ 32 →
+    IsReading calls reader held at → IsReading calls reader (held ++ word ∷ []) at
+stuck_stays calls reader held word at stuck low r =
+    let zero_node : reader.node ≡ 0 = eqb-true reader.node 0 stuck in
+    let none : rest_of reader.node ≡ [] = ap rest_of zero_node in
+    let tries : Tries [] held word at = subst (λ (rs : List Shape). Tries rs held word at) none (to_try (rest_of reader.node) held word at r.reads) in
+    let reads : Reads [] (held ++ word ∷ []) at = reads_none held word at tries in
+    record {
+      reads = subst (λ (rs : List Shape). Reads rs (held ++ word ∷ []) at) (sym none) reads;
+      least = least_none held word at tries r.least;
+      keeps = keeps_none calls reader.numbers reader.label (held ++ word ∷ []) at reads;
+      begun = λ one. absurd (omega arith);
+      low = r.low;
+      small = small_push held word r.small low;
+    }

@@ -11,8 +11,7 @@ use Rattle.cfi_unit.specs.Patterns.{matches}
 use Rattle.cfi_unit.specs.Shapes.{Shape}
 use Rattle.cfi_unit.specs.Opens.{Opens}
 use Rattle.cfi_reader.specs.Left.{Tries, tells}
-use Rattle.cfi_reader.specs.Kept.{Keeps, MISSED, count_on, is_it, keep, label_by, numbers_by, relabel, told_by, with_number}
-use Rattle.cfi_reader.specs.declared.kept.Kept.{Kept}
+use Rattle.cfi_reader.specs.Kept.{Keeps, MISSED, count_by, count_on, is_it, label_after, label_by, numbers_by, relabel, told_by, with_number}
 use Rattle.cfi_reader.proofs.Steps.{Last, after_has, last_word}
 
 -- the label that words bear
@@ -30,11 +29,10 @@ label_push ps [] word at q left o opens =
 label_push [] (w ∷ held) word at q left o opens = absurd opens
 label_push (p ∷ ps) (w ∷ held) word at q left o opens = label_push ps held word (at + 4) q left (relabel p w o) opens.1
 
-label_on : (calls : List ℕ) (p : Pattern) (word : ℕ) (kept : Kept) (o : Option ℕ) (label : ℕ) → relabel p word o ≡ Some label →
-    (o ≡ Some label → label ≡ kept.label) → label ≡ (keep calls p word kept).label
-label_on calls P.Label word kept o label e old = sym (same_Some (word / 2 ^ 12) label e)
-label_on calls P.Number word kept o label e old = old e
-label_on calls p word kept o label e old = old e
+label_on : (p : Pattern) (word label : ℕ) (o : Option ℕ) (told : ℕ) → relabel p word o ≡ Some told →
+    (o ≡ Some told → told ≡ label) → told ≡ label_after p word label
+label_on P.Label word label o told e old = sym (same_Some (word / 2 ^ 12) told e)
+label_on p word label o told e old = old e
 
 -- the numbers
 add : Pattern → ℕ → List ℕ → List ℕ
@@ -99,29 +97,28 @@ told_push calls ns n most =
     ap₂ (λ (b : Bool) (k : ℕ). if b then k else MISSED) (same_push ns calls n) (length-append ns (n ∷ []))
     ∙ told_if (are_same ns (take (length ns) calls)) calls ns n most
 
-told_on : (calls : List ℕ) (p : Pattern) (word : ℕ) (kept : Kept) (ns : List ℕ) → length calls ≤ MOST_NUMBERS → kept.numbers ≡ told_by calls ns →
-    (keep calls p word kept).numbers ≡ told_by calls (add p word ns)
+told_on : (calls : List ℕ) (p : Pattern) (word numbers : ℕ) (ns : List ℕ) → length calls ≤ MOST_NUMBERS → numbers ≡ told_by calls ns →
+    count_by calls p word numbers ≡ told_by calls (add p word ns)
 unfolding add
-told_on calls P.Number word kept ns most e =
+told_on calls P.Number word numbers ns most e =
     ap (λ (k : ℕ). count_on calls k (word / 2 ^ 20)) e ∙ sym (told_push calls ns (word / 2 ^ 20) most)
-told_on calls P.Label word kept ns most e = e
-told_on calls p word kept ns most e = e
+told_on calls p word numbers ns most e = e
 
 -- where a node's pattern is that of the word
-pub keeps_more : (calls : List ℕ) (p : Pattern) (rs : List Shape) (held : List ℕ) (word at : ℕ) (kept : Kept) → length calls ≤ MOST_NUMBERS →
-    Tries rs held word at → tells p rs ≡ true → matches p word (at + 4 * length held) ≡ true → Keeps calls kept held at →
-    Keeps calls (keep calls p word kept) (held ++ word ∷ []) at
-keeps_more calls p rs held word at kept most t told fits k = record {
-  label = λ s left among opens label e.
+pub keeps_more : (calls : List ℕ) (p : Pattern) (rs : List Shape) (held : List ℕ) (word at numbers label : ℕ) → length calls ≤ MOST_NUMBERS →
+    Tries rs held word at → tells p rs ≡ true → matches p word (at + 4 * length held) ≡ true → Keeps calls numbers label held at →
+    Keeps calls (count_by calls p word numbers) (label_after p word label) (held ++ word ∷ []) at
+keeps_more calls p rs held word at numbers label most t told fits k = record {
+  label_is = λ s left among opens named e.
       let l : Last s.words held word at left = last_word s.words held word at left opens in
       let one : p ≡ l.by = (after_has p rs s.end l.by left word (at + 4 * length held) (t.sound s l.by left among l.opens l.fits) told fits l.fits).0 in
-      let push : relabel p word (label_by s.words held None) ≡ Some label =
+      let push : relabel p word (label_by s.words held None) ≡ Some named =
       ap (λ (q : Pattern). relabel q word (label_by s.words held None)) one ∙ sym (label_push s.words held word at l.by left None l.opens) ∙ e in
-      label_on calls p word kept (label_by s.words held None) label push (k.label s (l.by ∷ left) among l.opens label);
-  numbers = λ s left among opens guarded.
+      label_on p word label (label_by s.words held None) named push (k.label_is s (l.by ∷ left) among l.opens named);
+  numbers_are = λ s left among opens guarded.
       let l : Last s.words held word at left = last_word s.words held word at left opens in
       let one : p ≡ l.by = (after_has p rs s.end l.by left word (at + 4 * length held) (t.sound s l.by left among l.opens l.fits) told fits l.fits).0 in
-      told_on calls p word kept (numbers_by s.words held) most (k.numbers s (l.by ∷ left) among l.opens guarded)
+      told_on calls p word numbers (numbers_by s.words held) most (k.numbers_are s (l.by ∷ left) among l.opens guarded)
       ∙ ap (told_by calls) (ap (λ (q : Pattern). add q word (numbers_by s.words held)) one ∙ sym (numbers_push s.words held word at l.by left l.opens));
 }
 

@@ -33,7 +33,6 @@ use Rattle.cfi_reader.specs.PlainWord.{IsPlainWord}
 use Rattle.cfi_reader.specs.declared.entry.Entry.{Entry}
 use Rattle.cfi_reader.specs.declared.entry.Entry.TheVariants as E
 use Rattle.cfi_reader.specs.declared.first.First.TheVariants.{More, Done}
-use Rattle.cfi_reader.specs.declared.kept.Kept.{Kept}
 use Rattle.cfi_reader.proofs.Ahead.{alone_precedes}
 use Rattle.cfi_reader.proofs.Begin.{opens_one}
 use Rattle.cfi_reader.proofs.Followed.{Whole, first_ended, whole_unit}
@@ -94,13 +93,13 @@ told_one : (calls : List ℕ) (n : ℕ) → count_on calls 0 n ≡ told_by calls
 told_one [] n = refl
 told_one (call ∷ calls) n = elim (cases_Bool (n == call)) [ inl e ↦ rw e refl | inr e ↦ rw e refl ]
 
-first_keeps : (calls : List ℕ) (kept : Kept) (word at : ℕ) → (matches P.Number word at ≡ true → kept.numbers ≡ count_on calls 0 (word / 2 ^ 20)) →
-    Keeps calls kept (word ∷ []) at
-first_keeps calls kept word at number = record {
-  label = λ s left among opens label e.
+first_keeps : (calls : List ℕ) (numbers label word at : ℕ) → (matches P.Number word at ≡ true → numbers ≡ count_on calls 0 (word / 2 ^ 20)) →
+    Keeps calls numbers label (word ∷ []) at
+first_keeps calls numbers label word at number = record {
+  label_is = λ s left among opens told e.
       let (q, (is, fits)) = opens_one word at s.words left opens in
-      absurd (label_none s.end q left word label (first_of s q left among is) (ap (λ (ps : List Pattern). label_by ps (word ∷ []) None) (sym is) ∙ e));
-  numbers = λ s left among opens guarded.
+      absurd (label_none s.end q left word told (first_of s q left among is) (ap (λ (ps : List Pattern). label_by ps (word ∷ []) None) (sym is) ∙ e));
+  numbers_are = λ s left among opens guarded.
       let (q, (is, fits)) = opens_one word at s.words left opens in
       let one : q ≡ P.Number = number_first q (ap (λ (end : End). is_number_first end q) (sym guarded) ∙ first_of s q left among is) in
       number (ap (λ (p : Pattern). matches p word at) (sym one) ∙ fits)
@@ -171,12 +170,12 @@ one_in_code at place = record { low = place.low; high = place.high; round = plac
 
 module _ (calls : List ℕ) (word at : ℕ) (place : InCode at 1) (small : word < 2 ^ 32) where
   -- at a node, of a word that is no number
-  pub node_by : (node : ℕ) → node ≢ 1 → (kept : Kept) → Reads (rest_of node) (word ∷ []) at →
-      (matches P.Number word at ≡ true → kept.numbers ≡ count_on calls 0 (word / 2 ^ 20)) → Opened calls word at (More (record { node = node; kept = kept }))
-  node_by node other kept reads number = record {
+  pub node_by : (node : ℕ) → node ≢ 1 → (numbers label : ℕ) → Reads (rest_of node) (word ∷ []) at →
+      (matches P.Number word at ≡ true → numbers ≡ count_on calls 0 (word / 2 ^ 20)) → Opened calls word at (More (record { node = node; numbers = numbers; label = label }))
+  node_by node other numbers label reads number = record {
     reads = reads;
     least = first_least word at;
-    keeps = first_keeps calls kept word at number;
+    keeps = first_keeps calls numbers label word at number;
     begun = λ one. absurd (other one);
     low = place.low;
     small = (small, tt);

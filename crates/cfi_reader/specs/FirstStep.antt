@@ -19,7 +19,7 @@ use Rattle.cfi_reader.specs.declared.first.First.TheVariants.{More, Done}
 
 -- at a node, with nothing kept
 abbrev pub at_node : ℕ → First
-at_node node = More (record { node = node; kept = record { numbers = 0; label = 0 } })
+at_node node = More (record { node = node; numbers = 0; label = 0 })
 
 abbrev pub stuck : First
 stuck = at_node 0
@@ -50,7 +50,7 @@ is_number rs1 imm = (rs1 == 0) && nat_lt imm 2048
 abbrev pub address_step : List ℕ → ℕ → ℕ → First
 address_step calls rs1 imm =
     if is_number rs1 imm
-    then More (record { node = 3; kept = record { numbers = count_on calls 0 imm; label = 0 } })
+    then More (record { node = 3; numbers = count_on calls 0 imm; label = 0 })
     else at_node 11
 
 -- `slli x30,x3,48` begins a call

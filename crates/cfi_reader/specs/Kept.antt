@@ -13,7 +13,6 @@ use Rattle.cfi_unit.specs.Shapes.{SHAPES, Shape}
 use Rattle.cfi_unit.specs.Opens.{Among, Opens}
 use Rattle.cfi_reader.specs.declared.entry.Entry.{Entry}
 use Rattle.cfi_reader.specs.declared.entry.Entry.TheVariants as E
-use Rattle.cfi_reader.specs.declared.kept.Kept.{Kept}
 
 -- in place of how many numbers there are, where they are not a list's first
 abbrev pub MISSED : ℕ
@@ -32,11 +31,14 @@ is_it None n = false
 abbrev pub count_on : List ℕ → ℕ → ℕ → ℕ
 count_on calls count number = if is_it (slice_get calls count) number then count + 1 else MISSED
 
--- what is kept after a word that is as a pattern says: a label stands in its upper 20 bits, and a number in the upper 12
-abbrev pub keep : List ℕ → Pattern → ℕ → Kept → Kept
-keep calls P.Label word kept = record { numbers = kept.numbers; label = word / 2 ^ 12 }
-keep calls P.Number word kept = record { numbers = count_on calls kept.numbers (word / 2 ^ 20); label = kept.label }
-keep calls other word kept = kept
+-- what is kept after a word that is as a pattern says: a number stands in its upper 12 bits, and a label in the upper 20
+abbrev pub count_by : List ℕ → Pattern → ℕ → ℕ → ℕ
+count_by calls P.Number word count = count_on calls count (word / 2 ^ 20)
+count_by calls other word count = count
+
+abbrev pub label_after : Pattern → ℕ → ℕ → ℕ
+label_after P.Label word label = word / 2 ^ 12
+label_after other word label = label
 
 -- the label that the first words of a unit bear
 abbrev pub relabel : Pattern → ℕ → Option ℕ → Option ℕ
@@ -59,11 +61,11 @@ numbers_by (p ∷ ps) [] = []
 numbers_by (p ∷ ps) (w ∷ words) = with_number p w (numbers_by ps words)
 
 -- of each unit that may begin with these words the label is kept, if it is told, and of a system call the numbers
-pub record Keeps (calls : List ℕ) (kept : Kept) (held : List ℕ) (at : ℕ) : Type 0 where
-  pub label : (s : Shape) (left : List Pattern) → Among s SHAPES → Opens s.words held at left →
-      (label : ℕ) → label_by s.words held None ≡ Some label → label ≡ kept.label
-  pub numbers : (s : Shape) (left : List Pattern) → Among s SHAPES → Opens s.words held at left →
-      s.end ≡ D.Guarded → kept.numbers ≡ told_by calls (numbers_by s.words held)
+pub record Keeps (calls : List ℕ) (numbers label : ℕ) (held : List ℕ) (at : ℕ) : Type 0 where
+  pub label_is : (s : Shape) (left : List Pattern) → Among s SHAPES → Opens s.words held at left →
+      (told : ℕ) → label_by s.words held None ≡ Some told → told ≡ label
+  pub numbers_are : (s : Shape) (left : List Pattern) → Among s SHAPES → Opens s.words held at left →
+      s.end ≡ D.Guarded → numbers ≡ told_by calls (numbers_by s.words held)
 
 -- a unit of this kind may have several words, and is one whatever follows
 abbrev pub is_longer : End → Bool
@@ -85,13 +87,13 @@ with_field entry None = E.Other
 with_field entry (Some field) = entry field
 
 -- the entry of such a unit, by what is kept of it and by its last word
-abbrev pub entry_by : List ℕ → End → Kept → Option Instr → Entry
-entry_by calls D.Branch kept last = with_field E.Branch (field_in last)
-entry_by calls D.Call kept last = with_field E.Call (field_in last)
-entry_by calls (D.Ijump which) kept last = E.Ijump which kept.label
-entry_by calls D.Icall kept last = E.Icall kept.label
-entry_by calls D.Guarded kept last = E.Guarded (kept.numbers == length calls)
-entry_by calls _ kept last = E.Other
+abbrev pub entry_by : List ℕ → End → ℕ → ℕ → Option Instr → Entry
+entry_by calls D.Branch numbers label last = with_field E.Branch (field_in last)
+entry_by calls D.Call numbers label last = with_field E.Call (field_in last)
+entry_by calls (D.Ijump which) numbers label last = E.Ijump which label
+entry_by calls D.Icall numbers label last = E.Icall label
+entry_by calls D.Guarded numbers label last = E.Guarded (numbers == length calls)
+entry_by calls _ numbers label last = E.Other
 
 -- and of one that ends before a word that might have gone on with it
 abbrev pub open_entry : End → Entry

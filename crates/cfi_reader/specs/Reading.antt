@@ -18,10 +18,14 @@ use Rattle.cfi_reader.specs.Nodes.{rest_of}
 
 -- nothing is read yet
 abbrev pub START : Reader
-START = record { node = 1; kept = record { numbers = 0; label = 0 } }
+START = record { node = 1; numbers = 0; label = 0 }
 
 abbrev pub is_new : Reader → Bool
 is_new reader = reader.node == 1
+
+-- no unit begins with what is read
+abbrev pub is_stuck : Reader → Bool
+is_stuck reader = reader.node == 0
 
 -- no unit begins with these words, whatever follows
 abbrev pub NeverBegins : List ℕ → ℕ → Type 0
@@ -36,7 +40,7 @@ AtLeast held at = (rest : List ℕ) (unit : U.Unit) → Begins (held ++ rest) at
 pub record IsReading (calls : List ℕ) (reader : Reader) (held : List ℕ) (at : ℕ) : Type 0 where
   pub reads : Reads (rest_of reader.node) held at
   pub least : AtLeast held at
-  pub keeps : Keeps calls reader.kept held at
+  pub keeps : Keeps calls reader.numbers reader.label held at
   pub begun : reader.node ≡ 1 → held ≡ []
   pub low : CODE_START ≤ at
   pub small : Small held

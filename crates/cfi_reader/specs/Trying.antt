@@ -13,7 +13,7 @@ use Rattle.cfi_reader.specs.Reading.{AtLeast}
 pub record IsTrying (calls : List ℕ) (reader : Reader) (held : List ℕ) (word at : ℕ) : Type 0 where
   pub tries : Tries (rest_of reader.node) held word at
   pub least : AtLeast held at
-  pub keeps : Keeps calls reader.kept held at
+  pub keeps : Keeps calls reader.numbers reader.label held at
   pub low : CODE_START ≤ at
   pub small : Small held
 

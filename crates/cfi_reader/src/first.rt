@@ -18,7 +18,7 @@ ghost use Rattle.cfi_reader.specs.FirstStep.{
 ghost use Rattle.cfi_reader.specs.Reading.{Opened};
 
 use crate::entry::Entry;
-use crate::kept::{Kept, count_on};
+use crate::kept::count_on;
 use crate::reader::Reader;
 use cfi_unit::handlers::BAD_TARGET;
 use rv_code::decode;
@@ -52,7 +52,8 @@ fn at_node(node: u8) -> First
 {
     First::More(Reader {
         node,
-        kept: Kept::new(),
+        numbers: 0,
+        label: Immediate::of(0),
     })
 }
 
@@ -143,9 +144,11 @@ fn address(calls: &Numbers, rs1: Reg, imm: Immediate<12>) -> First
     ensures { result ≡ address_step calls.now rs1 imm }
 {
     if is_number(rs1, imm) {
-        let mut kept = Kept::new();
-        kept.numbers = count_on(calls, 0, imm.bits());
-        First::More(Reader { node: 3, kept })
+        First::More(Reader {
+            node: 3,
+            numbers: count_on(calls, 0, imm.bits()),
+            label: Immediate::of(0),
+        })
     } else {
         at_node(11)
     }

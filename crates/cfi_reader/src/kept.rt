@@ -1,9 +1,8 @@
 //! What is kept of a unit while it is read, and the entry that it comes to.
 
-ghost use Rattle.std.specs.Prelude.{◌≡◌, ◌<◌, ◌≤◌, length};
+ghost use Rattle.std.specs.Prelude.{◌≡◌};
 ghost use Rattle.rv_code.specs.Decode.{decoded};
-ghost use Rattle.rv_word.specs.Numbers.{MOST_NUMBERS};
-ghost use Rattle.cfi_reader.specs.Kept.{count_on, entry_by, field_in, keep, open_entry};
+ghost use Rattle.cfi_reader.specs.Kept.{count_by, count_on, entry_by, field_in, label_after, open_entry};
 
 use crate::entry::Entry;
 use cfi_unit::{End, Pattern};
@@ -14,64 +13,52 @@ use rv_word::Numbers;
 /// In place of how many numbers there are, where they are not the list's first.
 const MISSED: u8 = 255;
 
-/// What is kept of a unit while it is read.
-#[derive(Clone, Copy)]
-pub(crate) struct Kept {
-    /// How many numbers of system calls it tests so far, if they are the list's first.
-    pub(crate) numbers: u8,
-    /// The label that it asks for, once that is read.
-    pub(crate) label: Immediate<20>,
+/// How many numbers there are after a word that is as a pattern says, if they are the first of a list.
+#[inline(always)]
+pub(crate) fn count_by(calls: &Numbers, pattern: Pattern, word: u32, count: u8) -> u8
+    ensures { result ≡ count_by calls.now pattern word count }
+{
+    match pattern {
+        Pattern::Number => count_on(calls, count, word >> 20),
+        _ => count,
+    }
 }
 
-impl Kept {
-    /// Nothing yet.
-    #[inline(always)]
-    pub(crate) fn new() -> Self
-        ensures { result ≡ record { numbers = 0; label = 0 } }
-    {
-        Kept {
-            numbers: 0,
-            label: Immediate::of(0),
-        }
+/// The label that is known after a word that is as a pattern says.
+#[inline(always)]
+pub(crate) fn label_after(pattern: Pattern, word: u32, label: Immediate<20>) -> Immediate<20>
+    ensures { result ≡ label_after pattern word label }
+{
+    match pattern {
+        Pattern::Label => Immediate::of(word >> 12),
+        _ => label,
     }
+}
 
-    /// What is kept after a word that is as a pattern says, under a list of system calls.
-    #[inline(always)]
-    pub(crate) fn keep(self, calls: &Numbers, pattern: Pattern, word: u32) -> Self
-        ensures { result ≡ keep calls.now pattern word self }
-    {
-        match pattern {
-            Pattern::Label => Kept {
-                numbers: self.numbers,
-                label: Immediate::of(word >> 12),
-            },
-            Pattern::Number => Kept {
-                numbers: count_on(calls, self.numbers, word >> 20),
-                label: self.label,
-            },
-            _ => self,
-        }
-    }
-
-    /// The entry of a unit that has ended, by its last word.
-    #[inline(always)]
-    pub(crate) fn entry(self, calls: &Numbers, end: End, word: u32) -> Entry
-        ensures { result ≡ entry_by calls.now end self (decoded word) }
-    {
-        match end {
-            End::Branch => match field_in(word) {
-                Some(field) => Entry::Branch(field),
-                None => Entry::Other,
-            },
-            End::Call => match field_in(word) {
-                Some(field) => Entry::Call(field),
-                None => Entry::Other,
-            },
-            End::Ijump(which) => Entry::Ijump(which, self.label),
-            End::Icall => Entry::Icall(self.label),
-            End::Guarded => Entry::Guarded(self.numbers as usize == calls.len()),
-            _ => Entry::Other,
-        }
+/// The entry of a unit that has ended, by what is kept of it and by its last word.
+#[inline(always)]
+pub(crate) fn entry_by(
+    calls: &Numbers,
+    end: End,
+    numbers: u8,
+    label: Immediate<20>,
+    word: u32,
+) -> Entry
+    ensures { result ≡ entry_by calls.now end numbers label (decoded word) }
+{
+    match end {
+        End::Branch => match field_in(word) {
+            Some(field) => Entry::Branch(field),
+            None => Entry::Other,
+        },
+        End::Call => match field_in(word) {
+            Some(field) => Entry::Call(field),
+            None => Entry::Other,
+        },
+        End::Ijump(which) => Entry::Ijump(which, label),
+        End::Icall => Entry::Icall(label),
+        End::Guarded => Entry::Guarded(numbers as usize == calls.len()),
+        _ => Entry::Other,
     }
 }
 

@@ -2,22 +2,27 @@
 
 ghost use Rattle.std.specs.Prelude.{◌≡◌, ◌≢◌, ℕ, List, false, length};
 ghost use Rattle.cfi_unit.specs.Opens.{InCode};
-ghost use Rattle.cfi_reader.specs.Reading.{Closes, IsReading, LeadsOn, START, is_new};
+ghost use Rattle.cfi_reader.specs.Reading.{Closes, IsReading, LeadsOn, START, is_new, is_stuck};
 ghost use Rattle.cfi_reader.specs.Nodes.{rest_of};
 ghost use Rattle.cfi_reader.specs.Trying.{Ended};
 
 use crate::entry::Entry;
-use crate::kept::{Kept, open_entry};
+use crate::kept::{count_by, entry_by, label_after, open_entry};
 use crate::matching::matches;
 use crate::node::{Else, Next, row_at};
 use cfi_unit::End;
+use rv_instr::Immediate;
 use rv_word::Numbers;
 
-/// How far a unit is read: the node of the table, and what is kept of its words.
+/// How far a unit is read.
 #[derive(Clone, Copy)]
 pub struct Reader {
+    /// The node of the table.
     pub(crate) node: u8,
-    pub(crate) kept: Kept,
+    /// How many numbers of system calls it tests so far, if they are the list's first.
+    pub(crate) numbers: u8,
+    /// The label that it asks for, once that is read.
+    pub(crate) label: Immediate<20>,
 }
 
 /// Where one word more leads.
@@ -38,7 +43,8 @@ impl Reader {
     {
         Reader {
             node: 1,
-            kept: Kept::new(),
+            numbers: 0,
+            label: Immediate::of(0),
         }
     }
 
@@ -47,6 +53,13 @@ impl Reader {
         ensures { result ≡ is_new self }
     {
         self.node == 1
+    }
+
+    /// Whether no unit begins so, whatever follows.
+    pub fn is_stuck(self) -> bool
+        ensures { result ≡ is_stuck self }
+    {
+        self.node == 0
     }
 
     /// The entry of what is read, where no word follows, if it is a unit.
@@ -72,21 +85,21 @@ pub fn next(calls: &Numbers, reader: Reader, word: u32, here: u64) -> Step
     ensures { LeadsOn calls.now reader word here result }
 {
     let _few = calls.len();
-    let kept = reader.kept;
     let mut node = reader.node;
     'asked: loop {
         let row = row_at(node);
         if matches(row.pattern, word, here) {
-            let kept = kept.keep(calls, row.pattern, word);
+            let numbers = count_by(calls, row.pattern, word, reader.numbers);
+            let label = label_after(row.pattern, word, reader.label);
             return match row.yes {
-                Next::More(node) => Step::More(Reader { node, kept }),
-                Next::Done(end) => Step::Done(kept.entry(calls, end, word)),
+                Next::More(node) => Step::More(Reader { node, numbers, label }),
+                Next::Done(end) => Step::Done(entry_by(calls, end, numbers, label, word)),
             };
         }
         match row.no {
             Else::Try(other) => node = other,
             Else::Ended(end) => return Step::Before(open_entry(end)),
-            Else::Stuck => return Step::More(Reader { node: 0, kept }),
+            Else::Stuck => return Step::More(Reader { node: 0, ..reader }),
         }
     }
 }

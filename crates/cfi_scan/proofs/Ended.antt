@@ -16,9 +16,10 @@ use Rattle.cfi_reader.specs.declared.reader.Step.{Step}
 use Rattle.cfi_reader.specs.declared.reader.Step.TheVariants.{More, Done, Before}
 use Rattle.cfi_reader.specs.Entries.{entries_of, entry_of, inside}
 use Rattle.cfi_reader.specs.PlainWord.{IsPlainWord}
-use Rattle.cfi_reader.specs.Reading.{IsReading, IsUnit, Leads, LeadsOn, Opened, START, is_new}
+use Rattle.cfi_reader.specs.Reading.{IsReading, IsUnit, Leads, LeadsOn, Opened, START, is_new, is_stuck}
 use Rattle.cfi_reader.proofs.Ahead.{none_follows}
 use Rattle.cfi_reader.proofs.Closed.{start_reads}
+use Rattle.cfi_reader.proofs.Followed.{stuck_stays}
 use Rattle.cfi_reader.proofs.Opening.{plain_opens}
 use Rattle.cfi_scan.specs.Stream.{AllStand, IsSplitUp, Splits, last_of, spelled, width}
 use Rattle.cfi_scan.proofs.Row.{entries_length, entries_set, inside_length, last_more, spelled_length, spelled_more, stand_more, width_more}
@@ -161,20 +162,6 @@ splits_on calls from word entries done last reader next words leads s =
       reading = leads s.held (from + 4 * width s.units) s.reading place;
     }
 
--- a word with which it ends
-pub splits_unit : (calls : List ℕ) (from : ℕ) (word : ℕ) (entries : List Entry) (done last : ℕ) (reader : Reader) (entry : Entry) (words : List ℕ) →
-    LeadsOn calls reader word (from + 4 * length words) (Done entry) → length words < length entries →
-    Splits calls from (word ∷ []) entries done last reader words →
-    Splits calls from [] (slice_set entries done entry) (length words + 1) done START (words ++ word ∷ [])
-splits_unit calls from word entries done last reader entry words leads room s =
-    let lw : length words ≡ width s.units + length s.held = words_length calls from (word ∷ []) entries done last reader words s in
-    let place : from + 4 * length words ≡ from + 4 * width s.units + 4 * length s.held = omega arith in
-    let (u, may) = leads s.held (from + 4 * width s.units) s.reading place in
-    let after : Splits calls from [] (slice_set entries done (entry_of calls u.unit (from + 4 * width s.units))) (length words + 1) done START (words ++ word ∷ []) =
-    ended_splits calls from (λ tail. IsTrue (may_precede u.unit (from + 4 * width s.units) tail)) _ _ _ _
-    (ended calls from (word ∷ []) entries done last reader words s u.unit u.fits u.words_are (omega arith)) [] may in
-    subst (λ (e : Entry). Splits calls from [] (slice_set entries done e) (length words + 1) done START (words ++ word ∷ [])) (sym u.entry_is) after
-
 -- what is known of the words that follow may be said
 pub splits_before : (calls : List ℕ) (from : ℕ) (word : ℕ) (entries : List Entry) (done last : ℕ) (reader : Reader) (words : List ℕ) →
     Splits calls from [] entries done last reader words → Splits calls from (word ∷ []) entries done last reader words
@@ -189,6 +176,28 @@ splits_before calls from word entries done last reader words s = record {
   last_is = s.last_is;
   reading = s.reading;
 }
+
+-- one with which no unit begins
+pub splits_stuck : (calls : List ℕ) (from : ℕ) (word : ℕ) (entries : List Entry) (done last : ℕ) (reader : Reader) (words : List ℕ) →
+    is_stuck reader ≡ true → word < 2 ^ 32 → Splits calls from [] entries done last reader words →
+    Splits calls from [] entries done last reader (words ++ word ∷ [])
+splits_stuck calls from word entries done last reader words stuck small s =
+    splits_on calls from word entries done last reader reader words (λ held at reading e. stuck_stays calls reader held word at stuck small reading)
+    (splits_before calls from word entries done last reader words s)
+
+-- a word with which it ends
+pub splits_unit : (calls : List ℕ) (from : ℕ) (word : ℕ) (entries : List Entry) (done last : ℕ) (reader : Reader) (entry : Entry) (words : List ℕ) →
+    LeadsOn calls reader word (from + 4 * length words) (Done entry) → length words < length entries →
+    Splits calls from (word ∷ []) entries done last reader words →
+    Splits calls from [] (slice_set entries done entry) (length words + 1) done START (words ++ word ∷ [])
+splits_unit calls from word entries done last reader entry words leads room s =
+    let lw : length words ≡ width s.units + length s.held = words_length calls from (word ∷ []) entries done last reader words s in
+    let place : from + 4 * length words ≡ from + 4 * width s.units + 4 * length s.held = omega arith in
+    let (u, may) = leads s.held (from + 4 * width s.units) s.reading place in
+    let after : Splits calls from [] (slice_set entries done (entry_of calls u.unit (from + 4 * width s.units))) (length words + 1) done START (words ++ word ∷ []) =
+    ended_splits calls from (λ tail. IsTrue (may_precede u.unit (from + 4 * width s.units) tail)) _ _ _ _
+    (ended calls from (word ∷ []) entries done last reader words s u.unit u.fits u.words_are (omega arith)) [] may in
+    subst (λ (e : Entry). Splits calls from [] (slice_set entries done e) (length words + 1) done START (words ++ word ∷ [])) (sym u.entry_is) after
 
 -- a plain word, where no unit has begun
 pub splits_plain : (calls : List ℕ) (from : ℕ) (word : ℕ) (entries : List Entry) (done last : ℕ) (reader : Reader) (words : List ℕ) →

@@ -57,7 +57,7 @@ impl Splitter {
     {
         if self.reader.is_new() {
             self.begin(word, index);
-        } else {
+        } else if !self.reader.is_stuck() {
             self.go_on(word, index);
         }
     }

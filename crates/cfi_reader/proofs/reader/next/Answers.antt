@@ -1,9 +1,8 @@
-use Rattle.std.proofs.Common.{◌<◌, ◌^◌, [], ◌∷◌, ◌++◌, ap, subst, sym, ◌∙◌, arith}
+use Rattle.std.proofs.Common.{◌<◌, ◌^◌, ℕ, [], ◌∷◌, ◌++◌, ap₂, subst, sym, ◌∙◌, arith}
 use Rattle.rv_code.specs.Decode.{decoded}
-use Rattle.cfi_reader.specs.Kept.{entry_by}
+use Rattle.cfi_reader.specs.Kept.{count_by, entry_by}
 use Rattle.cfi_reader.specs.Reading.{IsReading, Leads}
 use Rattle.cfi_reader.specs.declared.entry.Entry.{Entry}
-use Rattle.cfi_reader.specs.declared.kept.Kept.{Kept}
 use Rattle.cfi_reader.specs.declared.reader.Reader.{Reader}
 use Rattle.cfi_reader.specs.declared.reader.Step.TheVariants.{Before, Done}
 use Rattle.cfi_reader.proofs.Followed.{goes_before, goes_done, goes_more, goes_stuck, goes_try, later}
@@ -12,17 +11,25 @@ use Rattle.cfi_reader.proofs.reader.next.Goals as goal
 pub returns-in-More : goal.returns-in-More
 returns-in-More c held at reading e =
     let small : c.args.word < 2 ^ 32 = omega (arith, c.ranges.word.fits) in
-    let asked : Reader = record { node = c.asked.node; kept = c.args.reader.kept } in
-    subst (λ (k : Kept). IsReading c.args.calls.now (record { node = c.in-More.node; kept = k }) (held ++ c.args.word ∷ []) at) (sym c.keep-kept.ensures)
+    let asked : Reader = record { node = c.asked.node; numbers = c.args.reader.numbers; label = c.args.reader.label } in
+    subst (λ (n : ℕ). IsReading c.args.calls.now (record { node = c.in-More.node; numbers = n; label = c.label_after-label.result }) (held ++ c.args.word ∷ []) at)
+    (sym c.count_by-numbers.ensures)
+    (subst (λ (l : ℕ). IsReading c.args.calls.now (record {
+      node = c.in-More.node;
+      numbers = count_by c.args.calls.now c.row_at-row.result.pattern c.args.word c.args.reader.numbers;
+      label = l;
+    }) (held ++ c.args.word ∷ []) at)
+    (sym c.label_after-label.ensures)
     (goes_more c.args.calls.now asked c.row_at-row.result c.args.word c.args.here c.len-few.ensures.most c.requires.place small c.row_at-row.ensures held at
-    (c.asked.invariant.tries held at reading e) e c.in-More.node (sym c.if-matches.ensures) c.in-More.is)
+    (c.asked.invariant.tries held at reading e) e c.in-More.node (sym c.if-matches.ensures) c.in-More.is))
 
 pub returns-in-Done : goal.returns-in-Done
 returns-in-Done c held at reading e =
     let small : c.args.word < 2 ^ 32 = omega (arith, c.ranges.word.fits) in
-    let asked : Reader = record { node = c.asked.node; kept = c.args.reader.kept } in
+    let asked : Reader = record { node = c.asked.node; numbers = c.args.reader.numbers; label = c.args.reader.label } in
     subst (λ (d : Entry). Leads c.args.calls.now held c.args.word at (Done d))
-    (sym (c.entry.ensures ∙ ap (λ (k : Kept). entry_by c.args.calls.now c.in-Done.end k (decoded c.args.word)) c.keep-kept.ensures))
+    (sym (c.entry_by.ensures
+    ∙ ap₂ (λ (n l : ℕ). entry_by c.args.calls.now c.in-Done.end n l (decoded c.args.word)) c.count_by-numbers.ensures c.label_after-label.ensures))
     (goes_done c.args.calls.now asked c.row_at-row.result c.args.word c.args.here c.len-few.ensures.most c.requires.place small c.row_at-row.ensures held at
     (c.asked.invariant.tries held at reading e) e c.in-Done.end (sym c.if-matches.ensures) c.in-Done.is)
 
@@ -34,7 +41,7 @@ asked-smaller c =
 pub asked-preserved : goal.asked-preserved
 asked-preserved c =
     let small : c.args.word < 2 ^ 32 = omega (arith, c.ranges.word.fits) in
-    let asked : Reader = record { node = c.asked.node; kept = c.args.reader.kept } in
+    let asked : Reader = record { node = c.asked.node; numbers = c.args.reader.numbers; label = c.args.reader.label } in
     let l = later c.asked.node c.row_at-row.result c.in-Try.other c.row_at-row.ensures c.in-Try.is in
     record {
       other = λ e. omega arith;
@@ -46,7 +53,7 @@ asked-preserved c =
 pub returns-in-Ended : goal.returns-in-Ended
 returns-in-Ended c held at reading e =
     let small : c.args.word < 2 ^ 32 = omega (arith, c.ranges.word.fits) in
-    let asked : Reader = record { node = c.asked.node; kept = c.args.reader.kept } in
+    let asked : Reader = record { node = c.asked.node; numbers = c.args.reader.numbers; label = c.args.reader.label } in
     subst (λ (d : Entry). Leads c.args.calls.now held c.args.word at (Before d)) (sym c.open_entry.ensures)
     (goes_before c.args.calls.now asked c.row_at-row.result c.args.word c.args.here c.len-few.ensures.most c.requires.place small c.row_at-row.ensures held at
     (c.asked.invariant.tries held at reading e) e c.in-Ended.end (sym c.if-matches.ensures) c.in-Ended.is)
@@ -54,6 +61,6 @@ returns-in-Ended c held at reading e =
 pub returns-in-Stuck : goal.returns-in-Stuck
 returns-in-Stuck c held at reading e =
     let small : c.args.word < 2 ^ 32 = omega (arith, c.ranges.word.fits) in
-    let asked : Reader = record { node = c.asked.node; kept = c.args.reader.kept } in
+    let asked : Reader = record { node = c.asked.node; numbers = c.args.reader.numbers; label = c.args.reader.label } in
     goes_stuck c.args.calls.now asked c.row_at-row.result c.args.word c.args.here c.len-few.ensures.most c.requires.place small c.row_at-row.ensures held at
     (c.asked.invariant.tries held at reading e) e (sym c.if-matches.ensures) c.in-Stuck.is
