@@ -1,7 +1,7 @@
 -- The instruction in each hole: a word that is as a pattern says is that of an instruction of its form, with
 -- fields in range, and the word of such an instruction is as the pattern says.
 use Rattle.std.proofs.Common.{◌≡◌, ◌≢◌, ℕ, ◌==◌, ◌&&◌, ◌<◌, ◌^◌, Bool, true, false, not, refl, ap, sym, ◌∙◌}
-use Rattle.std.specs.Prelude.{Option, Some, None, nat_lt}
+use Rattle.std.specs.Prelude.{Option, Some, None, nat_lt, if◌then◌else◌, is_none}
 use Rattle.std.proofs.lemmas.Bool.{eqb-true, ltb-true, not-true}
 use Rattle.rv_word.specs.Numbers.{IsNumber}
 use Rattle.rv_instr.specs.InRange.{IsInstr}
@@ -16,9 +16,9 @@ use Rattle.rv_code.proofs.Inverse.{code_of-decoded, decoded-in_range}
 use Rattle.rv_code.proofs.ReadBack.{decoded-code_of}
 use Rattle.cfi_unit.specs.declared.members.Member.{Member}
 use Rattle.cfi_unit.specs.declared.pattern.Pattern.TheVariants as P
-use Rattle.cfi_unit.specs.Members.{IsMember, member_instr}
+use Rattle.cfi_unit.specs.Members.{IsMember, member_instr, member_of}
 use Rattle.cfi_unit.specs.Recognise.{led_to}
-use Rattle.cfi_unit.specs.UnitWords.{BAD_TARGET, Reaches, gate, is_plain, jump_offset}
+use Rattle.cfi_unit.specs.UnitWords.{BAD_TARGET, Reaches, gate, is_plain, jump_offset, is_jump}
 use Rattle.cfi_unit.specs.Patterns.{decodes_to, has_form, matches}
 use Rattle.cfi_unit.proofs.LedBack.{led_back}
 use Rattle.cfi_unit.proofs.Stand.{both, other_told}
@@ -180,3 +180,18 @@ member_hole w here small m =
     let f = formed (has_form P.Member here) w small m in
     let (member, (low, is)) = member_form here f.instr f.has f.fields in
     (member, (low, ap code_of (sym is) ∙ f.code))
+
+-- a word that goes on with a branch over it, or with stores, is as a pattern says
+pub is_jump_by : (here : ℕ) (i : Option Instr) → is_jump i ≡ decodes_to (has_form P.Jump here) i
+is_jump_by here None = refl
+is_jump_by here (Some (Jal rd imm)) = refl
+is_jump_by here (Some other) = refl
+
+pub is_member_by : (here : ℕ) (i : Option Instr) → is_none (member_of i) ≡ not (decodes_to (has_form P.Member here) i)
+is_member_by here None = refl
+is_member_by here (Some (Store op rs1 rs2 imm)) = none_if ((rs1 == 31) && nat_lt imm 2048) (record { op = op; value = rs2; distance = imm })
+  where
+    none_if : (b : Bool) (m : Member) → is_none (if b then Some m else None) ≡ not b
+    none_if true m = refl
+    none_if false m = refl
+is_member_by here (Some other) = refl

@@ -1,17 +1,14 @@
 -- The unit that is recognised is the one of the first shape of the table that the words begin as.
 use Rattle.std.proofs.Common.{◌≡◌, ℕ, zero, suc, ◌+◌, ◌*◌, ◌==◌, ◌&&◌, ◌<◌, ◌^◌, ◌⊎◌, Bool, true, false, not, refl, ap, sym, subst, ◌∙◌, inl, inr, List, [], ◌∷◌, ◌++◌, length, take, drop, arith}
-use Rattle.std.specs.Prelude.{Option, Some, None, if◌then◌else◌, is_none, nat_le, nat_lt, option_map, replicate}
-use Rattle.std.proofs.lemmas.Bool.{and_parts, cases_Bool, eqb-true, le-leb, not-false, or_left, or_right}
+use Rattle.std.specs.Prelude.{Option, Some, None, if◌then◌else◌, is_none, nat_le, option_map, replicate}
+use Rattle.std.proofs.lemmas.Bool.{and_parts, cases_Bool, eqb-true, le-leb, or_left, or_right}
 use Rattle.std.proofs.lemmas.Bool.Decides.{nat_tests}
 use Rattle.std.proofs.lemmas.List.Elements.{All-from_recursion}
 use Rattle.std.proofs.lemmas.List.{length-replicate, length-take, take-append-drop}
 use Rattle.std.proofs.lemmas.Option.{same_Some}
 use Rattle.rv_word.proofs.Arrays.{take_all}
 use Rattle.rv_word.proofs.Cases.{cases_Option, chosen}
-use Rattle.rv_instr.specs.declared.instr.Instr.{Instr}
-use Rattle.rv_instr.specs.declared.instr.Instr.TheVariants.{Jal, Store}
 use Rattle.rv_code.specs.Decode.{decoded}
-use Rattle.cfi_unit.specs.declared.members.Member.{Member}
 use Rattle.cfi_unit.specs.declared.pattern.End.{End}
 use Rattle.cfi_unit.specs.declared.pattern.End.TheVariants as E
 use Rattle.cfi_unit.specs.declared.pattern.Pattern.{Pattern}
@@ -21,13 +18,14 @@ use Rattle.cfi_unit.specs.declared.unit.Unit.TheVariants as V
 use Rattle.cfi_unit.specs.Members.{MOST_MEMBERS, member_of}
 use Rattle.cfi_unit.specs.Recognise.{recognised}
 use Rattle.cfi_unit.specs.UnitWords.{Begins, instr_at, is_jump, may_precede, near_offset, skip_offset, word_count, words_of}
-use Rattle.cfi_unit.specs.Patterns.{decodes_to, has_form, matches}
+use Rattle.cfi_unit.specs.Patterns.{matches}
 use Rattle.cfi_unit.specs.Shapes.{SHAPES, Shape, all_stores, each_stores, mask, shape, stores}
 use Rattle.cfi_unit.specs.ShapeOf.{shape_of}
 use Rattle.cfi_unit.specs.Opens.{Among, InCode, Opens, Small}
 use Rattle.cfi_unit.specs.FoundShape.{OVER_JUMP, begins_as, first_of, found_shape}
 use Rattle.cfi_unit.specs.ShapeLaw.{RecognisedFound}
 use Rattle.cfi_unit.proofs.Found.{begins_recognised}
+use Rattle.cfi_unit.proofs.Forms.{is_jump_by, is_member_by}
 use Rattle.cfi_unit.proofs.Told.{recognised_begins}
 use Rattle.cfi_unit.proofs.Listed.{each_among, listed}
 use Rattle.cfi_unit.proofs.MadeUnits.{made}
@@ -97,16 +95,11 @@ first_either (r ∷ front) back ws at s e =
     ]
 
 -- a near branch over the next word: that is no jump
-jump_is : (o : Option Instr) (here : ℕ) → decodes_to (has_form P.Jump here) o ≡ is_jump o
-jump_is None here = refl
-jump_is (Some (Jal rd imm)) here = refl
-jump_is (Some other) here = refl
-
 no_jump : (ws : List ℕ) (at : ℕ) → begins_as (P.Skip ∷ []) ws at ≡ true → begins_as (P.Skip ∷ P.Jump ∷ []) ws at ≡ false →
     is_jump (instr_at (drop 1 ws) 0) ≡ false
 no_jump [] at e f = absurd (cc)
 no_jump (w ∷ []) at e f = refl
-no_jump (w ∷ v ∷ ws) at e f = sym (jump_is (decoded v) (at + 4)) ∙ next (matches P.Skip w at) (matches P.Jump v (at + 4)) e f
+no_jump (w ∷ v ∷ ws) at e f = is_jump_by (at + 4) (decoded v) ∙ next (matches P.Skip w at) (matches P.Jump v (at + 4)) e f
   where
     next : (a b : Bool) → (a && true) ≡ true → (a && (b && true)) ≡ false → b ≡ false
     next true true e f = absurd (cc)
@@ -154,22 +147,13 @@ stores_first k ws at e =
       ]
     ]
 
-member_is : (o : Option Instr) (here : ℕ) → decodes_to (has_form P.Member here) o ≡ not (is_none (member_of o))
-member_is None here = refl
-member_is (Some (Store op rs1 rs2 imm)) here = given ((rs1 == 31) && nat_lt imm 2048) (record { op = op; value = rs2; distance = imm })
-  where
-    given : (b : Bool) (m : Member) → b ≡ not (is_none (if b then Some m else None))
-    given true m = refl
-    given false m = refl
-member_is (Some other) here = refl
-
 one_more : (k : ℕ) → replicate (suc k) P.Member ≡ replicate k P.Member ++ P.Member ∷ []
 one_more zero = refl
 one_more (suc k) = ap (λ l. P.Member ∷ l) (one_more k)
 
 no_member : (rest : List ℕ) (at : ℕ) → begins_as (P.Member ∷ []) rest at ≡ false → is_none (member_of (instr_at rest 0)) ≡ true
 no_member [] at e = refl
-no_member (w ∷ rest) at e = not-false (is_none (member_of (decoded w))) (sym (member_is (decoded w) at) ∙ alone (matches P.Member w at) e)
+no_member (w ∷ rest) at e = is_member_by at (decoded w) ∙ ap not (alone (matches P.Member w at) e)
   where
     alone : (b : Bool) → (b && true) ≡ false → b ≡ false
     alone true e = absurd (cc)

@@ -48,4 +48,4 @@ pub mod MadeUnits
 mod ShapesApart
 mod ShapesUsed
 mod ShapesWorked
-mod FoundShapes
+pub mod FoundShapes

@@ -160,14 +160,9 @@ pub data InClosing (at : ℕ) (h : Hart) : Type 0 where
   closing_number : h.pc ≡ at → InClosing at h
   closing_ecall : h.pc ≡ at + 4 → h.regs 17 ≡ 93 → InClosing at h
 
+-- any other unit is one word
 abbrev pub InUnit : ℕ → Memory → U.Unit → ℕ → List ℕ → Registers → Hart → Memory → Type 0
-InUnit part image (V.Gate label) at pending r h m = InWord part at (length pending) h
-InUnit part image (V.Plain instr) at pending r h m = InWord part at (length pending) h
 InUnit part image (V.Branch op rs1 rs2 target) at pending r h m = InBranch part at (length pending) h
-InUnit part image (V.Near op rs1 rs2 target) at pending r h m = InWord part at (length pending) h
-InUnit part image (V.Jump target) at pending r h m = InWord part at (length pending) h
-InUnit part image V.Stop at pending r h m = InWord part at (length pending) h
-InUnit part image (V.System op) at pending r h m = InWord part at (length pending) h
 InUnit part image (V.Guarded numbers) at pending r h m = InGuarded part at numbers (r 17) (length pending) h
 InUnit part image (V.Stores rs1 imm members) at pending r h m = InStores part at (length members) (length pending) h
 InUnit part image (V.Call target) at pending r h m = InCall part at (r 31) (length pending) h m
@@ -177,6 +172,7 @@ InUnit part image (V.Icall rs1 imm label) at pending r h m =
     InIcall part image at rs1 imm label (sum_of r rs1 imm) (destination r rs1 imm) (length pending) h m
 InUnit part image V.Return at [] r h m = ⊥
 InUnit part image V.Return at (site ∷ pending) r h m = InReturn part at (r 1) site (length pending) h
+InUnit part image other at pending r h m = InWord part at (length pending) h
 
 abbrev pub InPlace : Profile → ℕ → Memory → Place → ℕ → List ℕ → Registers → Hart → Memory → Type 0
 InPlace p part image handler at pending r h m = h.pc ≡ at

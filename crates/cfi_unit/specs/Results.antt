@@ -32,20 +32,12 @@ program_result i = if_of_program (result_register i)
 -- the register of the program that a unit's last word puts its result into: a plain unit's
 -- instruction its own, a system call x10, a call x1
 abbrev pub last_result : U.Unit → Option ℕ
-last_result (V.Gate label) = None
 last_result (V.Plain instr) = program_result instr
-last_result (V.Branch op rs1 rs2 target) = None
-last_result (V.Near op rs1 rs2 target) = None
-last_result (V.Jump target) = None
-last_result V.Stop = None
 last_result (V.System S.Ecall) = Some 10
-last_result (V.System S.Ebreak) = None
 last_result (V.Guarded numbers) = Some 10
-last_result (V.Stores rs1 imm members) = None
 last_result (V.Call target) = Some 1
-last_result (V.Ijump which rs1 imm label) = None
 last_result (V.Icall rs1 imm label) = Some 1
-last_result V.Return = None
+last_result other = None
 
 -- no word of a unit but the last puts a result into a register of the program
 abbrev pub unit_results : U.Unit → List (Option ℕ)

@@ -1,6 +1,7 @@
 //! The units of a hardened image: which lists of words are one unit. `emit` writes a unit's words,
-//! `recognise` finds the unit that begins a list of words, the unit law says where a step from a
-//! word of a unit leads, and the effect law what a unit does from its first word on.
+//! `recognise` finds the unit that begins a list of words, the laws of shapes that a table of patterns
+//! says the same, the unit law where a step from a word of a unit leads, and the effect law what a unit
+//! does from its first word on.
 #![tactic(auto)]
 
 pub use effect_law::{closing_effect, opening_effect, unit_effect, unit_keeps_registers};
