@@ -1,5 +1,8 @@
 pub mod Entries
-pub mod Fields
-pub mod Reading
-pub mod FirstStep
 pub mod PlainWord
+pub mod Left
+pub mod Kept
+pub mod Nodes
+pub mod Reading
+pub mod Trying
+pub mod FirstStep

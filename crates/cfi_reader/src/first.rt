@@ -1,40 +1,64 @@
 //! The first word of a unit: which unit it can begin.
 
 ghost use Rattle.std.specs.Prelude.{◌≡◌};
+ghost use Rattle.cfi_unit.specs.Opens.{InCode};
 ghost use Rattle.cfi_reader.specs.FirstStep.{
   address_step,
+  at_node,
   branch_step,
   first_step,
+  is_number,
   jump_step,
+  opens_address,
   opens_call,
   opens_return,
   plain_step,
   upper_step,
 };
-ghost use Rattle.cfi_reader.specs.Reading.{IsCode, LeadsOn};
-ghost use Rattle.cfi_reader.specs.declared.reader.Reader.TheVariants as R;
+ghost use Rattle.cfi_reader.specs.Reading.{Opened};
 
 use crate::entry::Entry;
-use crate::guard::{is_call, is_number, opens_address};
-use crate::reader::{Reader, Step};
+use crate::kept::count_on;
+use crate::reader::Reader;
 use cfi_unit::handlers::BAD_TARGET;
 use rv_code::decode;
-use rv_instr::{Immediate, Instr, LoadOp, Reg, ShiftOp, UpperOp};
+use rv_instr::{Immediate, ImmediateOp, Instr, LoadOp, Reg, ShiftOp, UpperOp};
 use rv_word::{Numbers, sext};
 
+/// Where the first word of a unit leads.
+#[derive(Clone, Copy)]
+pub enum First {
+    /// The unit is read further.
+    More(Reader),
+    /// The word is a unit.
+    Done(Entry),
+}
+
 /// Reads the first word of a unit, under a list of system calls.
-pub(crate) fn first_word(calls: &Numbers, word: u32, here: u64) -> Step
-    requires place { IsCode here }
-    ensures { LeadsOn calls.now R.Start word here result }
+pub fn first_word(calls: &Numbers, word: u32, here: u64) -> First
+    requires place { InCode here 1 }
+    ensures { Opened calls.now word here result }
 {
     match decode(word) {
         Some(instr) => first_instr(calls, instr, here),
-        None => Step::More(Reader::Stuck),
+        None => at_node(0),
     }
 }
 
-/// The step to which the first instruction of a unit leads.
-fn first_instr(calls: &Numbers, instr: Instr, here: u64) -> Step
+/// The unit is read further, from a node on, and nothing is kept.
+#[inline(always)]
+fn at_node(node: u8) -> First
+    ensures { result ≡ at_node node }
+{
+    First::More(Reader {
+        node,
+        numbers: 0,
+        label: Immediate::of(0),
+    })
+}
+
+/// Where the first instruction of a unit leads.
+fn first_instr(calls: &Numbers, instr: Instr, here: u64) -> First
     ensures { result ≡ first_step calls.now instr here }
 {
     match instr {
@@ -51,79 +75,97 @@ fn first_instr(calls: &Numbers, instr: Instr, here: u64) -> Step
         }
         Instr::Shift(op, rd, rs1, amount) => {
             if opens_call(op, rd, rs1, amount) {
-                Step::More(Reader::Call(1))
+                at_node(46)
             } else {
                 plain(rd)
             }
         }
         Instr::Load(op, rd, rs1, imm) => {
             if opens_return(op, rd, rs1, imm) {
-                Step::More(Reader::Return(1))
+                at_node(78)
             } else {
                 plain(rd)
             }
         }
-        Instr::Ecall => Step::Done(Entry::Ecall),
-        Instr::Fence(_) | Instr::Ebreak => Step::Done(Entry::Other),
-        Instr::Jalr(..) | Instr::Store(..) => Step::More(Reader::Stuck),
+        Instr::Ecall => First::Done(Entry::Ecall),
+        Instr::Fence(_) | Instr::Ebreak => First::Done(Entry::Other),
+        Instr::Jalr(..) | Instr::Store(..) => at_node(0),
     }
 }
 
 /// A plain unit, unless it writes a register that units keep for themselves.
-fn plain(rd: Reg) -> Step
+fn plain(rd: Reg) -> First
     ensures { result ≡ plain_step rd }
 {
     if rd.is_reserved() {
-        Step::More(Reader::Stuck)
+        at_node(0)
     } else {
-        Step::Done(Entry::Other)
+        First::Done(Entry::Other)
     }
 }
 
 /// A gate, which is `lui x0`, or a plain unit.
-fn upper(op: UpperOp, rd: Reg, imm: Immediate<20>) -> Step
+fn upper(op: UpperOp, rd: Reg, imm: Immediate<20>) -> First
     ensures { result ≡ upper_step op rd imm }
 {
     if op == UpperOp::Lui && rd.number() == 0 {
-        Step::Done(Entry::Gate(imm))
+        First::Done(Entry::Gate(imm))
     } else {
         plain(rd)
     }
 }
 
 /// A near branch, unless it leads over the next word: then that decides.
-fn branch(field: Immediate<12>) -> Step
+fn branch(field: Immediate<12>) -> First
     ensures { result ≡ branch_step field }
 {
     if field.bits() == 4 {
-        Step::More(Reader::Branch)
+        at_node(2)
     } else {
-        Step::Done(Entry::Near(field))
+        First::Done(Entry::Near(field))
     }
 }
 
 /// A jump or a stop.
-fn jump(rd: Reg, field: Immediate<20>, here: u64) -> Step
+fn jump(rd: Reg, field: Immediate<20>, here: u64) -> First
     ensures { result ≡ jump_step rd field here }
 {
     if rd.number() != 0 {
-        Step::More(Reader::Stuck)
+        at_node(0)
     } else if here.wrapping_add(sext(u64::from(field.bits()) * 2, 21)) == BAD_TARGET {
-        Step::Done(Entry::Stop)
+        First::Done(Entry::Stop)
     } else {
-        Step::Done(Entry::Jump(field))
+        First::Done(Entry::Jump(field))
     }
 }
 
 /// A number of a system call, of which it is kept whether the list begins with it, or an address.
-fn address(calls: &Numbers, rs1: Reg, imm: Immediate<12>) -> Step
+fn address(calls: &Numbers, rs1: Reg, imm: Immediate<12>) -> First
     ensures { result ≡ address_step calls.now rs1 imm }
 {
     if is_number(rs1, imm) {
-        Step::More(Reader::Number(is_call(calls, 0, imm.bits())))
+        First::More(Reader {
+            node: 3,
+            numbers: count_on(calls, 0, imm.bits()),
+            label: Immediate::of(0),
+        })
     } else {
-        Step::More(Reader::Address)
+        at_node(11)
     }
+}
+
+/// Whether it is `addi x31`, with which a mask, a computed transfer or a test begins.
+fn opens_address(op: ImmediateOp, rd: Reg) -> bool
+    ensures { result ≡ opens_address op rd }
+{
+    op == ImmediateOp::Addi && rd.number() == 31
+}
+
+/// Whether what it puts there is a number that may be a system call's.
+fn is_number(rs1: Reg, imm: Immediate<12>) -> bool
+    ensures { result ≡ is_number rs1 imm }
+{
+    rs1.number() == 0 && imm.bits() < 2048
 }
 
 /// Whether it is `slli x30,x3,48`, with which a call begins.

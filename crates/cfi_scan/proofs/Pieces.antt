@@ -1,11 +1,12 @@
 -- Bytes that are cut into words, one byte or one word more, and what is kept of them.
 use Rattle.std.proofs.Common.{◌≡◌, ℕ, ◌+◌, ◌*◌, ◌/◌, ◌%◌, ◌<◌, ◌≤◌, List, [], ◌∷◌, ◌++◌, length, min, get_or, set, take, drop, Some, None, inl, inr, refl, sym, ap, ◌∙◌, subst, arith}
-use Rattle.std.proofs.lemmas.List.{append-nil, append_assoc, length_push, length-append, take_more_set, take_all, nil_from_length}
+use Rattle.std.proofs.lemmas.List.{append-nil, append_assoc, length_push, length-append, take-append-le, take_more_set, take_all, nil_from_length}
 use Rattle.std.proofs.lemmas.Bool.{cases_eq, eq-eqb, ne_eqb}
-use Rattle.rv_word.specs.MemoryMap.{Profile}
+use Rattle.rv_word.specs.MemoryMap.{CODE_START, Profile}
 use Rattle.cfi_reader.specs.declared.entry.Entry.{Entry}
 use Rattle.cfi_scan.specs.declared.kept.Kept.{Kept}
-use Rattle.cfi_reader.specs.declared.reader.Reader.TheVariants as R
+use Rattle.cfi_reader.specs.Reading.{START}
+use Rattle.cfi_reader.proofs.Closed.{start_reads}
 use Rattle.cfi_scan.specs.Carry.{Taken, after_byte, made, word_of}
 use Rattle.cfi_reader.specs.Entries.{entries_of, inside}
 use Rattle.cfi_scan.specs.Pieces.{HasSeen, IsCut, IsOf, Keeps, Sight, ends, goes_on, prologue_count}
@@ -75,9 +76,17 @@ keeps_none most prologue =
     ap (λ (n : ℕ). take n prologue) none ∙ sym (take_all {A = ℕ} most [] (omega arith))
 
 -- no word yet
-pub splits_none : (calls : List ℕ) (from room : ℕ) → Splits calls from [] (inside room) 0 0 R.Start []
+pub keeps_after : (most : ℕ) (prologue words : List ℕ) (word : ℕ) → most ≤ length words → take (min (length words) most) prologue ≡ take most words →
+    take (min (length (words ++ word ∷ [])) most) prologue ≡ take most (words ++ word ∷ [])
+keeps_after most prologue words word high is =
+    let longer : length (words ++ word ∷ []) ≡ length words + 1 = length-append words (word ∷ []) in
+    let one : min (length (words ++ word ∷ [])) most ≡ most = omega arith in
+    let two : min (length words) most ≡ most = omega arith in
+    ap (λ (n : ℕ). take n prologue) (one ∙ sym two) ∙ is ∙ sym (take-append-le most words (word ∷ []) high)
+
+pub splits_none : (calls : List ℕ) (from room : ℕ) → CODE_START ≤ from → Splits calls from [] (inside room) 0 0 START []
 unfolding spelled width last_of AllStand entries_of
-splits_none calls from room = record {
+splits_none calls from room low = record {
   units = [];
   held = [];
   room = room;
@@ -86,7 +95,7 @@ splits_none calls from room = record {
   entries_are = refl;
   done_is = refl;
   last_is = refl;
-  reading = refl;
+  reading = start_reads calls (from + 4 * 0) (omega (arith, low));
 }
 
 -- what is kept of words, and what a feeder shows of it

@@ -1,14 +1,13 @@
-ghost use Rattle.std.specs.Prelude.{◌≡◌, ◌<◌, ◌≤◌, ℕ, List, IfOk, [], ◌∷◌, ◌++◌, length, slice_set};
+ghost use Rattle.std.specs.Prelude.{◌≡◌, ◌<◌, ◌≤◌, true, false, ℕ, List, IfOk, [], ◌∷◌, ◌++◌, length, slice_set};
 ghost use Rattle.rv_word.specs.MemoryMap.{profile_of};
 ghost use Rattle.cfi_reader.specs.Entries.{inside};
 ghost use Rattle.cfi_scan.specs.Pieces.{HasPlace};
-ghost use Rattle.cfi_reader.specs.Reading.{MayTake};
+ghost use Rattle.cfi_reader.specs.Reading.{START, is_new};
 ghost use Rattle.cfi_scan.specs.Stream.{IsSplitUp, Splits};
-ghost use Rattle.cfi_reader.specs.declared.reader.Reader.TheVariants as R;
 
 use crate::front::Front;
 use crate::packed::Packed;
-use cfi_reader::{Entry, Reader, Step, is_plain_word, next};
+use cfi_reader::{Entry, First, Reader, Step, first_word, is_plain_word, next};
 use rv_word::{NoMemory, Numbers};
 use std::alloc::Global;
 
@@ -34,7 +33,7 @@ impl Splitter {
     ) -> Result<Splitter, NoMemory>
         ensures version { IfOk result (λ s. s.front ≡ version) }
         ensures calls { IfOk result (λ s. s.calls ≡ calls) }
-        ensures empty { IfOk result (λ s. (s.entries.items ≡ inside room) × (s.done ≡ 0) × (s.last ≡ 0) × (s.reader ≡ R.Start)) }
+        ensures empty { IfOk result (λ s. (s.entries.items ≡ inside room) × (s.done ≡ 0) × (s.last ≡ 0) × (s.reader ≡ START)) }
         ensures room { IfOk result (λ s. length s.entries.items ≡ room) }
     {
         Ok(Splitter {
@@ -43,7 +42,7 @@ impl Splitter {
             entries: nothing(alloc, room)?,
             done: 0,
             last: 0,
-            reader: Reader::Start,
+            reader: Reader::new(),
         })
     }
 
@@ -56,37 +55,56 @@ impl Splitter {
         ensures calls { self.new.calls ≡ self.old.calls }
         ensures room { length self.new.entries.items ≡ length self.old.entries.items }
     {
-        if self.reader == Reader::Start && is_plain_word(word) {
-            self.end(Entry::Other, index + 1);
-        } else if self.reader.is_open() {
-            self.after_open(word, index);
-        } else {
-            self.read(word, index);
+        if self.reader.is_new() {
+            self.begin(word, index);
+        } else if !self.reader.is_stuck() {
+            self.go_on(word, index);
         }
     }
 
-    /// Takes the word after what is a unit already if the word does not belong to it, which it ends
-    /// first where that is so.
-    #[inline(never)]
-    fn after_open(&mut self, word: u32, index: usize)
+    /// Takes the next word as the first of a unit.
+    #[inline(always)]
+    fn begin(&mut self, word: u32, index: usize)
         requires room { index < length self.old.entries.items }
         requires small { HasPlace (profile_of self.old.front) self.old.entries.items }
-        ensures splits { (words : List ℕ) → length words ≡ index → Splits self.old.calls (profile_of self.old.front).units_from [] self.old.entries.items self.old.done self.old.last self.old.reader words → Splits self.old.calls (profile_of self.old.front).units_from [] self.new.entries.items self.new.done self.new.last self.new.reader (words ++ word ∷ []) }
+        requires new { is_new self.old.reader ≡ true }
+        ensures splits { (words : List ℕ) → length words ≡ index → Splits self.old.calls (profile_of self.old.front).units_from (word ∷ []) self.old.entries.items self.old.done self.old.last self.old.reader words → Splits self.old.calls (profile_of self.old.front).units_from [] self.new.entries.items self.new.done self.new.last self.new.reader (words ++ word ∷ []) }
         ensures front { self.new.front ≡ self.old.front }
         ensures calls { self.new.calls ≡ self.old.calls }
         ensures room { length self.new.entries.items ≡ length self.old.entries.items }
     {
-        self.settle(word, index);
-        self.read(word, index);
+        if is_plain_word(word) {
+            self.end(Entry::Other, index + 1);
+        } else {
+            self.open(word, index);
+        }
     }
 
-    /// Takes the next word by what is read of its unit, to which it belongs.
+    /// Takes it by its instruction.
     #[inline(never)]
-    fn read(&mut self, word: u32, index: usize)
+    fn open(&mut self, word: u32, index: usize)
         requires room { index < length self.old.entries.items }
         requires small { HasPlace (profile_of self.old.front) self.old.entries.items }
-        requires taken { MayTake self.old.reader word }
+        requires new { is_new self.old.reader ≡ true }
         ensures splits { (words : List ℕ) → length words ≡ index → Splits self.old.calls (profile_of self.old.front).units_from (word ∷ []) self.old.entries.items self.old.done self.old.last self.old.reader words → Splits self.old.calls (profile_of self.old.front).units_from [] self.new.entries.items self.new.done self.new.last self.new.reader (words ++ word ∷ []) }
+        ensures front { self.new.front ≡ self.old.front }
+        ensures calls { self.new.calls ≡ self.old.calls }
+        ensures room { length self.new.entries.items ≡ length self.old.entries.items }
+    {
+        let here = self.front.start() + 4 * index as u64;
+        match first_word(&self.calls, word, here) {
+            First::More(reader) => self.reader = reader,
+            First::Done(entry) => self.end(entry, index + 1),
+        }
+    }
+
+    /// Takes the next word by what is read of its unit, which may have ended before it.
+    #[inline(never)]
+    fn go_on(&mut self, word: u32, index: usize)
+        requires room { index < length self.old.entries.items }
+        requires small { HasPlace (profile_of self.old.front) self.old.entries.items }
+        requires begun { is_new self.old.reader ≡ false }
+        ensures splits { (words : List ℕ) → length words ≡ index → Splits self.old.calls (profile_of self.old.front).units_from [] self.old.entries.items self.old.done self.old.last self.old.reader words → Splits self.old.calls (profile_of self.old.front).units_from [] self.new.entries.items self.new.done self.new.last self.new.reader (words ++ word ∷ []) }
         ensures front { self.new.front ≡ self.old.front }
         ensures calls { self.new.calls ≡ self.old.calls }
         ensures room { length self.new.entries.items ≡ length self.old.entries.items }
@@ -95,22 +113,10 @@ impl Splitter {
         match next(&self.calls, self.reader, word, here) {
             Step::More(reader) => self.reader = reader,
             Step::Done(entry) => self.end(entry, index + 1),
-        }
-    }
-
-    /// Ends a branch over the next word where that is no jump, and stores where that is no store: then
-    /// they are a unit.
-    fn settle(&mut self, word: u32, index: usize)
-        requires room { index ≤ length self.old.entries.items }
-        requires small { HasPlace (profile_of self.old.front) self.old.entries.items }
-        ensures splits { (words : List ℕ) → length words ≡ index → Splits self.old.calls (profile_of self.old.front).units_from [] self.old.entries.items self.old.done self.old.last self.old.reader words → Splits self.old.calls (profile_of self.old.front).units_from (word ∷ []) self.new.entries.items self.new.done self.new.last self.new.reader words }
-        ensures taken { MayTake self.new.reader word }
-        ensures front { self.new.front ≡ self.old.front }
-        ensures calls { self.new.calls ≡ self.old.calls }
-        ensures room { length self.new.entries.items ≡ length self.old.entries.items }
-    {
-        if !self.reader.takes(word) {
-            self.end(self.reader.whole(), index);
+            Step::Before(entry) => {
+                self.end(entry, index);
+                self.begin(word, index);
+            }
         }
     }
 
@@ -123,8 +129,9 @@ impl Splitter {
         ensures calls { self.new.calls ≡ self.old.calls }
         ensures room { length self.new.entries.items ≡ length self.old.entries.items }
     {
-        if self.reader.is_open() {
-            self.end(self.reader.whole(), count);
+        match self.reader.close() {
+            Some(entry) => self.end(entry, count),
+            None => {}
         }
     }
 
@@ -133,7 +140,7 @@ impl Splitter {
         ensures entries { self.new.entries.items ≡ slice_set self.old.entries.items self.old.done entry }
         ensures done { self.new.done ≡ count }
         ensures last { self.new.last ≡ self.old.done }
-        ensures reader { self.new.reader ≡ R.Start }
+        ensures reader { self.new.reader ≡ START }
         ensures front { self.new.front ≡ self.old.front }
         ensures calls { self.new.calls ≡ self.old.calls }
         ensures room { length self.new.entries.items ≡ length self.old.entries.items }
@@ -143,7 +150,7 @@ impl Splitter {
         }
         self.last = self.done;
         self.done = count;
-        self.reader = Reader::Start;
+        self.reader = Reader::new();
     }
 }
 

@@ -1,49 +1,66 @@
+use Rattle.std.proofs.Common.{◌<◌, ◌^◌, ℕ, [], ◌∷◌, ◌++◌, ap₂, subst, sym, ◌∙◌, arith}
+use Rattle.rv_code.specs.Decode.{decoded}
+use Rattle.cfi_reader.specs.Kept.{count_by, entry_by}
+use Rattle.cfi_reader.specs.Reading.{IsReading, Leads}
+use Rattle.cfi_reader.specs.declared.entry.Entry.{Entry}
+use Rattle.cfi_reader.specs.declared.reader.Reader.{Reader}
+use Rattle.cfi_reader.specs.declared.reader.Step.TheVariants.{Before, Done}
+use Rattle.cfi_reader.proofs.Followed.{goes_before, goes_done, goes_more, goes_stuck, goes_try, later}
 use Rattle.cfi_reader.proofs.reader.next.Goals as goal
 
--- src/reader.rt:47:1
-pub returns-in-Start : goal.returns-in-Start
-returns-in-Start c = rw c.in-Start.is c.first_word.ensures
+pub returns-in-More : goal.returns-in-More
+returns-in-More c held at reading e =
+    let small : c.args.word < 2 ^ 32 = omega (arith, c.ranges.word.fits) in
+    let asked : Reader = record { node = c.asked.node; numbers = c.args.reader.numbers; label = c.args.reader.label } in
+    subst (λ (n : ℕ). IsReading c.args.calls.now (record { node = c.in-More.node; numbers = n; label = c.label_after-label.result }) (held ++ c.args.word ∷ []) at)
+    (sym c.count_by-numbers.ensures)
+    (subst (λ (l : ℕ). IsReading c.args.calls.now (record {
+      node = c.in-More.node;
+      numbers = count_by c.args.calls.now c.row_at-row.result.pattern c.args.word c.args.reader.numbers;
+      label = l;
+    }) (held ++ c.args.word ∷ []) at)
+    (sym c.label_after-label.ensures)
+    (goes_more c.args.calls.now asked c.row_at-row.result c.args.word c.args.here c.len-few.ensures.most c.requires.place small c.row_at-row.ensures held at
+    (c.asked.invariant.tries held at reading e) e c.in-More.node (sym c.if-matches.ensures) c.in-More.is))
 
--- src/reader.rt:47:1
-pub returns-in-Branch : goal.returns-in-Branch
-returns-in-Branch c = rw c.in-Branch.is (c.jump_word.ensures c.args.calls.now)
+pub returns-in-Done : goal.returns-in-Done
+returns-in-Done c held at reading e =
+    let small : c.args.word < 2 ^ 32 = omega (arith, c.ranges.word.fits) in
+    let asked : Reader = record { node = c.asked.node; numbers = c.args.reader.numbers; label = c.args.reader.label } in
+    subst (λ (d : Entry). Leads c.args.calls.now held c.args.word at (Done d))
+    (sym (c.entry_by.ensures
+    ∙ ap₂ (λ (n l : ℕ). entry_by c.args.calls.now c.in-Done.end n l (decoded c.args.word)) c.count_by-numbers.ensures c.label_after-label.ensures))
+    (goes_done c.args.calls.now asked c.row_at-row.result c.args.word c.args.here c.len-few.ensures.most c.requires.place small c.row_at-row.ensures held at
+    (c.asked.invariant.tries held at reading e) e c.in-Done.end (sym c.if-matches.ensures) c.in-Done.is)
 
--- src/reader.rt:47:1
-pub returns-in-Address : goal.returns-in-Address
-returns-in-Address c = rw c.in-Address.is (c.address_word.ensures c.args.calls.now)
+pub asked-smaller : goal.asked-smaller
+asked-smaller c =
+    let l = later c.asked.node c.row_at-row.result c.in-Try.other c.row_at-row.ensures c.in-Try.is in
+    omega arith
 
--- src/reader.rt:47:1
-pub returns-in-Mask : goal.returns-in-Mask
-returns-in-Mask c = rw c.in-Mask.is (c.mask_word.ensures c.args.calls.now)
+pub asked-preserved : goal.asked-preserved
+asked-preserved c =
+    let small : c.args.word < 2 ^ 32 = omega (arith, c.ranges.word.fits) in
+    let asked : Reader = record { node = c.asked.node; numbers = c.args.reader.numbers; label = c.args.reader.label } in
+    let l = later c.asked.node c.row_at-row.result c.in-Try.other c.row_at-row.ensures c.in-Try.is in
+    record {
+      other = λ e. omega arith;
+      tries = λ held at reading e.
+          goes_try c.args.calls.now asked c.row_at-row.result c.args.word c.args.here c.len-few.ensures.most c.requires.place small c.row_at-row.ensures held at
+          (c.asked.invariant.tries held at reading e) e c.in-Try.other (sym c.if-matches.ensures) c.in-Try.is;
+    }
 
--- src/reader.rt:47:1
-pub returns-in-Stores : goal.returns-in-Stores
-returns-in-Stores c = rw c.in-Stores.is (c.stores_word.ensures c.args.calls.now)
+pub returns-in-Ended : goal.returns-in-Ended
+returns-in-Ended c held at reading e =
+    let small : c.args.word < 2 ^ 32 = omega (arith, c.ranges.word.fits) in
+    let asked : Reader = record { node = c.asked.node; numbers = c.args.reader.numbers; label = c.args.reader.label } in
+    subst (λ (d : Entry). Leads c.args.calls.now held c.args.word at (Before d)) (sym c.open_entry.ensures)
+    (goes_before c.args.calls.now asked c.row_at-row.result c.args.word c.args.here c.len-few.ensures.most c.requires.place small c.row_at-row.ensures held at
+    (c.asked.invariant.tries held at reading e) e c.in-Ended.end (sym c.if-matches.ensures) c.in-Ended.is)
 
--- src/reader.rt:47:1
-pub returns-in-Check : goal.returns-in-Check
-returns-in-Check c = rw c.in-Check.is (c.check_word.ensures c.args.calls.now)
-
--- src/reader.rt:47:1
-pub returns-in-Loaded : goal.returns-in-Loaded
-returns-in-Loaded c = rw c.in-Loaded.is (c.loaded_word.ensures c.args.calls.now)
-
--- src/reader.rt:47:1
-pub returns-in-Labelled : goal.returns-in-Labelled
-returns-in-Labelled c = rw c.in-Labelled.is (c.label_word.ensures c.args.calls.now)
-
--- src/reader.rt:47:1
-pub returns-in-Push : goal.returns-in-Push
-returns-in-Push c = rw c.in-Push.is (c.push_word.ensures c.args.calls.now)
-
-pub returns-in-Number : goal.returns-in-Number
-returns-in-Number c = rw c.in-Number.is (c.number_word.ensures c.args.calls.now)
-
-pub returns-in-Guard : goal.returns-in-Guard
-returns-in-Guard c = rw c.in-Guard.is c.guard_word.ensures
-
-pub returns-in-Call : goal.returns-in-Call
-returns-in-Call c = rw c.in-Call.is (c.call_word.ensures c.args.calls.now)
-
-pub returns-in-Return : goal.returns-in-Return
-returns-in-Return c = rw c.in-Return.is (c.return_word.ensures c.args.calls.now)
+pub returns-in-Stuck : goal.returns-in-Stuck
+returns-in-Stuck c held at reading e =
+    let small : c.args.word < 2 ^ 32 = omega (arith, c.ranges.word.fits) in
+    let asked : Reader = record { node = c.asked.node; numbers = c.args.reader.numbers; label = c.args.reader.label } in
+    goes_stuck c.args.calls.now asked c.row_at-row.result c.args.word c.args.here c.len-few.ensures.most c.requires.place small c.row_at-row.ensures held at
+    (c.asked.invariant.tries held at reading e) e (sym c.if-matches.ensures) c.in-Stuck.is

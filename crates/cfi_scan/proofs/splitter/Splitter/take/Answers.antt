@@ -1,23 +1,13 @@
-use Rattle.std.proofs.Common.{rules, ◌≡◌, ◌+◌, ◌<◌, ℕ, [], ◌∷◌, ◌++◌, length, ap, sym, ◌∙◌, arith}
+use Rattle.std.proofs.Common.{◌≡◌, true, sym, ◌∙◌, arith}
 use Rattle.rv_word.specs.MemoryMap.{profile_of}
-use Rattle.cfi_reader.specs.PlainWord.{IsPlainWord}
-use Rattle.cfi_reader.specs.declared.reader.Reader.TheVariants as R
-use Rattle.cfi_scan.proofs.Ended.{as_ended, splits_before, splits_plain}
+use Rattle.cfi_reader.specs.Reading.{is_stuck}
+use Rattle.cfi_scan.proofs.Ended.{splits_before, splits_stuck}
 use Rattle.cfi_scan.proofs.splitter.Splitter.take.Goals as goal
 
--- src/splitter.rt:42:5
-pub returns-then-is_plain_word-clause-splits : goal.returns-then-is_plain_word-clause-splits
-returns-then-is_plain_word-clause-splits c words len s =
-    let start : c.args.self.now.reader ≡ R.Start = search rules in
-    let plain : IsPlainWord c.args.word = search rules in
-    let room : length words < length c.args.self.now.entries.items = omega (arith, len, c.requires.room) in
-    as_ended c.args.self.now.calls (profile_of c.args.self.now.front).units_from [] (words ++ c.args.word ∷ []) c.end.ensures.entries (c.end.ensures.done ∙ ap (λ (n : ℕ). n + 1) (sym len))
-    c.end.ensures.last c.end.ensures.reader
-    (splits_plain c.args.self.now.calls (profile_of c.args.self.now.front).units_from c.args.word c.args.self.now.entries.items c.args.self.now.done c.args.self.now.last
-    c.args.self.now.reader words start (omega (arith, c.ranges.word.fits)) plain room s)
+pub returns-then-is_new-clause-splits : goal.returns-then-is_new-clause-splits
+returns-then-is_new-clause-splits c words len s =
+    c.begin.ensures.splits words len (splits_before c.args.self.now.calls (profile_of c.args.self.now.front).units_from c.args.word c.args.self.now.entries.items
+    c.args.self.now.done c.args.self.now.last c.args.self.now.reader words s)
 
--- src/splitter.rt:42:5
-pub returns-else-is_open-clause-splits : goal.returns-else-is_open-clause-splits
-returns-else-is_open-clause-splits c words len s =
-    c.read.ensures.splits words len (splits_before c.args.self.now.calls (profile_of c.args.self.now.front).units_from c.args.word c.args.self.now.entries.items c.args.self.now.done
-    c.args.self.now.last c.args.self.now.reader words s)
+pub returns-else-not-is_stuck-clause-splits : goal.returns-else-not-is_stuck-clause-splits
+returns-else-not-is_stuck-clause-splits c words len s = ?

@@ -1,0 +1,126 @@
+-- The nodes of the reader: what is left at each of the units that may begin with the words that are read.
+use Rattle.std.specs.Prelude.{ℕ, zero, suc, ◌-◌, ◌/◌, ◌%◌, ◌==◌, ◌&&◌, Bool, true, false, not, nat_lt, List, [], ◌∷◌, ◌++◌, map, drop, replicate, if◌then◌else◌}
+use Rattle.cfi_unit.specs.declared.pattern.Pattern.{Pattern}
+use Rattle.cfi_unit.specs.declared.pattern.Pattern.TheVariants as P
+use Rattle.cfi_unit.specs.declared.pattern.End.{End}
+use Rattle.cfi_unit.specs.declared.pattern.End.TheVariants as D
+use Rattle.cfi_unit.specs.declared.target_word.TargetWord.{TargetWord}
+use Rattle.cfi_unit.specs.declared.target_word.TargetWord.TheVariants.{First, Second}
+use Rattle.cfi_unit.specs.Shapes.{SHAPES, Shape, all_stores, call, each_guarded, guarded, icall, ijump, return, shape}
+use Rattle.cfi_reader.specs.Kept.{is_longer}
+use Rattle.cfi_reader.specs.Left.{after, is_alone, lets, same, tells, without}
+use Rattle.cfi_reader.specs.declared.node.Row.{Row}
+use Rattle.cfi_reader.specs.declared.node.Next.{Next}
+use Rattle.cfi_reader.specs.declared.node.Next.TheVariants as N
+use Rattle.cfi_reader.specs.declared.node.Else.{Else}
+use Rattle.cfi_reader.specs.declared.node.Else.TheVariants as L
+
+-- behind so many words
+abbrev pub behind : ℕ → Shape → Shape
+behind k s = shape s.end (drop k s.words)
+
+abbrev pub computed : List Shape
+computed = shape (D.Ijump First) (ijump First) ∷ shape (D.Ijump Second) (ijump Second) ∷ shape D.Icall icall ∷ []
+
+abbrev pub first_computed : List Shape
+first_computed = shape (D.Ijump First) (ijump First) ∷ shape D.Icall icall ∷ []
+
+-- at most so many stores more, each number of them
+abbrev pub fewer_stores : ℕ → List Shape
+fewer_stores zero = []
+fewer_stores (suc n) = shape D.Stores (replicate n P.Member) ∷ fewer_stores n
+
+abbrev pub more_stores : ℕ → List Shape
+more_stores n = shape D.Other (replicate n P.Member) ∷ fewer_stores n
+
+abbrev pub with_numbers : ℕ → List Shape
+with_numbers n = map (behind 1) computed ++ (map (behind 1) (each_guarded n) ++ map (behind 1) all_stores)
+
+-- what is left at a node
+abbrev pub rest_of : ℕ → List Shape
+rest_of node =
+    if nat_lt node 2 then (if node == 1 then SHAPES else [])
+    else if nat_lt node 3 then shape D.Over [] ∷ shape D.Branch (P.Jump ∷ []) ∷ []
+    else if nat_lt node 11 then with_numbers (11 - node)
+    else if nat_lt node 12 then with_numbers 0
+    else if nat_lt node 13 then map (behind 1) computed
+    else if nat_lt node 29 then shape D.Guarded (drop ((node - 13) % 2) (guarded (7 - (node - 13) / 2))) ∷ []
+    else if nat_lt node 31 then map (behind (node - 27)) all_stores
+    else if nat_lt node 46 then more_stores (46 - node)
+    else if nat_lt node 53 then shape D.Call (drop (node - 45) call) ∷ []
+    else if nat_lt node 59 then map (behind (node - 51)) computed
+    else if nat_lt node 60 then shape (D.Ijump Second) (drop 7 (ijump Second)) ∷ []
+    else if nat_lt node 65 then map (behind (node - 52)) first_computed
+    else if nat_lt node 66 then shape D.Icall (drop 12 icall) ∷ []
+    else if nat_lt node 71 then shape (D.Ijump Second) (drop (node - 58) (ijump Second)) ∷ []
+    else if nat_lt node 78 then shape D.Icall (drop (node - 58) icall) ∷ []
+    else if nat_lt node 82 then shape D.Other (drop (node - 77) return) ∷ []
+    else []
+
+-- the same shapes
+abbrev pub same_word : TargetWord → TargetWord → Bool
+same_word First First = true
+same_word Second Second = true
+same_word one other = false
+
+abbrev pub same_end : End → End → Bool
+same_end D.Near D.Near = true
+same_end D.Over D.Over = true
+same_end D.Stores D.Stores = true
+same_end D.Branch D.Branch = true
+same_end D.Jump D.Jump = true
+same_end D.Stop D.Stop = true
+same_end D.Call D.Call = true
+same_end (D.Ijump one) (D.Ijump other) = same_word one other
+same_end D.Icall D.Icall = true
+same_end D.Gate D.Gate = true
+same_end D.Ecall D.Ecall = true
+same_end D.Guarded D.Guarded = true
+same_end D.Other D.Other = true
+same_end _ _ = false
+
+abbrev pub same_words : List Pattern → List Pattern → Bool
+same_words [] [] = true
+same_words (p ∷ ps) (q ∷ qs) = same p q && same_words ps qs
+same_words one other = false
+
+abbrev pub same_shapes : List Shape → List Shape → Bool
+same_shapes [] [] = true
+same_shapes (r ∷ rs) (s ∷ ss) = same_end r.end s.end && (same_words r.words s.words && same_shapes rs ss)
+same_shapes one other = false
+
+-- where a word leads that is as a node's pattern says
+abbrev pub goes_to : Next → List Shape → Bool
+goes_to (N.More node) rests = not (node == 1) && same_shapes (rest_of node) rests
+goes_to (N.Done end) rests = is_longer end && same_shapes (shape end [] ∷ []) rests
+
+-- a node that has a pattern
+abbrev pub is_asked : ℕ → Bool
+is_asked node = nat_lt 1 node && nat_lt node 82
+
+-- and one that is not: another pattern is that of a later node
+abbrev pub else_to : ℕ → Else → List Shape → Bool
+else_to node (L.Try other) rests = (nat_lt node other && is_asked other) && same_shapes (rest_of other) rests
+else_to node (L.Ended end) rests = not (is_alone end) && same_shapes (shape end [] ∷ []) rests
+else_to node L.Stuck rests = same_shapes [] rests
+
+-- a pattern that stands behind the first of a unit
+abbrev pub is_later : Pattern → Bool
+is_later (P.Is code) = true
+is_later (P.Halt to) = true
+is_later P.Number = true
+is_later P.Jump = true
+is_later P.Link = true
+is_later P.Label = true
+is_later P.Member = true
+is_later other = false
+
+-- a row says what is left of these
+abbrev pub says_of : ℕ → List Shape → Row → Bool
+says_of node rests row =
+    (is_later row.pattern && (tells row.pattern rests && lets row.pattern rests))
+    && (goes_to row.yes (after row.pattern rests) && else_to node row.no (without row.pattern rests))
+
+-- a row says what its node's shapes do
+abbrev pub is_row_of : ℕ → Row → Bool
+is_row_of node row = says_of node (rest_of node) row

@@ -1,0 +1,188 @@
+//! The table of the reader: at each node the pattern that the next word is asked for, and where it leads. A node
+//! stands for the units that may begin with the words so far; 1 is that of all units, and 0 that of none.
+
+ghost use Rattle.std.specs.Prelude.{◌≡◌, ◌≢◌, true};
+ghost use Rattle.cfi_reader.specs.Nodes.{is_row_of};
+ghost use Rattle.cfi_reader.specs.declared.node.Else.TheVariants as L;
+ghost use Rattle.cfi_reader.specs.declared.node.Next.TheVariants as N;
+
+use Pattern::{Halt, Is, Jump, Label, Link, Member, Number};
+use cfi_unit::handlers::{BAD_RETURN, BAD_TARGET, DEEP};
+use cfi_unit::{End, Pattern, TargetWord};
+
+/// Where a word leads that is as a row says.
+#[derive(Clone, Copy)]
+pub(crate) enum Next {
+    /// To another node.
+    More(u8),
+    /// The unit has ended, whatever follows.
+    Done(End),
+}
+
+/// Where one leads that is not.
+#[derive(Clone, Copy)]
+pub(crate) enum Else {
+    /// The row of another node is asked.
+    Try(u8),
+    /// The unit ended before it.
+    Ended(End),
+    /// No unit goes on so.
+    Stuck,
+}
+
+/// A row of the table.
+#[derive(Clone, Copy)]
+pub(crate) struct Row {
+    /// What the next word is asked for.
+    pub(crate) pattern: Pattern,
+    /// Where it leads if it is so.
+    pub(crate) yes: Next,
+    /// And if it is not.
+    pub(crate) no: Else,
+}
+
+/// A word of a unit that has more.
+#[inline(always)]
+fn more(pattern: Pattern, node: u8) -> Row
+    ensures { result ≡ record { pattern = pattern; yes = N.More node; no = L.Stuck } }
+{
+    Row {
+        pattern,
+        yes: Next::More(node),
+        no: Else::Stuck,
+    }
+}
+
+/// The last word of a unit.
+#[inline(always)]
+fn done(pattern: Pattern, end: End) -> Row
+    ensures { result ≡ record { pattern = pattern; yes = N.Done end; no = L.Stuck } }
+{
+    Row {
+        pattern,
+        yes: Next::Done(end),
+        no: Else::Stuck,
+    }
+}
+
+impl Row {
+    /// Another node is asked for other words.
+    #[inline(always)]
+    fn or_try(self, node: u8) -> Row
+        ensures { result ≡ record { pattern = self.pattern; yes = self.yes; no = L.Try node } }
+    {
+        Row {
+            pattern: self.pattern,
+            yes: self.yes,
+            no: Else::Try(node),
+        }
+    }
+
+    /// Before other words a unit has ended.
+    #[inline(always)]
+    fn or_ended(self, end: End) -> Row
+        ensures { result ≡ record { pattern = self.pattern; yes = self.yes; no = L.Ended end } }
+    {
+        Row {
+            pattern: self.pattern,
+            yes: self.yes,
+            no: Else::Ended(end),
+        }
+    }
+}
+
+/// The row of a node.
+#[inline(always)]
+#[tactic(auto, unfolding(rv_code::specs::Encode::code_of))]
+pub(crate) fn row_at(node: u8) -> Row
+    requires { node ≢ 1 }
+    ensures { is_row_of node result ≡ true }
+{
+    match node {
+        2 => done(Jump, End::Branch).or_ended(End::Over),
+        3 => more(Is(0x051f_8063), 13).or_try(4),
+        4 => more(Is(0x031f_8c63), 15).or_try(5),
+        5 => more(Is(0x031f_8863), 17).or_try(6),
+        6 => more(Is(0x031f_8463), 19).or_try(7),
+        7 => more(Is(0x031f_8063), 21).or_try(8),
+        8 => more(Is(0x011f_8c63), 23).or_try(9),
+        9 => more(Is(0x011f_8863), 25).or_try(10),
+        10 => more(Is(0x011f_8463), 27).or_try(11),
+        11 => more(Is(0x024f_9f93), 29).or_try(12),
+        12 => more(Is(0xffcf_ff93), 53),
+        13 => more(Number, 14),
+        14 => more(Is(0x031f_8c63), 15),
+        15 => more(Number, 16),
+        16 => more(Is(0x031f_8863), 17),
+        17 => more(Number, 18),
+        18 => more(Is(0x031f_8463), 19),
+        19 => more(Number, 20),
+        20 => more(Is(0x031f_8063), 21),
+        21 => more(Number, 22),
+        22 => more(Is(0x011f_8c63), 23),
+        23 => more(Number, 24),
+        24 => more(Is(0x011f_8863), 25),
+        25 => more(Number, 26),
+        26 => more(Is(0x011f_8463), 27),
+        27 => more(Halt(BAD_TARGET), 28),
+        28 => done(Is(0x0000_0073), End::Guarded),
+        29 => more(Is(0x024f_df93), 30),
+        30 => more(Member, 31),
+        31 => more(Member, 32).or_ended(End::Stores),
+        32 => more(Member, 33).or_ended(End::Stores),
+        33 => more(Member, 34).or_ended(End::Stores),
+        34 => more(Member, 35).or_ended(End::Stores),
+        35 => more(Member, 36).or_ended(End::Stores),
+        36 => more(Member, 37).or_ended(End::Stores),
+        37 => more(Member, 38).or_ended(End::Stores),
+        38 => more(Member, 39).or_ended(End::Stores),
+        39 => more(Member, 40).or_ended(End::Stores),
+        40 => more(Member, 41).or_ended(End::Stores),
+        41 => more(Member, 42).or_ended(End::Stores),
+        42 => more(Member, 43).or_ended(End::Stores),
+        43 => more(Member, 44).or_ended(End::Stores),
+        44 => more(Member, 45).or_ended(End::Stores),
+        45 => done(Member, End::Other).or_ended(End::Stores),
+        46 => more(Is(0x000f_1463), 47),
+        47 => more(Halt(DEEP), 48),
+        48 => more(Is(0x0000_0f17), 49),
+        49 => more(Is(0x014f_0f13), 50),
+        50 => more(Is(0x01e1_b023), 51),
+        51 => more(Is(0x0081_8193), 52),
+        52 => done(Link, End::Call),
+        53 => more(Is(0x4000_0f37), 54),
+        54 => more(Is(0x41ef_8f33), 55),
+        55 => more(Is(0x014f_5f13), 56),
+        56 => more(Is(0x000f_0463), 57),
+        57 => more(Halt(BAD_TARGET), 58),
+        58 => more(Is(0x000f_af03), 60).or_try(59),
+        59 => more(Is(0x004f_af03), 66),
+        60 => more(Label, 61),
+        61 => more(Is(0x0372_0213), 62),
+        62 => more(Is(0x004f_0463), 63),
+        63 => more(Halt(BAD_TARGET), 64),
+        64 => done(Is(0x000f_8067), End::Ijump(TargetWord::First)).or_try(65),
+        65 => more(Is(0x0301_9f13), 71),
+        66 => more(Label, 67),
+        67 => more(Is(0x0372_0213), 68),
+        68 => more(Is(0x004f_0463), 69),
+        69 => more(Halt(BAD_TARGET), 70),
+        70 => done(Is(0x000f_8067), End::Ijump(TargetWord::Second)),
+        71 => more(Is(0x000f_1463), 72),
+        72 => more(Halt(DEEP), 73),
+        73 => more(Is(0x0000_0f17), 74),
+        74 => more(Is(0x014f_0f13), 75),
+        75 => more(Is(0x01e1_b023), 76),
+        76 => more(Is(0x0081_8193), 77),
+        77 => done(Is(0x000f_80e7), End::Icall),
+        78 => more(Is(0xff81_8193), 79),
+        79 => more(Is(0x001f_8463), 80),
+        80 => more(Halt(BAD_RETURN), 81),
+        81 => done(Is(0x000f_8067), End::Other),
+        _ => Row {
+            pattern: Is(0),
+            yes: Next::More(0),
+            no: Else::Stuck,
+        },
+    }
+}
