@@ -92,7 +92,11 @@ pub fn next(calls: &Numbers, reader: Reader, word: u32, here: u64) -> Step
             let numbers = count_by(calls, row.pattern, word, reader.numbers);
             let label = label_after(row.pattern, word, reader.label);
             return match row.yes {
-                Next::More(node) => Step::More(Reader { node, numbers, label }),
+                Next::More(node) => Step::More(Reader {
+                    node,
+                    numbers,
+                    label,
+                }),
                 Next::Done(end) => Step::Done(entry_by(calls, end, numbers, label, word)),
             };
         }
