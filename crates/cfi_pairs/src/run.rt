@@ -1,10 +1,11 @@
-ghost use Rattle.std.specs.Prelude.{◌≡◌, ◌==◌, ◌&&◌, Ok, IfOk, IfErr, nat_lt, option_map, ◌∷◌, []};
+ghost use Rattle.std.specs.Prelude.{◌≡◌, ◌==◌, ◌&&◌, Ok, IfOk, IfErr, IsOk, nat_lt, option_map, ◌∷◌, []};
 ghost use Rattle.rv_word.specs.Image.{image_profile};
 ghost use Rattle.rv_word.specs.MemoryMap.{MayRun};
+ghost use Rattle.tool_io.specs.Names.{AreRead};
 ghost use Rattle.tool_io.specs.Reading.{CountsReads, IsOnlyRead};
 ghost use Rattle.text_lines.specs.Answers.{Answers};
 ghost use Rattle.cfi_pairs.specs.Opening.{IsOpenEnd, script_given};
-ghost use Rattle.tool_common.specs.Reads.{IsFault, IsStop, IsTooLong};
+ghost use Rattle.tool_common.specs.Reads.{IsFault, IsStop, IsTooLong, file_names};
 ghost use Rattle.tool_common.specs.Spelled.{Spell};
 ghost use Rattle.cfi_pairs.specs.Run.{ExplainsRun, IsRunOf, IsRunOfPair, run_asked, run_names, run_status, run_text, run_words};
 
@@ -179,6 +180,7 @@ pub fn run_files<'a, F: Files>(
         (IsStop (F.content files.old) (F.failed_name files.new) (run_names (run_asked request.now))) }
     ensures only_read { IsOnlyRead F.Files files.old files.new }
     ensures counted { CountsReads F.Files files.old files.new (IsFault result) (IsTooLong result) }
+    ensures in_order { AreRead (F.reads files.old) (F.reads files.new) (file_names (run_names (run_asked request.now))) (IsOk result) }
 {
     let names = [
         Some(request.image),

@@ -1,6 +1,7 @@
-ghost use Rattle.std.specs.Prelude.{◌≡◌, IfOk, IfErr, ◌∷◌, []};
+ghost use Rattle.std.specs.Prelude.{◌≡◌, IfOk, IfErr, IsOk, ◌∷◌, []};
+ghost use Rattle.tool_io.specs.Names.{AreRead};
 ghost use Rattle.tool_io.specs.Reading.{CountsReads, IsOnlyRead};
-ghost use Rattle.tool_common.specs.Reads.{IsFault, IsStop, IsTooLong};
+ghost use Rattle.tool_common.specs.Reads.{IsFault, IsStop, IsTooLong, file_names};
 ghost use Rattle.cfi_pairs.specs.Verify.{ExplainsVerdict, IsJudgement, IsVerdictOf, verdict_status, verify_asked, verify_names, verify_words};
 
 use crate::opening::{OpenEnd, Pair, open_pair};
@@ -104,6 +105,7 @@ pub fn verify_files<'a, F: Files>(
         (IsStop (F.content files.old) (F.failed_name files.new) (verify_names (verify_asked request.now))) }
     ensures only_read { IsOnlyRead F.Files files.old files.new }
     ensures counted { CountsReads F.Files files.old files.new (IsFault result) (IsTooLong result) }
+    ensures in_order { AreRead (F.reads files.old) (F.reads files.new) (file_names (verify_names (verify_asked request.now))) (IsOk result) }
 {
     let names = [Some(request.image), Some(request.graph)];
     let mut bytes = read_all(alloc, &names, files)?;

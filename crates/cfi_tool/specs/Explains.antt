@@ -1,5 +1,5 @@
 -- What each outcome says of the words and of the files.
-use Rattle.std.specs.Prelude.{◌≡◌, ℕ, List, take, ⊤, Option, Result, Ok}
+use Rattle.std.specs.Prelude.{◌≡◌, ℕ, List, take, ⊤, Option, Result, Ok, Err}
 use Rattle.std.specs.Io.KnownBytes.{Appends}
 use Rattle.rv_word.specs.declared.no_memory.NoMemory.{NoMemory}
 use Rattle.tool_commands.specs.Compare.{ExplainsCompare}
@@ -41,6 +41,12 @@ IsReadFault other = ⊥
 abbrev pub IsTooLongFile : Result Outcome NoMemory → Type 0
 IsTooLongFile (Ok (Unread (TooLong name))) = ⊤
 IsTooLongFile other = ⊥
+
+-- no file of the command was left unread
+abbrev pub IsRead : Result Outcome NoMemory → Type 0
+IsRead (Ok (Unread unread)) = ⊥
+IsRead (Ok outcome) = ⊤
+IsRead (Err error) = ⊥
 
 -- some first part of a text was written, where that is told
 abbrev pub IsPart : Option (List ℕ) → Option (List ℕ) → List ℕ → Type 0

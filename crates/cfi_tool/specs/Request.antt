@@ -11,6 +11,7 @@ use Rattle.tool_words.specs.declared.end.WordsEnd.TheVariants as ends
 use Rattle.tool_commands.specs.Compare.{CompareWords, compare_asked, compare_link_words, compare_names, compare_words}
 use Rattle.tool_commands.specs.Demo.{demo_asked, demo_words}
 use Rattle.tool_commands.specs.Rewrite.{AreNamedApart, RewriteWords, harden_words, link_words, rewrite_asked, rewrite_names, rewrite_words}
+use Rattle.tool_common.specs.Reads.{file_names}
 use Rattle.cfi_pairs.specs.Run.{RunWords, run_asked, run_names, run_words}
 use Rattle.cfi_pairs.specs.Verify.{VerifyWords, verify_asked, verify_names, verify_words}
 use Rattle.cfi_tool.specs.declared.request.Request as R
@@ -84,6 +85,11 @@ names_of (verify words) = verify_names words
 names_of (run words) = run_names words
 names_of (compare words) = compare_names words
 names_of (demo number) = []
+
+-- their names: none for help, for the version and for words that are not taken
+abbrev pub read_names : Taken → List (List ℕ)
+read_names (asks request) = file_names (names_of request)
+read_names other = []
 
 -- no two of the files that a request writes have one name, and a comparison is of no more steps than a word asks for
 abbrev pub IsRight : Request → Type 0

@@ -3,6 +3,7 @@
 ghost use Rattle.std.specs.Prelude.{◌≡◌, ◌≢◌, ◌⊎◌, ◌<◌, ◌≤◌, ℕ, List, [], Err, None, IfOk, OnOk};
 ghost use Rattle.std.specs.Io.KnownBytes.{Appends, Keeps};
 ghost use Rattle.tool_io.specs.Faults.{Counts, Rose};
+ghost use Rattle.tool_io.specs.Names.{AreRead};
 ghost use Rattle.tool_io.specs.Reading.{CountsReads, IsOnlyRead};
 ghost use Rattle.tool_commands.specs.Compare.{CompareWords, IsTold};
 ghost use Rattle.tool_commands.specs.Demo.{IsDemonstrated};
@@ -10,11 +11,11 @@ ghost use Rattle.tool_commands.specs.Rewrite.{IsRewritten, RewriteWords};
 ghost use Rattle.cfi_pairs.specs.Run.{IsRan, RunWords};
 ghost use Rattle.cfi_pairs.specs.Verify.{IsAccepted, VerifyWords};
 ghost use Rattle.cfi_tool.specs.Complete.{IsComplete};
-ghost use Rattle.cfi_tool.specs.Explains.{Explains, IsPart, IsReadFault, IsTooLongFile};
+ghost use Rattle.cfi_tool.specs.Explains.{Explains, IsPart, IsRead, IsReadFault, IsTooLongFile};
 ghost use Rattle.cfi_tool.specs.Finishing.{IsShort, IsStopped};
 ghost use Rattle.tool_words.specs.Reading.{spelled};
 ghost use Rattle.cfi_tool.specs.Outcomes.{outcome_outputs, outcome_status, outcome_text};
-ghost use Rattle.cfi_tool.specs.Request.{Request, TakenMarked, TakenPlainly, Verifies, WritesNone, asks, compare, demo, rewrite, run, taken, untaken, verify};
+ghost use Rattle.cfi_tool.specs.Request.{Request, TakenMarked, TakenPlainly, Verifies, WritesNone, asks, compare, demo, read_names, rewrite, run, taken, untaken, verify};
 ghost use Rattle.tool_common.specs.Writes.{AreApart, KeepsReads, Wrote};
 ghost use Rattle.cfi_tool.specs.declared.outcome.Outcome.{Outcome};
 
@@ -37,6 +38,7 @@ fn command<'a, F: Files>(
         (Explains (F.content files.old) (F.failed_name files.new) (spelled words.now)) }
     ensures only_read { IsOnlyRead F.Files files.old files.new }
     ensures counted { CountsReads F.Files files.old files.new (IsReadFault result) (IsTooLongFile result) }
+    ensures in_order { AreRead (F.reads files.old) (F.reads files.new) (read_names (taken (spelled words.now))) (IsRead result) }
     ensures apart { IfOk result (λ outcome. AreApart (outcome_outputs outcome)) }
     ensures plain { TakenPlainly (spelled words.now) }
     ensures marked { TakenMarked (spelled words.now) }
@@ -131,6 +133,11 @@ pub fn rvcfi<F: Files, K: Sink>(alloc: Global, words: &[String], files: &mut F, 
         × Explains (F.content files.old) (F.failed_name files.new) (spelled words.now) outcome
         × Wrote F.Files files.old files.new (outcome_outputs outcome) None
         × Appends (K.written out.old) (K.written out.new) (outcome_text outcome) }
+
+    // The files that the words name are read in their order, each once, and no other: some first ones where the status is one of 3 to 6, else all.
+    // So `demo`, help and the version read none.
+    ensures in_order { AreRead (F.reads files.old) (F.reads files.new) (read_names (taken (spelled words.now)))
+        ((result < 3) ⊎ (6 < result)) }
 
     // 0 of `rewrite`, of `harden` and of `link`: the files hold the program of the objects, hardened in the form, and the text tells its
     // sizes.

@@ -1,7 +1,8 @@
-ghost use Rattle.std.specs.Prelude.{◌≡◌, IfOk, IfErr, IfSome, MatchResult, option_map};
+ghost use Rattle.std.specs.Prelude.{◌≡◌, IfOk, IfErr, IfSome, IsOk, MatchResult, option_map};
+ghost use Rattle.tool_io.specs.Names.{AreRead};
 ghost use Rattle.tool_io.specs.Reading.{CountsReads, IsOnlyRead};
 ghost use Rattle.cfi_tool.specs.Explains.{ExplainsRequest};
-ghost use Rattle.tool_common.specs.Reads.{IsFault, IsStop, IsTooLong};
+ghost use Rattle.tool_common.specs.Reads.{IsFault, IsStop, IsTooLong, file_names};
 ghost use Rattle.cfi_tool.specs.Request.{IsKept, IsRight, IsWordsEnd, TakenMarked, TakenPlainly, asked, names_of, request_of, taken};
 ghost use Rattle.tool_words.specs.Reading.{request_of as words_of, spelled};
 
@@ -71,6 +72,7 @@ impl<'a> Request<'a> {
             (IsStop (F.content files.old) (F.failed_name files.new) (names_of (asked self.now))) }
         ensures only_read { IsOnlyRead F.Files files.old files.new }
         ensures counted { CountsReads F.Files files.old files.new (IsFault result) (IsTooLong result) }
+        ensures in_order { AreRead (F.reads files.old) (F.reads files.new) (file_names (names_of (asked self.now))) (IsOk result) }
     {
         Ok(match self {
             Request::Rewrite(request) => Outcome::Rewrite(rewrite_files(alloc, request, files)?),

@@ -1,9 +1,10 @@
-ghost use Rattle.std.specs.Prelude.{◌≡◌, ◌≤◌, ℕ, List, Ok, Some, Err, IfOk, IfErr, IfSome, option_copied, option_map, map, ◌∷◌, []};
+ghost use Rattle.std.specs.Prelude.{◌≡◌, ◌≤◌, ℕ, List, Ok, Some, Err, IfOk, IfErr, IfSome, IsOk, option_copied, option_map, map, ◌∷◌, []};
 ghost use Rattle.tool_common.specs.Lines.{with_newline};
 ghost use Rattle.text_lines.specs.Decimal.{MAX_STEP};
 ghost use Rattle.text_lines.specs.declared.end.TextEnd.TheVariants as TextEnd;
+ghost use Rattle.tool_io.specs.Names.{AreRead};
 ghost use Rattle.tool_io.specs.Reading.{CountsReads, IsOnlyRead};
-ghost use Rattle.tool_common.specs.Reads.{IsFault, IsStop, IsTooLong};
+ghost use Rattle.tool_common.specs.Reads.{IsFault, IsStop, IsTooLong, file_names};
 ghost use Rattle.cfi_map_text.specs.MapText.{map_of};
 ghost use Rattle.rv_word.specs.Form.{graph_version};
 ghost use Rattle.cfi_flow.specs.Entry.{entry_place};
@@ -302,6 +303,7 @@ pub fn compare_files<'a, F: Files>(
         (IsStop (F.content files.old) (F.failed_name files.new) (compare_names (compare_asked request.now))) }
     ensures only_read { IsOnlyRead F.Files files.old files.new }
     ensures counted { CountsReads F.Files files.old files.new (IsFault result) (IsTooLong result) }
+    ensures in_order { AreRead (F.reads files.old) (F.reads files.new) (file_names (compare_names (compare_asked request.now))) (IsOk result) }
 {
     let others = [
         request.policy,

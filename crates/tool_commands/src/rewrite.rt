@@ -1,11 +1,12 @@
-ghost use Rattle.std.specs.Prelude.{◌≡◌, ◌≤◌, ◌^◌, [], None, Ok, Err, IfOk, IfErr, IfSome, OnOk, option_copied, option_map, map, ◌∷◌};
+ghost use Rattle.std.specs.Prelude.{◌≡◌, ◌≤◌, ◌^◌, [], None, Ok, Err, IfOk, IfErr, IfSome, IsOk, OnOk, option_copied, option_map, map, ◌∷◌};
 ghost use Rattle.tool_io.specs.Faults.{Counts};
+ghost use Rattle.tool_io.specs.Names.{AreRead};
 ghost use Rattle.tool_io.specs.Reading.{CountsReads, IsOnlyRead};
 ghost use Rattle.tool_io.specs.declared.ends.OutEnd.TheVariants as OutEnd;
 ghost use Rattle.elf_image.specs.Header.{data_start};
 ghost use Rattle.cfi_harden.specs.Given.{Given};
 ghost use Rattle.tool_common.specs.Lines.{with_newline};
-ghost use Rattle.tool_common.specs.Reads.{IsFault, IsStop, IsTooLong};
+ghost use Rattle.tool_common.specs.Reads.{IsFault, IsStop, IsTooLong, file_names};
 ghost use Rattle.tool_common.specs.Words.{text_named};
 ghost use Rattle.tool_common.specs.Writes.{AreApart, IsCut, IsTorn, KeepsReads, Wrote};
 ghost use Rattle.tool_commands.specs.Objects.{Gives, given_by, objects_asked};
@@ -360,6 +361,7 @@ pub fn rewrite_files<'a, F: Files>(
         (IsStop (F.content files.old) (F.failed_name files.new) (rewrite_names (rewrite_asked request.now))) }
     ensures only_read { IsOnlyRead F.Files files.old files.new }
     ensures counted { CountsReads F.Files files.old files.new (IsFault result) (IsTooLong result) }
+    ensures in_order { AreRead (F.reads files.old) (F.reads files.new) (file_names (rewrite_names (rewrite_asked request.now))) (IsOk result) }
 {
     let names = request.objects.names_with(alloc, &[request.policy])?;
     let bytes = read_all(alloc, &names, files)?;

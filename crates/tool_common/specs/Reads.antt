@@ -1,5 +1,6 @@
 -- Reading the files that the words name, one after the other.
 use Rattle.std.specs.Prelude.{◌≡◌, ◌⊎◌, ◌≤◌, ◌<◌, ◌++◌, ◌^◌, ℕ, List, [], ◌∷◌, codes, length, ⊤, Option, Some, None, IfSome, Result, Ok, Err}
+use Rattle.std.specs.List.{filter_map}
 use Rattle.tool_common.specs.declared.read.Stop.{Stop}
 use Rattle.tool_common.specs.declared.read.Stop.TheVariants as stop
 use Rattle.tool_common.specs.declared.read.Unread.{Unread as UnreadFile}
@@ -12,6 +13,10 @@ file_limit = 2 ^ 26
 -- what each name holds, where that is told
 abbrev pub Content : Type 0
 Content = List ℕ → Option (List ℕ)
+
+-- the names of files, without the words that name none
+abbrev pub file_names : List (Option (List ℕ)) → List (List ℕ)
+file_names = filter_map (λ name. name)
 
 -- a read gave these bytes: those that the file holds, where that is told
 pub record Gave (held : Option (List ℕ)) (bytes : List ℕ) : Type 0 where

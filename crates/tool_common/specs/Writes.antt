@@ -53,8 +53,9 @@ pub record IsCut {S : Type 0} (files : Ghosts S) (before now : S) (outputs : Lis
   pub split : outputs ≡ done ++ left
   pub wrote : Wrote files before now done None
 
--- reads count as before
+-- reads count as before, and none was made
 pub record KeepsReads {S : Type 0} (files : Ghosts S) (before now : S) : Type 0 where
   pub read_faults : files.read_faults now ≡ files.read_faults before
   pub long_reads : files.long_reads now ≡ files.long_reads before
   pub failed_name : files.failed_name now ≡ files.failed_name before
+  pub reads : files.reads now ≡ files.reads before

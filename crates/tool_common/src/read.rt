@@ -1,8 +1,9 @@
 //! Files that are read by name, or why one is not.
 
-ghost use Rattle.std.specs.Prelude.{◌≡◌, ◌∷◌, [], IfOk, IfErr, length, map, option_map, vec_len};
+ghost use Rattle.std.specs.Prelude.{◌≡◌, ◌∷◌, [], IfOk, IfErr, IsOk, length, map, option_map, vec_len};
+ghost use Rattle.tool_io.specs.Names.{AreRead};
 ghost use Rattle.tool_io.specs.Reading.{CountsReads, IsOnlyRead};
-ghost use Rattle.tool_common.specs.Reads.{GaveAll, GaveNamed, IsFault, IsStop, IsTooLong, unread_status};
+ghost use Rattle.tool_common.specs.Reads.{GaveAll, GaveNamed, IsFault, IsStop, IsTooLong, file_names, unread_status};
 
 use crate::status;
 use rv_word::NoMemory;
@@ -88,6 +89,7 @@ fn read_named<'a, F: Files>(
     ensures stopped { IfErr result (IsStop (F.content files.old) (F.failed_name files.new) (option_map (λ n. n.now) name.entry ∷ [])) }
     ensures only_read { IsOnlyRead F.Files files.old files.new }
     ensures counted { CountsReads F.Files files.old files.new (IsFault result) (IsTooLong result) }
+    ensures in_order { AreRead (F.reads files.old) (F.reads files.new) (file_names (option_map (λ n. n.now) name.entry ∷ [])) (IsOk result) }
 {
     let Some(name) = name else {
         return Ok(Vec::new(alloc));
@@ -113,6 +115,7 @@ pub fn read_all<'a, F: Files>(
         (map (option_map (λ n. n.now)) names.now)) }
     ensures only_read { IsOnlyRead F.Files files.old files.new }
     ensures counted { CountsReads F.Files files.old files.new (IsFault result) (IsTooLong result) }
+    ensures in_order { AreRead (F.reads files.old) (F.reads files.new) (file_names (map (option_map (λ n. n.now)) names.now)) (IsOk result) }
 {
     let mut all = Vec::new(alloc);
     for name in names {

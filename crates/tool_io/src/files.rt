@@ -1,7 +1,8 @@
-ghost use Rattle.std.specs.Prelude.{◌≡◌, ◌≢◌, ◌↔◌, ◌<◌, ◌≤◌, ℕ, List, length, IfOk, IfSome, OnOk};
+ghost use Rattle.std.specs.Prelude.{◌≡◌, ◌≢◌, ◌↔◌, ◌<◌, ◌≤◌, ℕ, List, [], ◌∷◌, length, Err, IfOk, IfSome, OnOk};
 ghost use Rattle.std.specs.declared.option.Option.{Option};
 ghost use Rattle.tool_io.specs.Faults.{Counts};
 ghost use Rattle.tool_io.specs.Contents.{Becomes};
+ghost use Rattle.tool_io.specs.Names.{AreRead};
 
 use crate::{OutEnd, ReadEnd};
 use std::alloc::Global;
@@ -27,6 +28,9 @@ pub trait Files {
     /// The name of the last read that failed.
     ghost failed_name: { Self → List ℕ };
 
+    /// The names of all reads so far, in their order, where they are told. A read is told when it begins, also one that fails.
+    ghost reads: { Self → Option (List (List ℕ)) };
+
     /// All the bytes of a file of at most `limit` bytes. It changes no file, and neither makes nor
     /// removes one.
     fn read(&mut self, alloc: Global, name: &str, limit: u64) -> Result<Vec<u8>, ReadEnd>
@@ -40,7 +44,8 @@ pub trait Files {
         ensures long_reads { Counts (result ≡ Err ReadEnd.TooLong) (long_reads self.old) (long_reads self.new) }
         ensures write_faults { write_faults self.new ≡ write_faults self.old }
         ensures named { result ≡ Err ReadEnd.Failed → failed_name self.new ≡ name.now }
-        ensures name_kept { ¬ (result ≡ Err ReadEnd.Failed) → failed_name self.new ≡ failed_name self.old };
+        ensures name_kept { ¬ (result ≡ Err ReadEnd.Failed) → failed_name self.new ≡ failed_name self.old }
+        ensures listed { AreRead (reads self.old) (reads self.new) (name.now ∷ []) (¬ (result ≡ Err ReadEnd.NoMemory)) };
 
     /// Makes these the bytes of a file, which is there from then on. After `Failed` nothing is said of
     /// that file, and every other one is as before.
@@ -54,5 +59,6 @@ pub trait Files {
         ensures write_faults { Counts (result ≡ Err OutEnd.Failed) (write_faults self.old) (write_faults self.new) }
         ensures read_faults { read_faults self.new ≡ read_faults self.old }
         ensures long_reads { long_reads self.new ≡ long_reads self.old }
-        ensures name_kept { failed_name self.new ≡ failed_name self.old };
+        ensures name_kept { failed_name self.new ≡ failed_name self.old }
+        ensures reads_kept { reads self.new ≡ reads self.old };
 }

@@ -6,7 +6,7 @@ use crate::{Counted, Files, OutEnd, ReadEnd};
 use std::alloc::Global;
 use std::{fs, rt};
 
-/// The files of the host, by paths. What they hold is not told.
+/// The files of the host, by paths. What they hold is not told, nor which were read.
 #[derive(Drop)]
 pub struct HostFiles<'a, R: rt::Files> {
     rt: &'a R,
@@ -41,6 +41,8 @@ impl<'a, R: rt::Files> Files for HostFiles<'a, R> {
     ghost long_reads = { λ s. s.faults.long_reads };
 
     ghost failed_name = { λ s. string_bytes s.faults.name };
+
+    ghost reads = { λ s. None };
 
     fn read(&mut self, alloc: Global, name: &str, limit: u64) -> Result<Vec<u8>, ReadEnd> {
         let named = String::from_str(alloc, name)?;

@@ -1,4 +1,4 @@
-ghost use Rattle.std.specs.Prelude.{◌≡◌, ◌≢◌, ℕ, List, Some, None, OnOk, OnErr};
+ghost use Rattle.std.specs.Prelude.{◌≡◌, ◌≢◌, ◌∷◌, [], ℕ, List, Some, None, IsOk, OnOk, OnErr};
 ghost use Rattle.std.specs.Option.{option_map};
 
 use crate::calls::Calls;
@@ -16,10 +16,12 @@ pub struct MemFiles {
     entries: BTreeMap<String, Vec<u8>>,
     calls: Calls,
     faults: Faults,
+    reads: Vec<String>,
 }
 
 impl MemFiles {
     ghost use Rattle.tool_io.specs.Memory.{file_at, faults_of};
+    ghost use Rattle.tool_io.specs.Names.{AreRead};
 
     /// No files. The calls of `read` and `write` with these numbers fail, the first having number 0.
     pub fn new(alloc: Global, failing: Vec<u64>) -> Self
@@ -27,12 +29,14 @@ impl MemFiles {
         ensures reads { ⟦<MemFiles as Files>⟧.read_faults result ≡ 0 }
         ensures writes { ⟦<MemFiles as Files>⟧.write_faults result ≡ 0 }
         ensures long_reads { ⟦<MemFiles as Files>⟧.long_reads result ≡ 0 }
+        ensures none_read { ⟦<MemFiles as Files>⟧.reads result ≡ Some [] }
     {
         MemFiles {
             alloc,
             entries: BTreeMap::new(alloc),
             calls: Calls::new(failing),
             faults: Faults::none(alloc),
+            reads: Vec::new(alloc),
         }
     }
 
@@ -42,8 +46,19 @@ impl MemFiles {
         ensures others { (other : List ℕ) → other ≢ name.now → file_at self.new other ≡ file_at self.old other }
         ensures unchanged { OnErr result (file_at self.new name.now ≡ file_at self.old name.now) }
         ensures faults { faults_of self.new ≡ faults_of self.old }
+        ensures none_read { ⟦<MemFiles as Files>⟧.reads self.new ≡ ⟦<MemFiles as Files>⟧.reads self.old }
     {
         put_entry(self.alloc, &mut self.entries, name, bytes)
+    }
+
+    /// Notes that the file of a name is read.
+    fn note(&mut self, name: &str) -> Result<(), AllocError>
+        ensures listed { AreRead (⟦<MemFiles as Files>⟧.reads self.old) (⟦<MemFiles as Files>⟧.reads self.new) (name.now ∷ []) (IsOk result) }
+        ensures rest { self.new ≡ record self.old { reads = self.new.reads } }
+    {
+        let name = String::from_str(self.alloc, name)?;
+        self.reads.push(name)?;
+        Ok(())
     }
 
     /// The bytes of a file, if it is there.
@@ -55,7 +70,7 @@ impl MemFiles {
 }
 
 impl Files for MemFiles {
-    ghost use Rattle.std.specs.Prelude.{◌≡◌, None, Some, string_bytes};
+    ghost use Rattle.std.specs.Prelude.{◌≡◌, None, Some, map, string_bytes};
     ghost use Rattle.tool_io.specs.Entries.{bytes_at, entry_at};
 
     ghost content = { λ s name. Some (bytes_at s.entries name) };
@@ -70,8 +85,11 @@ impl Files for MemFiles {
 
     ghost failed_name = { λ s. string_bytes s.faults.name };
 
+    ghost reads = { λ s. Some (map (λ name. string_bytes name) s.reads.items) };
+
     fn read(&mut self, alloc: Global, name: &str, limit: u64) -> Result<Vec<u8>, ReadEnd> {
         let named = String::from_str(alloc, name)?;
+        self.note(name)?;
         let end = if self.calls.next_fails() {
             Err(ReadEnd::Failed)
         } else {

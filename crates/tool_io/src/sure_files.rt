@@ -6,7 +6,7 @@ use crate::{Files, OutEnd, ReadEnd};
 use std::alloc::{AllocError, Global};
 use std::collections::BTreeMap;
 
-/// Files in memory, no read and no write of which fails. A name that is not there reads as empty.
+/// Files in memory, no read and no write of which fails. A name that is not there reads as empty. Which were read is not told.
 #[derive(Drop)]
 pub struct SureFiles {
     alloc: Global,
@@ -77,7 +77,7 @@ impl SureFiles {
 }
 
 impl Files for SureFiles {
-    ghost use Rattle.std.specs.Prelude.{[], Some};
+    ghost use Rattle.std.specs.Prelude.{[], None, Some};
     ghost use Rattle.tool_io.specs.Entries.{bytes_at};
 
     ghost content = { λ s name. Some (bytes_at s.entries name) };
@@ -91,6 +91,8 @@ impl Files for SureFiles {
     ghost long_reads = { λ s. s.long_reads };
 
     ghost failed_name = { λ s. [] };
+
+    ghost reads = { λ s. None };
 
     fn read(&mut self, alloc: Global, name: &str, limit: u64) -> Result<Vec<u8>, ReadEnd> {
         let end = held_within(alloc, &self.entries, name, limit);

@@ -1,7 +1,8 @@
-use Rattle.std.proofs.Common.{arith}
+use Rattle.std.proofs.Common.{arith, refl}
 use Rattle.tool_common.specs.Reads.{Content}
 use Rattle.cfi_pairs.specs.Run.{run_asked, run_names}
 use Rattle.tool_common.proofs.Gave.{gave_at}
+use Rattle.tool_common.proofs.InOrder.{read_less}
 use Rattle.cfi_pairs.proofs.run.run_files.Goals as goal
 
 pub returns-clause-explained : goal.returns-clause-explained
@@ -20,3 +21,6 @@ returns-clause-explained g c =
       input_gave = gave 3 c.index-4.result.now c.deref-4.result.now (omega arith) c.index-4.ensures c.deref-4.ensures.value;
       run_is = rw c.text_named-script.ensures at c.in_ok-run_bytes.ensures;
     }
+
+pub returns-in_err-run_bytes-clause-in_order : goal.returns-in_err-run_bytes-clause-in_order
+returns-in_err-run_bytes-clause-in_order g c = read_less _ _ _ _ _ c.in_ok-bytes.ensures.in_order (λ _. refl)

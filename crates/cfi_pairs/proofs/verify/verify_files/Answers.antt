@@ -3,6 +3,7 @@ use Rattle.std.proofs.lemmas.Grind.{common_steps}
 use Rattle.tool_common.specs.Reads.{Content}
 use Rattle.cfi_pairs.specs.Verify.{verify_asked, verify_names}
 use Rattle.tool_common.proofs.Gave.{gave_at}
+use Rattle.tool_common.proofs.InOrder.{read_less}
 use Rattle.cfi_pairs.proofs.verify.verify_files.Goals as goal
 
 pub returns-clause-explained : goal.returns-clause-explained
@@ -18,3 +19,6 @@ returns-clause-explained g c =
       graph_gave = gave 1 c.remove-graph.result c.remove-graph.result.items (omega arith) c.remove-graph.ensures.value refl;
       verdict_is = c.in_ok-verdict_of.ensures;
     }
+
+pub returns-in_err-verdict_of-clause-in_order : goal.returns-in_err-verdict_of-clause-in_order
+returns-in_err-verdict_of-clause-in_order g c = read_less _ _ _ _ _ c.in_ok-bytes.ensures.in_order (λ _. refl)

@@ -1,12 +1,13 @@
-use Rattle.std.proofs.Common.{◌≡◌, ◌⊎◌, ℕ, inl, inr, rules, subst, sym}
+use Rattle.std.proofs.Common.{◌≡◌, ◌⊎◌, ℕ, arith, inl, inr, rules, subst, sym}
 use Rattle.tool_words.specs.Reading.{spelled}
 use Rattle.tool_commands.specs.Compare.{IsTold}
 use Rattle.tool_commands.specs.Demo.{IsDemonstrated}
 use Rattle.cfi_pairs.specs.Run.{IsRan}
 use Rattle.cfi_tool.specs.Outcomes.{outcome_outputs, outcome_text}
-use Rattle.cfi_tool.specs.Request.{compare, demo, rewrite, run}
+use Rattle.cfi_tool.specs.Request.{compare, demo, rewrite, run, taken}
 use Rattle.cfi_tool.specs.Complete.{IsComplete}
 use Rattle.cfi_tool.proofs.Complete.{complete_is}
+use Rattle.cfi_tool.proofs.InOrder.{read_some, read_told}
 use Rattle.cfi_tool.proofs.Headline.{IsDone, demo_ends, explained_request, ran_is, rewritten_is, shown_is, told_is}
 use Rattle.cfi_tool.proofs.Verified.{verified_is}
 use Rattle.cfi_tool.proofs.Since.{only_read_since, short_since, status_unwritten, stopped_since, wrote_since}
@@ -117,3 +118,18 @@ returns-in-Ok-end-clause-verified g c = λ zero given verifies. (
       c.in-Ok.outcome c.in-Ok.ensures.explained (subst (λ (n : ℕ). n ≡ 0) c.in-Ok-end.ensures.status zero),
   c.in-Ok-end.ensures.whole,
 )
+
+pub returns-in-Ok-end-clause-in_order : goal.returns-in-Ok-end-clause-in_order
+returns-in-Ok-end-clause-in_order g c =
+    read_told (g.F.Files.reads c.args.files.now) (g.F.Files.reads c.command.new.files) (taken (spelled c.args.words.now)) (g.F.Files.reads c.finish-end.new.files)
+    c.in-Ok.outcome _ c.in-Ok.ensures.in_order c.finish-end.ensures.reads.reads c.in-Ok-end.ensures.status
+
+pub returns-in-Err-Failed-clause-in_order : goal.returns-in-Err-Failed-clause-in_order
+returns-in-Err-Failed-clause-in_order g c =
+    read_some (g.F.Files.reads c.args.files.now) (g.F.Files.reads c.command.new.files) (taken (spelled c.args.words.now)) (g.F.Files.reads c.finish-end.new.files)
+    _ 4 c.in-Ok.ensures.in_order c.finish-end.ensures.reads.reads (omega arith) (omega arith)
+
+pub returns-in-Err-NoMemory-clause-in_order : goal.returns-in-Err-NoMemory-clause-in_order
+returns-in-Err-NoMemory-clause-in_order g c =
+    read_some (g.F.Files.reads c.args.files.now) (g.F.Files.reads c.command.new.files) (taken (spelled c.args.words.now)) (g.F.Files.reads c.finish-end.new.files)
+    _ 5 c.in-Ok.ensures.in_order c.finish-end.ensures.reads.reads (omega arith) (omega arith)

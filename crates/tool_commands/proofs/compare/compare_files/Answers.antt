@@ -1,6 +1,8 @@
-use Rattle.std.proofs.Common.{rules, [], ◌∷◌, Some, arith, map, refl}
-use Rattle.tool_common.specs.Reads.{Content, GaveAll}
+use Rattle.std.proofs.Common.{◌≡◌, true, rules, [], ◌∷◌, Some, arith, map, refl}
+use Rattle.tool_io.specs.Names.{AreRead}
+use Rattle.tool_common.specs.Reads.{Content, GaveAll, file_names}
 use Rattle.tool_common.proofs.Gave.{gave_at}
+use Rattle.tool_common.proofs.InOrder.{none_yet, read_less}
 use Rattle.tool_commands.specs.Objects.{names_with}
 use Rattle.tool_commands.specs.Compare.{compare_asked}
 use Rattle.tool_commands.proofs.compare.compare_files.Goals as goal
@@ -26,3 +28,12 @@ returns-clause-explained g c =
       input_gave = gave 3 c.index-others-3.result c.deref-6.result.now (omega arith) c.index-others-3.is c.deref-6.ensures.value;
       compare_is = rw c.text_named-policy.ensures at c.in_ok-compare_bytes.ensures;
     }
+
+pub returns-in_err-names-clause-in_order : goal.returns-in_err-names-clause-in_order
+returns-in_err-names-clause-in_order g c = none_yet _ _ _ (search rules)
+
+pub returns-in_err-compare_bytes-clause-in_order : goal.returns-in_err-compare_bytes-clause-in_order
+returns-in_err-compare_bytes-clause-in_order g c =
+    let words = compare_asked c.args.request.now in
+    let read : AreRead (g.F.Files.reads c.args.files.now) (g.F.Files.reads c.read_all.new.files) (file_names (names_with words.objects (words.policy ∷ Some words.image ∷ Some words.map ∷ words.input ∷ []))) (true ≡ true) = search rules in
+    read_less _ _ _ _ _ read (λ _. refl)

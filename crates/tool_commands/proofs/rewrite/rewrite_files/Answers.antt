@@ -1,6 +1,8 @@
-use Rattle.std.proofs.Common.{rules, [], ◌∷◌, arith, map, refl}
-use Rattle.tool_common.specs.Reads.{Content, GaveAll}
+use Rattle.std.proofs.Common.{◌≡◌, true, rules, [], ◌∷◌, arith, map, refl}
+use Rattle.tool_io.specs.Names.{AreRead}
+use Rattle.tool_common.specs.Reads.{Content, GaveAll, file_names}
 use Rattle.tool_common.proofs.Gave.{gave_at}
+use Rattle.tool_common.proofs.InOrder.{none_yet, read_less}
 use Rattle.tool_commands.specs.Objects.{names_with}
 use Rattle.tool_commands.specs.Rewrite.{rewrite_asked}
 use Rattle.tool_commands.proofs.rewrite.rewrite_files.Goals as goal
@@ -21,3 +23,12 @@ returns-clause-explained g c =
       apart = c.requires.apart;
       rewrite_is = rw c.text_named-policy.ensures at c.in_ok-rewrite_given.ensures;
     }
+
+pub returns-in_err-names-clause-in_order : goal.returns-in_err-names-clause-in_order
+returns-in_err-names-clause-in_order g c = none_yet _ _ _ (search rules)
+
+pub returns-in_err-rewrite_given-clause-in_order : goal.returns-in_err-rewrite_given-clause-in_order
+returns-in_err-rewrite_given-clause-in_order g c =
+    let words = rewrite_asked c.args.request.now in
+    let read : AreRead (g.F.Files.reads c.args.files.now) (g.F.Files.reads c.read_all.new.files) (file_names (names_with words.objects (words.policy ∷ []))) (true ≡ true) = search rules in
+    read_less _ _ _ _ _ read (λ _. refl)
