@@ -58,10 +58,6 @@ none_more : (before : Option (List (List ℕ))) → GoOn before before []
 none_more None = tt
 none_more (Some told) = ap Some (sym (append-nil told))
 
--- where nothing is to be read nothing was
-pub none_read : (before : Option (List (List ℕ))) (all : Type 0) → AreRead before before [] all
-none_read before all = record { first = (zero, none_more before); whole = λ _. none_more before }
-
 -- nothing was read yet
 pub none_yet : (before : Option (List (List ℕ))) (names : List (List ℕ)) (all : Type 0) → (all → ⊥) → AreRead before before names all
 none_yet before names all none = record { first = (zero, none_more before); whole = λ is. absurd (none is) }
