@@ -13,7 +13,9 @@ use Rattle.cfi_rules.specs.Rules.{IsRejected, IsWellFormed}
 use Rattle.cfi_rules.specs.declared.reject.Reject as V
 use Rattle.cfi_rules.specs.declared.reject.Reject.TheVariants.{At, Length}
 use Rattle.tool_common.specs.Reads.{Content}
-use Rattle.tool_common.specs.Spelled.{IsImage, Spell}
+use Rattle.cfi_pair.specs.Spelled.{Spell}
+use Rattle.cfi_pair.proofs.Determined.{graph_read, no_fault, none_rejected, one_pair, own}
+use Rattle.cfi_pair.proofs.OneImage.{version_told}
 use Rattle.tool_common.specs.Words.{text_named}
 use Rattle.tool_common.specs.declared.refusal.Refusal.{Refusal}
 use Rattle.tool_common.specs.declared.refusal.Refusal.TheVariants.{Graph, Harts, Image, Script}
@@ -23,7 +25,6 @@ use Rattle.cfi_report.specs.SafeRun.{IsSafeRun, undisturbed_script}
 use Rattle.cfi_pairs.specs.Complete.{RunIsComplete, VerifyIsComplete}
 use Rattle.cfi_pairs.specs.Opening.{IsRefusal, script_given}
 use Rattle.cfi_pairs.specs.Run.{ExplainsRun, IsRunOf, RunWords, run_status}
-use Rattle.cfi_pairs.proofs.OneImage.{one_image, spelled_image, version_told}
 use Rattle.cfi_pairs.proofs.ScriptHarts.{one_may_run}
 use Rattle.cfi_pairs.specs.Verify.{ExplainsVerdict, IsVerdictOf, VerifyWords, verdict_status}
 use Rattle.cfi_pairs.specs.declared.run.RunOutcome as N
@@ -32,34 +33,17 @@ use Rattle.cfi_pairs.specs.declared.verify.Verdict as D
 use Rattle.cfi_pairs.specs.declared.verify.Verdict.TheVariants as verdicts
 
 module _ (image_bytes graph_bytes : List ℕ) (image : Contents) (graph : GraphParts) (spell : Spell image_bytes graph_bytes image graph) where
-  no_fault : fault_of image_bytes ≡ None
-  no_fault = reads_none image_bytes image.version image.code image.init spell.version spell.size spell.image_is
-
-  own : IsImage image_bytes image
-  own = spelled_image image_bytes graph_bytes image graph spell
-
-  graph_read : graph_of graph_bytes ≡ Ok graph
-  graph_read = ap graph_of spell.graph_is ∙ graph_of-graph_text graph spell.parts
-
-  one_pair : (other : Contents) (lines : GraphParts) → Spell image_bytes graph_bytes other lines → (other ≡ image) × (lines ≡ graph)
-  one_pair other lines is =
-      let read : graph_of graph_bytes ≡ Ok lines = ap graph_of is.graph_is ∙ graph_of-graph_text lines is.parts in
-      let same : lines ≡ graph = cc (read, graph_read) in (
-        one_image image_bytes other image (spelled_image image_bytes graph_bytes other lines is) own,
-        same,
-      )
-
   -- an image that a file tells to be of version 1 may have one hart
   few_harts : (harts : ℕ) → MayRun (image_profile image) harts → version_in image_bytes ≡ 1 → 1 < harts → ⊥
   few_harts harts may first more =
-      let same : image.version ≡ 1 = sym (version_told image_bytes image own) ∙ first in
+      let same : image.version ≡ 1 = sym (version_told image_bytes image (own image_bytes graph_bytes image graph spell)) ∙ first in
       let most : harts ≤ (profile_of 1).harts = subst (λ (v : ℕ). harts ≤ (profile_of v).harts) same may.most in
       omega (arith, most, more)
 
   no_refusal : (script : Option (List ℕ)) (read : ScriptParts) → script_given script ≡ Ok read → MayRun (image_profile image) read.harts
       → (refusal : Refusal) → IsRefusal image_bytes graph_bytes script refusal → ⊥
-  no_refusal script read given may (Image refusal) is = cc (is, no_fault)
-  no_refusal script read given may (Graph line reason) is = let wrong = is.1 in cc (wrong, graph_read)
+  no_refusal script read given may (Image refusal) is = let no = no_fault image_bytes graph_bytes image graph spell in cc (is, no)
+  no_refusal script read given may (Graph line reason) is = let wrong = is.1 in let read = graph_read image_bytes graph_bytes image graph spell in cc (wrong, read)
   no_refusal script read given may (Script line reason) is = let wrong = is.1 in cc (wrong, given)
   no_refusal script read given may (Harts count) is =
       let (pair, (other, again, counted), more, first) = is in
@@ -69,34 +53,17 @@ module _ (image_bytes graph_bytes : List ℕ) (image : Contents) (graph : GraphP
   no_refusal script read given may other is = is
 
   module _ (well : IsWellFormed (image_profile image) image graph) where
-    -- what meets the rules is not rejected
-    not_rejected : (reject : V.Reject) → IsRejected (image_profile image) image graph reject → ⊥
-    not_rejected (Length code given) is =
-        let (code_is, given_is, other) = is in other (code_is ∙ sym well.same_length ∙ sym given_is)
-    not_rejected (At rule a) is =
-        let (same, first) = is in
-        let holds = well.rules rule a in
-        let here = first.here in
-        cc (holds, here)
-
-    none_rejected : (other : Contents) (lines : GraphParts) (reject : V.Reject) → Spell image_bytes graph_bytes other lines
-        → IsRejected (image_profile other) other lines reject → ⊥
-    none_rejected other lines reject is rejected =
-        let same = one_pair other lines is in
-        not_rejected reject (subst (λ (g : GraphParts). IsRejected (image_profile image) image g reject) same.1
-        (subst (λ (i : Contents). IsRejected (image_profile i) i lines reject) same.0 rejected))
-
     judged : (verdict : D.Verdict) → IsVerdictOf image_bytes graph_bytes verdict → verdict_status verdict ≡ 0
     judged verdicts.Accepted is = refl
     judged (verdicts.Refused refusal) is = absurd (no_refusal None undisturbed_script refl (one_may_run image.version) refusal is)
-    judged (verdicts.Rejected reject) is = let (other, lines, spelled, rejected) = is in absurd (none_rejected other lines reject spelled rejected)
+    judged (verdicts.Rejected reject) is = let (other, lines, spelled, rejected) = is in absurd (none_rejected image_bytes graph_bytes image graph spell well other lines reject spelled rejected)
 
     module _ (script : Option (List ℕ)) (read : ScriptParts) (given : script_given script ≡ Ok read) (may : MayRun (image_profile image) read.harts)
         (input : List ℕ) (limit : ℕ) where
       safe_run : (other : Contents) (lines : GraphParts) (made : ScriptParts) (report : RunReport) → Spell image_bytes graph_bytes other lines
           → script_given script ≡ Ok made → IsSafeRun other lines made input limit report → IsSafeRun image graph read input limit report
       safe_run other lines made report is second safe =
-          let same = one_pair other lines is in
+          let same = one_pair image_bytes graph_bytes image graph spell other lines is in
           let one : made ≡ read = cc (second, given) in
           subst (λ (s : ScriptParts). IsSafeRun image graph s input limit report) one
           (subst (λ (g : GraphParts). IsSafeRun image g made input limit report) same.1
@@ -106,7 +73,7 @@ module _ (image_bytes graph_bytes : List ℕ) (image : Contents) (graph : GraphP
           → (report : RunReport) × IsSafeRun image graph read input limit report × (run_status result ≡ end_status report.end)
       ran (runs.Refused refusal) is = absurd (no_refusal script read given may refusal is)
       ran (runs.Rejected reject) is =
-          let (other, lines, made, spelled, second, allowed, rejected) = is in absurd (none_rejected other lines reject spelled rejected)
+          let (other, lines, made, spelled, second, allowed, rejected) = is in absurd (none_rejected image_bytes graph_bytes image graph spell well other lines reject spelled rejected)
       ran (runs.Ran version report) is =
           let (other, lines, made, spelled, second, allowed, (told, safe)) = is in
           (report, safe_run other lines made report spelled second safe, refl)

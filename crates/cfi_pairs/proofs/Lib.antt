@@ -1,3 +1,2 @@
-mod OneImage
 pub mod ScriptHarts
 pub mod Complete

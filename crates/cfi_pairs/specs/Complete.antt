@@ -8,7 +8,7 @@ use Rattle.cfi_script.specs.Script.{ScriptParts}
 use Rattle.cfi_step.specs.declared.report.RunReport.{RunReport}
 use Rattle.tool_common.specs.Held.{AreHeld}
 use Rattle.tool_common.specs.Reads.{Content}
-use Rattle.tool_common.specs.Spelled.{Spell}
+use Rattle.cfi_pair.specs.Spelled.{Spell}
 use Rattle.tool_common.specs.Words.{text_named}
 use Rattle.cfi_report.specs.ReportText.{end_status}
 use Rattle.cfi_report.specs.SafeRun.{IsSafeRun}

@@ -7,16 +7,12 @@ use Rattle.cfi_script.specs.Script.{ScriptParts}
 use Rattle.cfi_script.specs.ScriptText.{script_of}
 use Rattle.text_lines.specs.declared.end.TextEnd.{TextEnd}
 use Rattle.text_lines.specs.declared.end.TextEnd.TheVariants.{Line}
+use Rattle.cfi_pair.specs.Opening.{AreRead}
 use Rattle.cfi_report.specs.SafeRun.{undisturbed_script}
 use Rattle.cfi_pairs.specs.declared.opening.OpenEnd.{OpenEnd}
 use Rattle.cfi_pairs.specs.declared.opening.OpenEnd.TheVariants as ends
 use Rattle.tool_common.specs.declared.refusal.Refusal.{Refusal}
 use Rattle.tool_common.specs.declared.refusal.Refusal.TheVariants.{Image, Graph, Script, Harts}
-
--- two files are read as an image and a graph
-pub record AreRead (image_bytes graph_bytes : List ℕ) (graph : GraphParts) : Type 0 where
-  pub no_fault : fault_of image_bytes ≡ None
-  pub graph_is : graph_of graph_bytes ≡ Ok graph
 
 -- the script that a text spells; without one a single hart runs, undisturbed
 abbrev pub script_given : Option (List ℕ) → Result ScriptParts TextEnd

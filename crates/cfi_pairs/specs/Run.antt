@@ -12,7 +12,7 @@ use Rattle.tool_common.specs.Lines.{with_newline}
 use Rattle.cfi_pairs.specs.Opening.{IsRefusal, script_given}
 use Rattle.tool_common.specs.Reads.{Content, Gave, GaveNamed}
 use Rattle.tool_common.specs.Refusals.{refusal_line}
-use Rattle.tool_common.specs.Spelled.{Spell}
+use Rattle.cfi_pair.specs.Spelled.{Spell}
 use Rattle.cfi_report.specs.ReportText.{end_status, report_text}
 use Rattle.cfi_report.specs.SafeRun.{IsSafeRun}
 use Rattle.tool_common.specs.Words.{file_word, steps_of, text_named}

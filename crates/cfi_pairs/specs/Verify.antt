@@ -1,19 +1,18 @@
 -- `verify IMAGE GRAPH`: whether an image goes with its graph.
 use Rattle.std.specs.Prelude.{◌≡◌, ℕ, List, [], ◌∷◌, ◌++◌, codes, Option, Some, None}
-use Rattle.rv_word.specs.Image.{Contents, image_profile}
-use Rattle.cfi_graph.specs.Graph.{GraphParts, calls_in}
-use Rattle.cfi_rules.specs.Along.{IsSafe}
-use Rattle.cfi_rules.specs.Listed.{IsListed}
+use Rattle.rv_word.specs.Image.{Contents}
+use Rattle.cfi_graph.specs.Graph.{GraphParts}
 use Rattle.cfi_rules.specs.RejectText.{reject_text}
-use Rattle.cfi_rules.specs.Rules.{IsWellFormed, IsRejected}
+use Rattle.cfi_pair.specs.Judgement as rules
+use Rattle.cfi_pair.specs.Spelled.{Spell}
+use Rattle.cfi_pair.specs.declared.judging.Verdict.TheVariants as says
 use Rattle.tool_common.specs.Lines.{with_newline}
 use Rattle.cfi_pairs.specs.Opening.{IsRefusal}
 use Rattle.tool_common.specs.Reads.{Content, Gave}
 use Rattle.tool_common.specs.Refusals.{refusal_line}
-use Rattle.tool_common.specs.Spelled.{Spell}
+use Rattle.tool_words.specs.declared.asked.VerifyWords as W
 use Rattle.cfi_pairs.specs.declared.verify.Verdict.{Verdict}
 use Rattle.cfi_pairs.specs.declared.verify.Verdict.TheVariants.{Accepted, Refused, Rejected}
-use Rattle.cfi_pairs.specs.declared.verify.VerifyRequest.{VerifyRequest}
 
 -- what is asked for: the names of two files
 pub record VerifyWords : Type 0 where
@@ -29,18 +28,15 @@ verify_words words = None
 abbrev pub verify_names : VerifyWords → List (Option (List ℕ))
 verify_names asks = Some asks.image ∷ Some asks.graph ∷ []
 
--- a request as the tool keeps it
-abbrev pub verify_asked : VerifyRequest → VerifyWords
-verify_asked r = record { image = r.image.now; graph = r.graph.now }
+-- the words as they were read
+abbrev pub verify_asked : W.VerifyWords → VerifyWords
+verify_asked w = record { image = w.image.now; graph = w.graph.now }
 
--- accepted: the pair meets every rule, and is safe, and where the graph has a list of system calls the program makes no
--- others; rejected: by the first rule that fails
+-- what the rules say of an image and its graph
 abbrev pub IsJudgement : Contents → GraphParts → Verdict → Type 0
-IsJudgement image graph Accepted =
-    IsWellFormed (image_profile image) image graph × IsSafe (image_profile image) image graph
-    × ((calls : List ℕ) → calls_in graph.lines ≡ Some calls → IsListed (image_profile image) image calls)
+IsJudgement image graph Accepted = rules.IsJudgement image graph says.Accepted
 IsJudgement image graph (Refused refusal) = ⊥
-IsJudgement image graph (Rejected reject) = IsRejected (image_profile image) image graph reject
+IsJudgement image graph (Rejected reject) = rules.IsJudgement image graph (says.Rejected reject)
 
 -- the files spell a pair that has this judgement
 abbrev pub HasJudgement : List ℕ → List ℕ → Verdict → Type 0

@@ -3,7 +3,7 @@
 #![tactic(auto)]
 
 pub use run::{RunOutcome, RunRequest, run_files};
-pub use verify::{Verdict, VerifyRequest, verify_files};
+pub use verify::{Verdict, verify_files};
 
 mod opening;
 mod run;

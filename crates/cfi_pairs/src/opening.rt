@@ -1,22 +1,13 @@
 //! What `verify` and `run` begin with: an image and its graph, read as such.
 
 ghost use Rattle.std.specs.Prelude.{None, IfOk, IfErr};
-ghost use Rattle.tool_common.specs.Spelled.{Spell};
-ghost use Rattle.cfi_pairs.specs.Opening.{AreRead, IsOpenEnd};
+ghost use Rattle.cfi_pair.specs.Opening.{AreRead};
+ghost use Rattle.cfi_pair.specs.Spelled.{Spell};
+ghost use Rattle.cfi_pairs.specs.Opening.{IsOpenEnd};
 
-use cfi_graph::{Graph, read_graph};
-use elf_image::read_image;
-use rv_word::Image;
+use cfi_pair::{Pair, PairEnd, PairFault, open_pair};
 use std::alloc::Global;
-use text_lines::TextEnd;
 use tool_common::Refusal;
-
-/// An image and its graph.
-#[derive(Drop)]
-pub(crate) struct Pair<'a> {
-    pub(crate) image: Image<'a>,
-    pub(crate) graph: Graph,
-}
 
 /// Why files are not opened.
 #[derive(Clone, Copy)]
@@ -27,7 +18,7 @@ pub(crate) enum OpenEnd {
 }
 
 /// The image and the graph that two files spell.
-pub(crate) fn open_pair<'a>(
+pub(crate) fn open_files<'a>(
     alloc: Global,
     image: &'a [u8],
     graph: &[u8],
@@ -36,15 +27,14 @@ pub(crate) fn open_pair<'a>(
     ensures read { IfOk result (λ pair. AreRead image.now graph.now pair.graph) }
     ensures refused { IfErr result (IsOpenEnd image.now graph.now None) }
 {
-    let image = match read_image(image) {
-        Ok(image) => image,
-        Err(refusal) => return Err(OpenEnd::Refused(Refusal::Image(refusal))),
-    };
-    // Computes nothing: it tells the proof the sizes of the image.
-    let _code = image.code();
-    match read_graph(alloc, graph) {
-        Ok(graph) => Ok(Pair { image, graph }),
-        Err(TextEnd::Line(line, reason)) => Err(OpenEnd::Refused(Refusal::Graph(line, reason))),
-        Err(TextEnd::NoMemory) => Err(OpenEnd::NoMemory),
+    match open_pair(alloc, image, graph) {
+        Ok(pair) => Ok(pair),
+        Err(PairEnd::Fault(PairFault::Image(refusal))) => {
+            Err(OpenEnd::Refused(Refusal::Image(refusal)))
+        }
+        Err(PairEnd::Fault(PairFault::Graph(line, reason))) => {
+            Err(OpenEnd::Refused(Refusal::Graph(line, reason)))
+        }
+        Err(PairEnd::NoMemory) => Err(OpenEnd::NoMemory),
     }
 }

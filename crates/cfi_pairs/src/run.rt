@@ -6,11 +6,12 @@ ghost use Rattle.tool_io.specs.Reading.{CountsReads, IsOnlyRead};
 ghost use Rattle.text_lines.specs.Answers.{Answers};
 ghost use Rattle.cfi_pairs.specs.Opening.{IsOpenEnd, script_given};
 ghost use Rattle.tool_common.specs.Reads.{IsFault, IsStop, IsTooLong, file_names};
-ghost use Rattle.tool_common.specs.Spelled.{Spell};
+ghost use Rattle.cfi_pair.specs.Spelled.{Spell};
 ghost use Rattle.cfi_pairs.specs.Run.{ExplainsRun, IsRunOf, IsRunOfPair, run_asked, run_names, run_status, run_text, run_words};
 
-use crate::opening::{OpenEnd, Pair, open_pair};
+use crate::opening::{OpenEnd, open_files};
 use crate::verify::Verdict;
+use cfi_pair::Pair;
 use cfi_report::{end_status, report_text};
 use cfi_script::Script;
 use cfi_step::{RunReport, run};
@@ -112,7 +113,7 @@ fn open_all<'a>(
     ensures may_run { IfOk result (λ all. MayRun (image_profile all.0.image) all.1.harts) }
     ensures refused { IfErr result (IsOpenEnd image.now graph.now (option_map (λ t. t.now) script.entry)) }
 {
-    let pair = match open_pair(alloc, image, graph) {
+    let pair = match open_files(alloc, image, graph) {
         Ok(pair) => pair,
         Err(end) => return Err(end),
     };

@@ -1,36 +1,18 @@
-ghost use Rattle.std.specs.Prelude.{◌≡◌, IfOk, IfErr, IsOk, ◌∷◌, []};
+ghost use Rattle.std.specs.Prelude.{◌≡◌, IfOk, IfErr, IsOk};
 ghost use Rattle.tool_io.specs.Names.{AreRead};
 ghost use Rattle.tool_io.specs.Reading.{CountsReads, IsOnlyRead};
 ghost use Rattle.tool_common.specs.Reads.{IsFault, IsStop, IsTooLong, file_names};
-ghost use Rattle.cfi_pairs.specs.Verify.{ExplainsVerdict, IsJudgement, IsVerdictOf, verdict_status, verify_asked, verify_names, verify_words};
+ghost use Rattle.cfi_pairs.specs.Verify.{ExplainsVerdict, IsJudgement, IsVerdictOf, verdict_status, verify_asked, verify_names};
 
-use crate::opening::{OpenEnd, Pair, open_pair};
-use cfi_verify::{Reject, VerifyEnd, verify};
+use crate::opening::{OpenEnd, open_files};
+use cfi_pair::{Pair, Verdict as Judgement, judge};
+use cfi_verify::Reject;
 use rv_word::NoMemory;
 use std::alloc::Global;
 use std::fmt;
 use tool_common::{Refusal, Stop, read_all, status};
 use tool_io::Files;
 use tool_words::VerifyWords;
-
-/// What `verify` is asked for: the names of an image and of its graph.
-#[derive(Clone, Copy)]
-pub struct VerifyRequest<'a> {
-    image: &'a str,
-    graph: &'a str,
-}
-
-impl<'a> VerifyRequest<'a> {
-    /// What the words after the command ask for.
-    pub fn of(words: VerifyWords<'a>) -> Self
-        ensures { Some (verify_asked result) ≡ verify_words (words.entry.image.now ∷ words.entry.graph.now ∷ []) }
-    {
-        VerifyRequest {
-            image: words.image,
-            graph: words.graph,
-        }
-    }
-}
 
 /// What is said of a file that should be an image and one that should be its graph.
 #[derive(Clone, Copy)]
@@ -71,13 +53,13 @@ impl fmt::Display for Verdict {
 }
 
 /// The verdict on an image and its graph.
-fn judge(alloc: Global, pair: &Pair<'_>) -> Result<Verdict, NoMemory>
+fn verdict(alloc: Global, pair: &Pair<'_>) -> Result<Verdict, NoMemory>
     ensures { IfOk result (IsJudgement pair.now.image pair.now.graph) }
 {
-    match verify(alloc, &pair.image, &pair.graph) {
-        Ok(_checked) => Ok(Verdict::Accepted),
-        Err(VerifyEnd::Reject(reject)) => Ok(Verdict::Rejected(reject)),
-        Err(VerifyEnd::NoMemory) => Err(NoMemory),
+    match judge(alloc, pair) {
+        Ok(Judgement::Accepted) => Ok(Verdict::Accepted),
+        Ok(Judgement::Rejected(reject)) => Ok(Verdict::Rejected(reject)),
+        Err(NoMemory) => Err(NoMemory),
     }
 }
 
@@ -85,10 +67,10 @@ fn judge(alloc: Global, pair: &Pair<'_>) -> Result<Verdict, NoMemory>
 fn verdict_of(alloc: Global, image: &[u8], graph: Vec<u8>) -> Result<Verdict, NoMemory>
     ensures { IfOk result (IsVerdictOf image.now graph.items) }
 {
-    let opened = open_pair(alloc, image, &graph);
+    let opened = open_files(alloc, image, &graph);
     drop(graph);
     match opened {
-        Ok(pair) => judge(alloc, &pair),
+        Ok(pair) => verdict(alloc, &pair),
         Err(OpenEnd::Refused(refusal)) => Ok(Verdict::Refused(refusal)),
         Err(OpenEnd::NoMemory) => Err(NoMemory),
     }
@@ -97,7 +79,7 @@ fn verdict_of(alloc: Global, image: &[u8], graph: Vec<u8>) -> Result<Verdict, No
 /// Reads an image and its graph, and says whether they go together.
 pub fn verify_files<'a, F: Files>(
     alloc: Global,
-    request: &VerifyRequest<'a>,
+    request: &VerifyWords<'a>,
     files: &mut F,
 ) -> Result<Verdict, Stop<'a>>
     ensures explained { IfOk result (ExplainsVerdict (F.content files.old) (verify_asked request.now)) }

@@ -1,6 +1,7 @@
 -- Status 0 where two names stand after `verify`: neither help nor the version can have been asked for, and the two names are the files.
 use Rattle.std.proofs.Common.{◌≡◌, ◌∙◌, ℕ, false, List, [], ◌∷◌, Option, Some, None, inl, inr, ap, ap₂, sym, subst, refl, arith, codes}
 use Rattle.std.specs.Prelude.{⊤}
+use Rattle.tool_words.specs.CommandLine.{VERIFY}
 use Rattle.tool_words.specs.HelpWords.{asks_help, asks_version}
 use Rattle.tool_words.specs.Plain.{AsksFor, Operands, mark_left, none_left, one_more}
 use Rattle.tool_words.specs.Reading as reads
@@ -59,7 +60,7 @@ asked_as reads.refused asked e = absurd (cc)
 abbrev pair : List ℕ → List ℕ → VerifyWords
 pair image graph = record { image = image; graph = graph }
 
-two_are : (a b image graph : List ℕ) (request : Request) → a ∷ b ∷ [] ≡ image ∷ graph ∷ [] → request_of (codes "verify" ∷ a ∷ b ∷ []) ≡ Some request
+two_are : (a b image graph : List ℕ) (request : Request) → a ∷ b ∷ [] ≡ image ∷ graph ∷ [] → request_of (VERIFY.name ∷ a ∷ b ∷ []) ≡ Some request
     → request ≡ verifies (pair image graph)
 two_are a b image graph request same is =
     let first : a ≡ image = cc in
@@ -72,7 +73,7 @@ no_pair : {X : Type 0} (request : Request) → None ≡ Some request → X
 no_pair request e = absurd (cc)
 
 of_two : (rest values : List (List ℕ)) → Operands rest values → (image graph : List ℕ) (request : Request) → rest ≡ image ∷ graph ∷ []
-    → request_of (codes "verify" ∷ values) ≡ Some request → request ≡ verifies (pair image graph)
+    → request_of (VERIFY.name ∷ values) ≡ Some request → request ≡ verifies (pair image graph)
 of_two rest values none_left image graph request are is = absurd (cc)
 of_two rest values (mark_left []) image graph request are is = absurd (cc)
 of_two rest values (mark_left (b ∷ [])) image graph request are is = no_pair request is
@@ -85,7 +86,7 @@ of_two rest values (one_more a ws vs not (one_more b xs us nor (mark_left more))
 of_two rest values (one_more a ws vs not (one_more b xs us nor (one_more c ys ts none more))) image graph request are is = absurd (cc)
 
 of_marked : (rest values : List (List ℕ)) → Operands rest values → (image graph : List ℕ) (request : Request) → rest ≡ codes "--" ∷ image ∷ graph ∷ []
-    → request_of (codes "verify" ∷ values) ≡ Some request → request ≡ verifies (pair image graph)
+    → request_of (VERIFY.name ∷ values) ≡ Some request → request ≡ verifies (pair image graph)
 of_marked rest values none_left image graph request are is = absurd (cc)
 of_marked rest values (mark_left []) image graph request are is = absurd (cc)
 of_marked rest values (mark_left (a ∷ [])) image graph request are is = absurd (cc)
@@ -101,13 +102,13 @@ of_marked rest values (one_more a ws vs not more) image graph request are is =
 asked_for : (words : List (List ℕ)) (given : VerifyWords) (request : Request) → Verifies words given → (for : AsksFor words)
     → request_of (for.name ∷ for.values) ≡ Some request → request ≡ verifies given
 asked_for words given request (program, inl are) for is =
-    let same : for.program ∷ for.name ∷ for.rest ≡ program ∷ codes "verify" ∷ given.image ∷ given.graph ∷ [] = sym for.words_are ∙ are in
-    let name : for.name ≡ codes "verify" = cc in
+    let same : for.program ∷ for.name ∷ for.rest ≡ program ∷ VERIFY.name ∷ given.image ∷ given.graph ∷ [] = sym for.words_are ∙ are in
+    let name : for.name ≡ VERIFY.name = cc in
     let rest : for.rest ≡ given.image ∷ given.graph ∷ [] = cc in
     of_two for.rest for.values for.operands given.image given.graph request rest (subst (λ (n : List ℕ). request_of (n ∷ for.values) ≡ Some request) name is)
 asked_for words given request (program, inr are) for is =
-    let same : for.program ∷ for.name ∷ for.rest ≡ program ∷ codes "verify" ∷ codes "--" ∷ given.image ∷ given.graph ∷ [] = sym for.words_are ∙ are in
-    let name : for.name ≡ codes "verify" = cc in
+    let same : for.program ∷ for.name ∷ for.rest ≡ program ∷ VERIFY.name ∷ codes "--" ∷ given.image ∷ given.graph ∷ [] = sym for.words_are ∙ are in
+    let name : for.name ≡ VERIFY.name = cc in
     let rest : for.rest ≡ codes "--" ∷ given.image ∷ given.graph ∷ [] = cc in
     of_marked for.rest for.values for.operands given.image given.graph request rest (subst (λ (n : List ℕ). request_of (n ∷ for.values) ≡ Some request) name is)
 

@@ -1,5 +1,5 @@
 -- The text and the status of what a command comes to.
-use Rattle.std.specs.Prelude.{ℕ, List, [], codes, string_bytes}
+use Rattle.std.specs.Prelude.{ℕ, List, [], string_bytes}
 use Rattle.tool_commands.specs.Compare.{compare_line, compare_status}
 use Rattle.tool_commands.specs.Demo.{demo_status, demo_text}
 use Rattle.tool_commands.specs.Rewrite.{rewrite_line, rewrite_outputs, rewrite_status}
@@ -8,14 +8,12 @@ use Rattle.cfi_pairs.specs.Verify.{verdict_line, verdict_status}
 use Rattle.tool_common.specs.Lines.{with_newline}
 use Rattle.tool_common.specs.Writes.{OutputParts}
 use Rattle.tool_common.specs.Reads.{unread_line, unread_status}
+use Rattle.tool_words.specs.CommandLine.{usage}
 use Rattle.cfi_tool.specs.declared.outcome.Outcome.{Outcome}
 use Rattle.cfi_tool.specs.declared.outcome.Outcome.TheVariants.{Usage, Help, Version, Unread, Rewrite, Verify, Run, Compare, Demo}
 
-abbrev pub usage_line : List ℕ
-usage_line = codes "usage: rvcfi rewrite|verify|run|compare|demo|harden|link|compare-link"
-
 abbrev pub outcome_text : Outcome → List ℕ
-outcome_text Usage = with_newline usage_line
+outcome_text Usage = with_newline usage
 outcome_text (Help text) = string_bytes text
 outcome_text (Version text) = string_bytes text
 outcome_text (Unread unread) = with_newline (unread_line unread)

@@ -5,7 +5,8 @@ use Rattle.std.specs.Str.{bytes_eq}
 use Rattle.text_lines.specs.Decimal.{MAX_STEP}
 use Rattle.tool_words.specs.Reading as reads
 use Rattle.tool_words.specs.Reading.{Reading, reading}
-use Rattle.tool_words.specs.Plain.{IsAmong, IsPlainRequest, commands, is_plain}
+use Rattle.tool_words.specs.CommandLine.{COMPARE, COMPARE_LINK, DEMO, HARDEN, LINK, REWRITE, RUN, VERIFY, commands}
+use Rattle.tool_words.specs.Plain.{IsAmong, IsPlainRequest, is_plain}
 use Rattle.tool_words.specs.declared.end.WordsEnd.{WordsEnd}
 use Rattle.tool_words.specs.declared.end.WordsEnd.TheVariants as ends
 use Rattle.tool_commands.specs.Compare.{CompareWords, compare_asked, compare_link_words, compare_names, compare_words}
@@ -29,14 +30,14 @@ pub data Request : Type 0 where
 abbrev pub request_of : List (List ℕ) → Option Request
 request_of [] = None
 request_of (command ∷ words) =
-    if bytes_eq command (codes "rewrite") then option_map rewrite (rewrite_words words) else
-    if bytes_eq command (codes "verify") then option_map verify (verify_words words) else
-    if bytes_eq command (codes "run") then option_map run (run_words words) else
-    if bytes_eq command (codes "compare") then option_map compare (compare_words words) else
-    if bytes_eq command (codes "demo") then option_map demo (demo_words words) else
-    if bytes_eq command (codes "harden") then option_map rewrite (harden_words words) else
-    if bytes_eq command (codes "link") then option_map rewrite (link_words words) else
-    if bytes_eq command (codes "compare-link") then option_map compare (compare_link_words words) else None
+    if bytes_eq command REWRITE.name then option_map rewrite (rewrite_words words) else
+    if bytes_eq command VERIFY.name then option_map verify (verify_words words) else
+    if bytes_eq command RUN.name then option_map run (run_words words) else
+    if bytes_eq command COMPARE.name then option_map compare (compare_words words) else
+    if bytes_eq command DEMO.name then option_map demo (demo_words words) else
+    if bytes_eq command HARDEN.name then option_map rewrite (harden_words words) else
+    if bytes_eq command LINK.name then option_map rewrite (link_words words) else
+    if bytes_eq command COMPARE_LINK.name then option_map compare (compare_link_words words) else None
 
 -- what a command line is taken for: a request, or one for help or for the version, or none of these
 pub data Taken : Type 0 where
@@ -74,8 +75,8 @@ TakenMarked words =
 -- a program's name, `verify` and two names, which may stand behind `--`
 abbrev pub Verifies : List (List ℕ) → VerifyWords → Type 0
 Verifies words given = (program : List ℕ) × (
-    (words ≡ program ∷ codes "verify" ∷ given.image ∷ given.graph ∷ [])
-    ⊎ (words ≡ program ∷ codes "verify" ∷ codes "--" ∷ given.image ∷ given.graph ∷ [])
+    (words ≡ program ∷ VERIFY.name ∷ given.image ∷ given.graph ∷ [])
+    ⊎ (words ≡ program ∷ VERIFY.name ∷ codes "--" ∷ given.image ∷ given.graph ∷ [])
     )
 
 -- the files that are read, in their order

@@ -11,6 +11,7 @@ use std::alloc::Global;
 use tool_commands::{CompareOutcome, DemoOutcome, RewriteOutcome};
 use tool_common::{Unread, line, status};
 use tool_io::{Files, OutEnd};
+use tool_words::usage;
 
 /// What a command line comes to.
 #[derive(Drop)]
@@ -75,10 +76,7 @@ impl Outcome<'_> {
         ensures { IfOk result (λ text. text.items ≡ outcome_text self.now) }
     {
         match self {
-            Outcome::Usage => line(
-                alloc,
-                &"usage: rvcfi rewrite|verify|run|compare|demo|harden|link|compare-link",
-            ),
+            Outcome::Usage => line(alloc, &usage()),
             Outcome::Help(text) | Outcome::Version(text) => Ok(Vec::from_slice(
                 alloc,
                 text.as_bytes(),

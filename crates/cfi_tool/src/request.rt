@@ -7,21 +7,21 @@ ghost use Rattle.cfi_tool.specs.Request.{IsKept, IsRight, IsWordsEnd, TakenMarke
 ghost use Rattle.tool_words.specs.Reading.{request_of as words_of, spelled};
 
 use crate::outcome::Outcome;
-use cfi_pairs::{RunRequest, VerifyRequest, run_files, verify_files};
+use cfi_pairs::{RunRequest, run_files, verify_files};
 use std::alloc::Global;
 use tool_commands::{
     CompareRequest, DemoRequest, RewriteRequest, compare_files, demonstrate, rewrite_files,
 };
 use tool_common::Stop;
 use tool_io::Files;
-use tool_words::{Asked, WordsEnd, read_words};
+use tool_words::{Asked, VerifyWords, WordsEnd, read_words};
 
 /// What the words of a command line ask for.
 #[derive(Drop)]
 pub(crate) enum Request<'a> {
     /// `rewrite`, `harden` or `link`.
     Rewrite(RewriteRequest<'a>),
-    Verify(VerifyRequest<'a>),
+    Verify(VerifyWords<'a>),
     Run(RunRequest<'a>),
     /// `compare` or `compare-link`.
     Compare(CompareRequest<'a>),
@@ -50,7 +50,7 @@ impl<'a> Request<'a> {
     {
         Some(match words {
             Asked::Rewrite(words) => Request::Rewrite(RewriteRequest::of(words)?),
-            Asked::Verify(words) => Request::Verify(VerifyRequest::of(words)),
+            Asked::Verify(words) => Request::Verify(words),
             Asked::Run(words) => Request::Run(RunRequest::of(words)?),
             Asked::Compare(words) => Request::Compare(CompareRequest::of(words)?),
             Asked::Demo(words) => Request::Demo(DemoRequest::of(words)?),

@@ -33,7 +33,7 @@ use Rattle.cfi_compare.specs.declared.answer.Compared as A
 use Rattle.cfi_compare.specs.declared.answer.Compared.TheVariants as answer
 use Rattle.tool_common.specs.Reads.{Content, Gave, GaveNamed}
 use Rattle.tool_common.specs.Refusals.{duplicate_line, refusal_line}
-use Rattle.tool_common.specs.Spelled.{IsImage}
+use Rattle.cfi_pair.specs.Spelled.{IsImage}
 use Rattle.tool_common.specs.Words.{file_word, steps_of, text_named}
 use Rattle.tool_commands.specs.Objects.{Objects, one, several, GaveObjects, names_with, objects_asked}
 use Rattle.tool_commands.specs.declared.objects.GivenEnd.{GivenEnd}

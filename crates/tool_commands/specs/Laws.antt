@@ -7,7 +7,7 @@ use Rattle.cfi_rules.specs.Rules.{IsWellFormed}
 use Rattle.cfi_writer.specs.Hardened.{HardenedParts}
 use Rattle.cfi_harden.specs.Prepared.{IsPrepared, PreparedParts}
 use Rattle.cfi_harden.specs.Request as asks
-use Rattle.tool_common.specs.Spelled.{Spell}
+use Rattle.cfi_pair.specs.Spelled.{Spell}
 use Rattle.tool_commands.specs.Compare.{IsMapOf, map_form}
 use Rattle.tool_commands.specs.Rewrite.{IsMade, IsSpelledOut, RewriteWords}
 use Rattle.tool_commands.specs.declared.rewrite.Rewritten.{Rewritten}

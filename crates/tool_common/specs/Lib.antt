@@ -4,4 +4,3 @@ pub mod Writes
 pub mod Refusals
 pub mod Reads
 pub mod Held
-pub mod Spelled

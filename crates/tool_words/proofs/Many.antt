@@ -8,7 +8,7 @@ use Rattle.clap.specs.Walk.{Row, Text, Walk, finished, walked}
 use Rattle.clap.specs.declared.builder.value_parser.Reading.TheVariants.{AsWritten}
 use Rattle.clap.specs.declared.parser.matches.ValueSource.TheVariants.{CommandLine}
 use Rattle.clap.proofs.OnLiterals.{clap_on_literals}
-use Rattle.tool_words.specs.CommandLine.{compare_link, compare_link_operands, link, link_operands}
+use Rattle.tool_words.specs.CommandLine.{COMPARE_LINK, LINK}
 use Rattle.tool_words.specs.Reading.{request_in}
 use Rattle.tool_words.proofs.Leaf.{end_fault, fault_from, held, held_after, stand, unrolled}
 use Rattle.tool_words.proofs.Numbers.{AsksAll, leaf, some_wrong, wrong}
@@ -60,30 +60,30 @@ module _ (a b c d e f : Text) where
   link_words = a ∷ b ∷ c ∷ d ∷ e ∷ f ∷ []
 
   abbrev link_rows : List Row
-  link_rows = rows_of_words link_operands link_words
+  link_rows = rows_of_words LINK.operands link_words
 
-  link_next : (used : List Text) (last word : Text) → walked (leaf link).rules [] (behind link_rows used last) word ≡ behind link_rows (used ++ last ∷ []) word
+  link_next : (used : List Text) (last word : Text) → walked (leaf LINK).rules [] (behind link_rows used last) word ≡ behind link_rows (used ++ last ∷ []) word
   unfolding clap_on_literals
   link_next [] last word = refl
   link_next (first ∷ used) last word = refl
 
-  link_quiet : (used : List Text) (last word : Text) → turn_fault (leaf link) [] (behind link_rows used last) word ≡ []
+  link_quiet : (used : List Text) (last word : Text) → turn_fault (leaf LINK) [] (behind link_rows used last) word ≡ []
   unfolding clap_on_literals
   link_quiet [] last word = refl
   link_quiet (first ∷ used) last word = refl
 
-  link_ends : (used : List Text) (last : Text) → end_fault (leaf link) (behind link_rows used last).held ≡ []
+  link_ends : (used : List Text) (last : Text) → end_fault (leaf LINK) (behind link_rows used last).held ≡ []
   unfolding clap_on_literals
   link_ends [] last = refl
   link_ends (first ∷ used) last = refl
 
   link_all : (used : List Text) (last : Text)
-      → request_in ((leaf link).name, finished (leaf link).rules (behind link_rows used last).held) ≡ Some (codes "link" ∷ link_words ++ (used ++ last ∷ []))
+      → request_in ((leaf LINK).name, finished (leaf LINK).rules (behind link_rows used last).held) ≡ Some (LINK.name ∷ link_words ++ (used ++ last ∷ []))
   unfolding clap_on_literals
   link_all [] last = refl
   link_all (first ∷ used) last = refl
 
-  link_repeats : Repeats (leaf link) link_rows (codes "link" ∷ link_words)
+  link_repeats : Repeats (leaf LINK) link_rows (LINK.name ∷ link_words)
   link_repeats = record { next = link_next; quiet = link_quiet; ends = link_ends; asks = link_all }
 
 module _ (a b c d e f : Text) where
@@ -91,33 +91,33 @@ module _ (a b c d e f : Text) where
   compare_link_words = a ∷ b ∷ c ∷ d ∷ e ∷ f ∷ []
 
   abbrev compare_link_rows : List Row
-  compare_link_rows = rows_of_words compare_link_operands compare_link_words
+  compare_link_rows = rows_of_words COMPARE_LINK.operands compare_link_words
 
-  compare_link_next : (used : List Text) (last word : Text) → walked (leaf compare_link).rules [] (behind compare_link_rows used last) word ≡ behind compare_link_rows (used ++ last ∷ []) word
+  compare_link_next : (used : List Text) (last word : Text) → walked (leaf COMPARE_LINK).rules [] (behind compare_link_rows used last) word ≡ behind compare_link_rows (used ++ last ∷ []) word
   unfolding clap_on_literals
   compare_link_next [] last word = refl
   compare_link_next (first ∷ used) last word = refl
 
-  compare_link_quiet : (used : List Text) (last word : Text) → turn_fault (leaf compare_link) [] (behind compare_link_rows used last) word ≡ []
+  compare_link_quiet : (used : List Text) (last word : Text) → turn_fault (leaf COMPARE_LINK) [] (behind compare_link_rows used last) word ≡ []
   unfolding clap_on_literals
   compare_link_quiet [] last word = refl
   compare_link_quiet (first ∷ used) last word = refl
 
-  compare_link_ends : (used : List Text) (last : Text) → end_fault (leaf compare_link) (behind compare_link_rows used last).held ≡ []
+  compare_link_ends : (used : List Text) (last : Text) → end_fault (leaf COMPARE_LINK) (behind compare_link_rows used last).held ≡ []
   unfolding clap_on_literals
   compare_link_ends [] last = refl
   compare_link_ends (first ∷ used) last = refl
 
   compare_link_all : (used : List Text) (last : Text)
-      → request_in ((leaf compare_link).name, finished (leaf compare_link).rules (behind compare_link_rows used last).held) ≡ Some (codes "compare-link" ∷ compare_link_words ++ (used ++ last ∷ []))
+      → request_in ((leaf COMPARE_LINK).name, finished (leaf COMPARE_LINK).rules (behind compare_link_rows used last).held) ≡ Some (COMPARE_LINK.name ∷ compare_link_words ++ (used ++ last ∷ []))
   unfolding clap_on_literals
   compare_link_all [] last = refl
   compare_link_all (first ∷ used) last = refl
 
-  compare_link_repeats : Repeats (leaf compare_link) compare_link_rows (codes "compare-link" ∷ compare_link_words)
+  compare_link_repeats : Repeats (leaf COMPARE_LINK) compare_link_rows (COMPARE_LINK.name ∷ compare_link_words)
   compare_link_repeats = record { next = compare_link_next; quiet = compare_link_quiet; ends = compare_link_ends; asks = compare_link_all }
 
-pub link_asks : (values : List Text) → wrong link values ≡ [] → AsksAll link (codes "link") true 6 values
+pub link_asks : (values : List Text) → wrong LINK values ≡ [] → AsksAll LINK values
 unfolding clap_on_literals
 link_asks [] none = absurd (some_wrong none)
 link_asks (a ∷ []) none = absurd (some_wrong none)
@@ -128,7 +128,7 @@ link_asks (a ∷ b ∷ c ∷ d ∷ e ∷ []) none = absurd (some_wrong none)
 link_asks (a ∷ b ∷ c ∷ d ∷ e ∷ f ∷ []) none = absurd (some_wrong none)
 link_asks (a ∷ b ∷ c ∷ d ∷ e ∷ f ∷ object ∷ more) none = (many_asked _ _ _ (link_repeats a b c d e f) more [] object, omega arith)
 
-pub link_right : (values : List Text) → 6 < length values → wrong link values ≡ []
+pub link_right : (values : List Text) → 6 < length values → wrong LINK values ≡ []
 unfolding clap_on_literals
 link_right [] size = absurd (omega (arith, size))
 link_right (a ∷ []) size = absurd (omega (arith, size))
@@ -139,7 +139,7 @@ link_right (a ∷ b ∷ c ∷ d ∷ e ∷ []) size = absurd (omega (arith, size)
 link_right (a ∷ b ∷ c ∷ d ∷ e ∷ f ∷ []) size = absurd (omega (arith, size))
 link_right (a ∷ b ∷ c ∷ d ∷ e ∷ f ∷ object ∷ more) size = many_quiet _ _ _ (link_repeats a b c d e f) more [] object
 
-pub compare_link_asks : (values : List Text) → wrong compare_link values ≡ [] → AsksAll compare_link (codes "compare-link") true 6 values
+pub compare_link_asks : (values : List Text) → wrong COMPARE_LINK values ≡ [] → AsksAll COMPARE_LINK values
 unfolding clap_on_literals
 compare_link_asks [] none = absurd (some_wrong none)
 compare_link_asks (a ∷ []) none = absurd (some_wrong none)
@@ -150,7 +150,7 @@ compare_link_asks (a ∷ b ∷ c ∷ d ∷ e ∷ []) none = absurd (some_wrong n
 compare_link_asks (a ∷ b ∷ c ∷ d ∷ e ∷ f ∷ []) none = absurd (some_wrong none)
 compare_link_asks (a ∷ b ∷ c ∷ d ∷ e ∷ f ∷ object ∷ more) none = (many_asked _ _ _ (compare_link_repeats a b c d e f) more [] object, omega arith)
 
-pub compare_link_right : (values : List Text) → 6 < length values → wrong compare_link values ≡ []
+pub compare_link_right : (values : List Text) → 6 < length values → wrong COMPARE_LINK values ≡ []
 unfolding clap_on_literals
 compare_link_right [] size = absurd (omega (arith, size))
 compare_link_right (a ∷ []) size = absurd (omega (arith, size))

@@ -1,5 +1,5 @@
 -- The words of a command line: the program's name, a command's, and the command's own words.
-use Rattle.std.proofs.Common.{◌≡◌, ◌∙◌, ◌||◌, ◌++◌, ℕ, Bool, cond, true, false, List, [], ◌∷◌, length, drop, Option, Some, None, inl, inr, ap, ap₂, sym, subst, refl, append-nil, append_assoc}
+use Rattle.std.proofs.Common.{◌≡◌, ◌∙◌, ◌||◌, ◌++◌, Bool, cond, true, false, List, [], ◌∷◌, length, drop, Option, Some, None, inl, inr, ap, ap₂, sym, subst, refl, append-nil, append_assoc}
 use Rattle.std.specs.Prelude.{codes, find, fold, if◌then◌else◌, is_some, option_and_then, option_map}
 use Rattle.std.specs.List.{list_all}
 use Rattle.std.specs.Str.{bytes_eq}
@@ -11,8 +11,8 @@ use Rattle.clap.specs.Simple.{App, Shape, built, entered, names_of, rows_at, sub
 use Rattle.clap.specs.Walk.{Names, Row, Text, Walk, answers_to, finished, idle, nothing_held, settled, subcommand_met, walk, walk_from, walked}
 use Rattle.clap.proofs.FaultLemmas.{stopped_fault}
 use Rattle.clap.proofs.OnLiterals.{clap_on_literals}
-use Rattle.tool_words.specs.CommandLine.{command_line, compare, compare_link, demo, harden, link, rewrite, run, verify}
-use Rattle.tool_words.specs.Plain.{AsksAsRead, AsksFor, AsksIfFaultless, IsAmong, IsNumber, Operands, TakesMarked, TakesPlain, commands}
+use Rattle.tool_words.specs.CommandLine.{COMPARE, COMPARE_LINK, DEMO, HARDEN, Known, LINK, REWRITE, RUN, VERIFY, command_line, commands}
+use Rattle.tool_words.specs.Plain.{AsksAsRead, AsksFor, AsksIfFaultless, IsAmong, IsNumber, Operands, TakesMarked, TakesPlain}
 use Rattle.clap.specs.declared.error.kind.ErrorKind.{ErrorKind}
 use Rattle.clap.specs.declared.error.kind.ErrorKind.TheVariants.{DisplayHelp, DisplayVersion}
 use Rattle.tool_words.specs.HelpWords.{asks_help, asks_version}
@@ -31,19 +31,19 @@ abbrev pub stopped_at : Text → List Text → Walk
 stopped_at name words = record start { stopped = Some (name, words) }
 
 -- what is known of a command: its flags, its number of words, and how the walk comes to it
-record IsKnown (command : App) (name : Text) (has_objects : Bool) (named : ℕ) : Type 0 where
+record IsKnown (command : Known) : Type 0 where
   flat : list_all is_flat (leaf command).rules ≡ true
   only : list_all is_word_or_request (leaf command).rules ≡ true
-  asks : (values : List Text) → wrong command values ≡ [] → AsksAll command name has_objects named values
-  right : (values : List Text) → IsNumber has_objects named (length values) → wrong command values ≡ []
-  among : (values : List Text) → IsNumber has_objects named (length values) → IsAmong commands name values
-  fault_is : (words : List Text) → entered_fault app (Some (name, words)) ≡ level_fault (leaf command) [] nothing_held words false []
-  entered_is : (words : List Text) → entered app (Some (name, words)) ≡ Some (rows_at (leaf command) words)
-  request_is : (rows : List Row) → request_in ((leaf command).name, rows) ≡ request_in (name, rows)
-  begins : walked app.top.rules (names_of app) start name ≡ stopped_at name []
-  quiet : turn_fault app.top (names_of app) start name ≡ []
+  asks : (values : List Text) → wrong command values ≡ [] → AsksAll command values
+  right : (values : List Text) → IsNumber command.has_objects (length command.operands) (length values) → wrong command values ≡ []
+  among : (values : List Text) → IsNumber command.has_objects (length command.operands) (length values) → IsAmong commands command.name values
+  fault_is : (words : List Text) → entered_fault app (Some (command.name, words)) ≡ level_fault (leaf command) [] nothing_held words false []
+  entered_is : (words : List Text) → entered app (Some (command.name, words)) ≡ Some (rows_at (leaf command) words)
+  request_is : (rows : List Row) → request_in ((leaf command).name, rows) ≡ request_in (command.name, rows)
+  begins : walked app.top.rules (names_of app) start command.name ≡ stopped_at command.name []
+  quiet : turn_fault app.top (names_of app) start command.name ≡ []
 
-rewrite_known : IsKnown rewrite (codes "rewrite") false 6
+rewrite_known : IsKnown REWRITE
 unfolding clap_on_literals
 rewrite_known = record {
   flat = refl;
@@ -58,7 +58,7 @@ rewrite_known = record {
   quiet = refl;
 }
 
-verify_known : IsKnown verify (codes "verify") false 2
+verify_known : IsKnown VERIFY
 unfolding clap_on_literals
 verify_known = record {
   flat = refl;
@@ -73,7 +73,7 @@ verify_known = record {
   quiet = refl;
 }
 
-run_known : IsKnown run (codes "run") false 5
+run_known : IsKnown RUN
 unfolding clap_on_literals
 run_known = record {
   flat = refl;
@@ -88,7 +88,7 @@ run_known = record {
   quiet = refl;
 }
 
-compare_known : IsKnown compare (codes "compare") false 7
+compare_known : IsKnown COMPARE
 unfolding clap_on_literals
 compare_known = record {
   flat = refl;
@@ -103,7 +103,7 @@ compare_known = record {
   quiet = refl;
 }
 
-demo_known : IsKnown demo (codes "demo") false 1
+demo_known : IsKnown DEMO
 unfolding clap_on_literals
 demo_known = record {
   flat = refl;
@@ -118,7 +118,7 @@ demo_known = record {
   quiet = refl;
 }
 
-harden_known : IsKnown harden (codes "harden") false 7
+harden_known : IsKnown HARDEN
 unfolding clap_on_literals
 harden_known = record {
   flat = refl;
@@ -133,7 +133,7 @@ harden_known = record {
   quiet = refl;
 }
 
-link_known : IsKnown link (codes "link") true 6
+link_known : IsKnown LINK
 unfolding clap_on_literals
 link_known = record {
   flat = refl;
@@ -148,7 +148,7 @@ link_known = record {
   quiet = refl;
 }
 
-compare_link_known : IsKnown compare_link (codes "compare-link") true 6
+compare_link_known : IsKnown COMPARE_LINK
 unfolding clap_on_literals
 compare_link_known = record {
   flat = refl;
@@ -188,46 +188,51 @@ top_quiet : (stop : Option (Text × List Text)) (p : Text × List Row) → enter
 unfolding clap_on_literals
 top_quiet stop p e = rw e refl
 
-module _ (command : App) (name : Text) (has_objects : Bool) (named : ℕ) (known : IsKnown command name has_objects named) (program : Text)
-    (words values : List Text) (same : AreAlike (leaf command) false nothing_held 1 words values) (number : IsNumber has_objects named (length values)) where
-  walk_is : args_walk (name ∷ words) ≡ stopped_at name words
-  walk_is = ap (λ w. fold (walked app.top.rules (names_of app)) w words) known.begins ∙ walks_on name [] words
+module _ (command : Known) (known : IsKnown command) (program : Text) (words values : List Text)
+    (same : AreAlike (leaf command) false nothing_held 1 words values)
+    (number : IsNumber command.has_objects (length command.operands) (length values)) where
+  abbrev own : Text
+  own = command.name
 
-  walk_quiet : args_fault (name ∷ words) ≡ []
+  walk_is : args_walk (own ∷ words) ≡ stopped_at own words
+  walk_is = ap (λ w. fold (walked app.top.rules (names_of app)) w words) known.begins ∙ walks_on own [] words
+
+  walk_quiet : args_fault (own ∷ words) ≡ []
   unfolding walk_fault
-  walk_quiet = ap₂ or_else known.quiet (ap (λ w. walk_fault app.top (names_of app) w words) known.begins ∙ stopped_fault app.top (names_of app) start (name, []) words)
+  walk_quiet = ap₂ or_else known.quiet (ap (λ w. walk_fault app.top (names_of app) w words) known.begins ∙ stopped_fault app.top (names_of app) start (own, []) words)
 
-  entered_quiet : entered_fault app (Some (name, words)) ≡ []
+  entered_quiet : entered_fault app (Some (own, words)) ≡ []
   entered_quiet = known.fault_is words ∙ same.0 ∙ known.right values number
 
-  faultless : fault_of command_line (program ∷ name ∷ words) ≡ []
+  faultless : fault_of command_line (program ∷ own ∷ words) ≡ []
   faultless = ap₂ top_fault walk_is walk_quiet
-      ∙ ap₂ or_else entered_quiet (top_quiet (Some (name, words)) (rows_at (leaf command) words) (known.entered_is words))
+      ∙ ap₂ or_else entered_quiet (top_quiet (Some (own, words)) (rows_at (leaf command) words) (known.entered_is words))
 
-  asked_is : option_and_then request_in (subcommand_of command_line (program ∷ name ∷ words)) ≡ Some (name ∷ values)
+  asked_is : option_and_then request_in (subcommand_of command_line (program ∷ own ∷ words)) ≡ Some (own ∷ values)
   asked_is = ap (λ (w : Walk). option_and_then request_in (entered app w.stopped)) walk_is ∙ ap (option_and_then request_in) (known.entered_is words)
       ∙ ap (λ h. request_in ((leaf command).name, finished (leaf command).rules h)) same.1 ∙ (known.asks values (known.right values number)).0
 
-  known_taken : reading (program ∷ name ∷ words) ≡ asks (name ∷ values)
-  known_taken = ap (if_alone (program ∷ name ∷ words)) (ap₂ reading_by faultless asked_is)
+  known_taken : reading (program ∷ own ∷ words) ≡ asks (own ∷ values)
+  known_taken = ap (if_alone (program ∷ own ∷ words)) (ap₂ reading_by faultless asked_is)
 
 -- words that are alike a command's after `--` are taken for these
 module _ (program name : Text) (words values : List Text)
     (same : (s : Shape) → list_all is_flat s.rules ≡ true → AreAlike s false nothing_held 1 words values) where
-  as_known : (command : App) (known : Text) (has_objects : Bool) (named : ℕ) → IsKnown command known has_objects named
-      → (known ≡ name) × IsNumber has_objects named (length values) → reading (program ∷ name ∷ words) ≡ asks (name ∷ values)
-  as_known command known has_objects named knows is = subst (λ n. reading (program ∷ n ∷ words) ≡ asks (n ∷ values)) is.0
-      (known_taken command known has_objects named knows program words values (same (leaf command) knows.flat) is.1)
+  as_known : (command : Known) → IsKnown command
+      → (command.name ≡ name) × IsNumber command.has_objects (length command.operands) (length values)
+      → reading (program ∷ name ∷ words) ≡ asks (name ∷ values)
+  as_known command known is = subst (λ n. reading (program ∷ n ∷ words) ≡ asks (n ∷ values)) is.0
+      (known_taken command known program words values (same (leaf command) known.flat) is.1)
 
   alike_taken : IsAmong commands name values → reading (program ∷ name ∷ words) ≡ asks (name ∷ values)
-  alike_taken (inl is) = as_known _ _ _ _ rewrite_known is
-  alike_taken (inr (inl is)) = as_known _ _ _ _ verify_known is
-  alike_taken (inr (inr (inl is))) = as_known _ _ _ _ run_known is
-  alike_taken (inr (inr (inr (inl is)))) = as_known _ _ _ _ compare_known is
-  alike_taken (inr (inr (inr (inr (inl is))))) = as_known _ _ _ _ demo_known is
-  alike_taken (inr (inr (inr (inr (inr (inl is)))))) = as_known _ _ _ _ harden_known is
-  alike_taken (inr (inr (inr (inr (inr (inr (inl is))))))) = as_known _ _ _ _ link_known is
-  alike_taken (inr (inr (inr (inr (inr (inr (inr (inl is)))))))) = as_known _ _ _ _ compare_link_known is
+  alike_taken (inl is) = as_known _ rewrite_known is
+  alike_taken (inr (inl is)) = as_known _ verify_known is
+  alike_taken (inr (inr (inl is))) = as_known _ run_known is
+  alike_taken (inr (inr (inr (inl is)))) = as_known _ compare_known is
+  alike_taken (inr (inr (inr (inr (inl is))))) = as_known _ demo_known is
+  alike_taken (inr (inr (inr (inr (inr (inl is)))))) = as_known _ harden_known is
+  alike_taken (inr (inr (inr (inr (inr (inr (inl is))))))) = as_known _ link_known is
+  alike_taken (inr (inr (inr (inr (inr (inr (inr (inl is)))))))) = as_known _ compare_link_known is
   alike_taken (inr (inr (inr (inr (inr (inr (inr (inr no_more)))))))) = absurd no_more
 
 -- ---- words without a fault
@@ -236,9 +241,9 @@ abbrev Entered : Text → List Text → Type 0
 Entered name rest = (values : List Text) × Operands rest values × IsAmong commands name values
     × (option_and_then request_in (entered app (Some (name, rest))) ≡ Some (name ∷ values))
 
-known_entered : (command : App) (name : Text) (has_objects : Bool) (named : ℕ) → IsKnown command name has_objects named → (rest : List Text)
-    → entered_fault app (Some (name, rest)) ≡ [] → Entered name rest
-known_entered command name has_objects named known rest quiet =
+known_entered : (command : Known) → IsKnown command → (rest : List Text) → entered_fault app (Some (command.name, rest)) ≡ []
+    → Entered command.name rest
+known_entered command known rest quiet =
     let read = words_read (leaf command) known.flat known.only rest false nothing_held 1 refl (sym (known.fault_is rest) ∙ quiet) in
     let asks = known.asks read.values read.faultless in (
       read.values,
@@ -252,22 +257,22 @@ named_as : (known name : Text) → bytes_eq known name ≡ true → known ≡ na
 named_as known name e = (bytes_eq-Decides known name).0 e
 
 entered_by_name : (name : Text) (rest : List Text) → is_some (entered app (Some (name, rest))) ≡ true → entered_fault app (Some (name, rest)) ≡ [] → Entered name rest
-entered_by_name name rest has quiet = elim (cases_Bool (bytes_eq (codes "rewrite") name)) [
-  | inl e ↦ as_known _ _ _ _ rewrite_known (named_as _ name e)
-  | inr one ↦ elim (cases_Bool (bytes_eq (codes "verify") name)) [
-    | inl e ↦ as_known _ _ _ _ verify_known (named_as _ name e)
-    | inr two ↦ elim (cases_Bool (bytes_eq (codes "run") name)) [
-      | inl e ↦ as_known _ _ _ _ run_known (named_as _ name e)
-      | inr three ↦ elim (cases_Bool (bytes_eq (codes "compare") name)) [
-        | inl e ↦ as_known _ _ _ _ compare_known (named_as _ name e)
-        | inr four ↦ elim (cases_Bool (bytes_eq (codes "demo") name)) [
-          | inl e ↦ as_known _ _ _ _ demo_known (named_as _ name e)
-          | inr five ↦ elim (cases_Bool (bytes_eq (codes "harden") name)) [
-            | inl e ↦ as_known _ _ _ _ harden_known (named_as _ name e)
-            | inr six ↦ elim (cases_Bool (bytes_eq (codes "link") name)) [
-              | inl e ↦ as_known _ _ _ _ link_known (named_as _ name e)
-              | inr seven ↦ elim (cases_Bool (bytes_eq (codes "compare-link") name)) [
-                | inl e ↦ as_known _ _ _ _ compare_link_known (named_as _ name e)
+entered_by_name name rest has quiet = elim (cases_Bool (bytes_eq REWRITE.name name)) [
+  | inl e ↦ as_known _ rewrite_known (named_as _ name e)
+  | inr one ↦ elim (cases_Bool (bytes_eq VERIFY.name name)) [
+    | inl e ↦ as_known _ verify_known (named_as _ name e)
+    | inr two ↦ elim (cases_Bool (bytes_eq RUN.name name)) [
+      | inl e ↦ as_known _ run_known (named_as _ name e)
+      | inr three ↦ elim (cases_Bool (bytes_eq COMPARE.name name)) [
+        | inl e ↦ as_known _ compare_known (named_as _ name e)
+        | inr four ↦ elim (cases_Bool (bytes_eq DEMO.name name)) [
+          | inl e ↦ as_known _ demo_known (named_as _ name e)
+          | inr five ↦ elim (cases_Bool (bytes_eq HARDEN.name name)) [
+            | inl e ↦ as_known _ harden_known (named_as _ name e)
+            | inr six ↦ elim (cases_Bool (bytes_eq LINK.name name)) [
+              | inl e ↦ as_known _ link_known (named_as _ name e)
+              | inr seven ↦ elim (cases_Bool (bytes_eq COMPARE_LINK.name name)) [
+                | inl e ↦ as_known _ compare_link_known (named_as _ name e)
                 | inr eight ↦ let bad : false ≡ true = rw (one, two, three, four, five, six, seven, eight) at has in absurd (cc)
               ]
             ]
@@ -278,9 +283,8 @@ entered_by_name name rest has quiet = elim (cases_Bool (bytes_eq (codes "rewrite
   ]
 ]
   where
-    as_known : (command : App) (known : Text) (has_objects : Bool) (named : ℕ) → IsKnown command known has_objects named → known ≡ name → Entered name rest
-    as_known command known has_objects named is e =
-        subst (λ n. entered_fault app (Some (n, rest)) ≡ [] → Entered n rest) e (known_entered command known has_objects named is rest) quiet
+    as_known : (command : Known) → IsKnown command → command.name ≡ name → Entered name rest
+    as_known command known e = subst (λ n. entered_fault app (Some (n, rest)) ≡ [] → Entered n rest) e (known_entered command known rest) quiet
 
 abbrev has_no_alias : Text × List Text → Bool
 has_no_alias (name, []) = true

@@ -1,5 +1,5 @@
 -- The command line as `clap` has it: the program's commands, each with the words that it wants.
-use Rattle.std.specs.Prelude.{◌≡◌, ⊤, Bool, true, false, List, [], ◌∷◌, map, fold, codes, Some}
+use Rattle.std.specs.Prelude.{◌≡◌, ⊤, Bool, true, false, List, [], ◌∷◌, ◌++◌, map, fold, codes, Some}
 use Rattle.std.specs.Borrow.{Bor}
 use Rattle.clap.specs.Words.{App, Rule, Text, app_of, new_app, new_rule, rule_of, with_rule, with_subcommand}
 use Rattle.clap.specs.declared.builder.action.ArgAction.TheVariants.{Append}
@@ -32,59 +32,65 @@ abbrev pub with_objects : Bool → App → App
 with_objects true app = with_rule app (many (codes "OBJECT"))
 with_objects false app = app
 
+-- a command: its name, the names of its words, in their order, and whether one object or more follow these words
+pub record Known : Type 0 where
+  pub name : Text
+  pub operands : List Text
+  pub has_objects : Bool
+
+abbrev pub known : Text → List Text → Bool → Known
+known name operands has_objects = record { name = name; operands = operands; has_objects = has_objects }
+
+-- the form of a command
+abbrev pub form_by : Known → App
+form_by command = with_objects command.has_objects (form command.name command.operands)
+
 -- the command that a row of the program's table is
 abbrev pub form_of : Form → App
-form_of row = with_objects row.has_objects (form row.name.now (names row.operands.now))
+form_of row = form_by (known row.name.now (names row.operands.now) row.has_objects)
 
--- the names of the words of each command, in their order, but for objects of which there may be several
-abbrev pub rewrite_operands : List Text
-rewrite_operands = codes "OBJECT" ∷ codes "ENTRY" ∷ codes "POLICY" ∷ codes "IMAGE" ∷ codes "GRAPH" ∷ codes "MAP" ∷ []
+abbrev pub REWRITE : Known
+REWRITE = known (codes "rewrite") (codes "OBJECT" ∷ codes "ENTRY" ∷ codes "POLICY" ∷ codes "IMAGE" ∷ codes "GRAPH" ∷ codes "MAP" ∷ []) false
 
-abbrev pub verify_operands : List Text
-verify_operands = codes "IMAGE" ∷ codes "GRAPH" ∷ []
+abbrev pub VERIFY : Known
+VERIFY = known (codes "verify") (codes "IMAGE" ∷ codes "GRAPH" ∷ []) false
 
-abbrev pub run_operands : List Text
-run_operands = codes "IMAGE" ∷ codes "GRAPH" ∷ codes "SCRIPT" ∷ codes "INPUT" ∷ codes "STEPS" ∷ []
+abbrev pub RUN : Known
+RUN = known (codes "run") (codes "IMAGE" ∷ codes "GRAPH" ∷ codes "SCRIPT" ∷ codes "INPUT" ∷ codes "STEPS" ∷ []) false
 
-abbrev pub compare_operands : List Text
-compare_operands = codes "OBJECT" ∷ codes "ENTRY" ∷ codes "POLICY" ∷ codes "IMAGE" ∷ codes "MAP" ∷ codes "INPUT" ∷ codes "STEPS" ∷ []
+abbrev pub COMPARE : Known
+COMPARE =
+    known (codes "compare")
+    (codes "OBJECT" ∷ codes "ENTRY" ∷ codes "POLICY" ∷ codes "IMAGE" ∷ codes "MAP" ∷ codes "INPUT" ∷ codes "STEPS" ∷ []) false
 
-abbrev pub demo_operands : List Text
-demo_operands = codes "NUMBER" ∷ []
+abbrev pub DEMO : Known
+DEMO = known (codes "demo") (codes "NUMBER" ∷ []) false
 
 -- a form, and then the words of `rewrite`
-abbrev pub harden_operands : List Text
-harden_operands = codes "FORM" ∷ rewrite_operands
+abbrev pub HARDEN : Known
+HARDEN = known (codes "harden") (codes "FORM" ∷ REWRITE.operands) false
 
-abbrev pub link_operands : List Text
-link_operands = codes "FORM" ∷ codes "ENTRY" ∷ codes "POLICY" ∷ codes "IMAGE" ∷ codes "GRAPH" ∷ codes "MAP" ∷ []
+abbrev pub LINK : Known
+LINK = known (codes "link") (codes "FORM" ∷ codes "ENTRY" ∷ codes "POLICY" ∷ codes "IMAGE" ∷ codes "GRAPH" ∷ codes "MAP" ∷ []) true
 
-abbrev pub compare_link_operands : List Text
-compare_link_operands = codes "ENTRY" ∷ codes "POLICY" ∷ codes "IMAGE" ∷ codes "MAP" ∷ codes "INPUT" ∷ codes "STEPS" ∷ []
+abbrev pub COMPARE_LINK : Known
+COMPARE_LINK =
+    known (codes "compare-link")
+    (codes "ENTRY" ∷ codes "POLICY" ∷ codes "IMAGE" ∷ codes "MAP" ∷ codes "INPUT" ∷ codes "STEPS" ∷ []) true
 
-abbrev pub rewrite : App
-rewrite = form (codes "rewrite") rewrite_operands
+-- each command, in the order of the help
+abbrev pub commands : List Known
+commands = REWRITE ∷ VERIFY ∷ RUN ∷ COMPARE ∷ DEMO ∷ HARDEN ∷ LINK ∷ COMPARE_LINK ∷ []
 
-abbrev pub verify : App
-verify = form (codes "verify") verify_operands
+-- their names, with a bar between two
+abbrev pub barred : List Known → Text
+barred [] = []
+barred (command ∷ []) = command.name
+barred (command ∷ rest) = command.name ++ codes "|" ++ barred rest
 
-abbrev pub run : App
-run = form (codes "run") run_operands
-
-abbrev pub compare : App
-compare = form (codes "compare") compare_operands
-
-abbrev pub demo : App
-demo = form (codes "demo") demo_operands
-
-abbrev pub harden : App
-harden = form (codes "harden") harden_operands
-
-abbrev pub link : App
-link = with_objects true (form (codes "link") link_operands)
-
-abbrev pub compare_link : App
-compare_link = with_objects true (form (codes "compare-link") compare_link_operands)
+-- the line that tells which commands there are
+abbrev pub usage : Text
+usage = codes "usage: rvcfi " ++ barred commands
 
 -- the program without its commands: it has a version, wants a command, and has no command for help
 abbrev pub program : App
@@ -97,7 +103,7 @@ abbrev pub with_command : App → App → App
 with_command app command = with_subcommand app command.top
 
 abbrev pub command_line : App
-command_line = fold with_command program (rewrite ∷ verify ∷ run ∷ compare ∷ demo ∷ harden ∷ link ∷ compare_link ∷ [])
+command_line = fold with_command program (map form_by commands)
 
 -- an argument has this rule, and holds for its own command alone
 abbrev pub IsArgument : Rule → Arg → Type 0

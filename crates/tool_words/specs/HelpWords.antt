@@ -1,12 +1,12 @@
 -- Words that ask for help or for the version, and for nothing else.
 use Rattle.std.specs.Prelude.{◌||◌, ◌&&◌, Bool, false, List, [], ◌∷◌, codes}
+use Rattle.std.specs.List.{list_any}
 use Rattle.std.specs.Str.{bytes_eq}
 use Rattle.clap.specs.Words.{Text}
+use Rattle.tool_words.specs.CommandLine.{commands}
 
 abbrev pub is_command : Text → Bool
-is_command name =
-    bytes_eq name (codes "rewrite") || bytes_eq name (codes "verify") || bytes_eq name (codes "run") || bytes_eq name (codes "compare")
-    || bytes_eq name (codes "demo") || bytes_eq name (codes "harden") || bytes_eq name (codes "link") || bytes_eq name (codes "compare-link")
+is_command name = list_any (λ command. bytes_eq name command.name) commands
 
 abbrev pub is_help : Text → Bool
 is_help word = bytes_eq word (codes "-h") || bytes_eq word (codes "--help")

@@ -3,29 +3,12 @@ use Rattle.std.specs.Prelude.{◌≡◌, ◌≢◌, ◌⊎◌, ◌<◌, ◌==◌
 use Rattle.std.specs.List.{list_all}
 use Rattle.clap.specs.Words.{Text, fault_of}
 use Rattle.tool_words.specs.Reading.{asks, reading}
-use Rattle.tool_words.specs.CommandLine.{command_line, compare_link_operands, compare_operands, demo_operands, harden_operands, link_operands, rewrite_operands, run_operands, verify_operands}
+use Rattle.tool_words.specs.CommandLine.{Known, command_line, commands}
 
 -- the word is not empty and does not begin with a hyphen (45)
 abbrev pub is_plain : Text → Bool
 is_plain [] = false
 is_plain (x ∷ xs) = not (x == 45)
-
--- a command: its name, the names of its words, and whether one object or more follow these words
-pub record Known : Type 0 where
-  pub name : Text
-  pub operands : List Text
-  pub has_objects : Bool
-
--- each command
-abbrev pub commands : List Known
-commands = record { name = codes "rewrite"; operands = rewrite_operands; has_objects = false }
-    ∷ record { name = codes "verify"; operands = verify_operands; has_objects = false }
-    ∷ record { name = codes "run"; operands = run_operands; has_objects = false }
-    ∷ record { name = codes "compare"; operands = compare_operands; has_objects = false }
-    ∷ record { name = codes "demo"; operands = demo_operands; has_objects = false }
-    ∷ record { name = codes "harden"; operands = harden_operands; has_objects = false }
-    ∷ record { name = codes "link"; operands = link_operands; has_objects = true }
-    ∷ record { name = codes "compare-link"; operands = compare_link_operands; has_objects = true } ∷ []
 
 -- so many words are as many as have names, or more where objects follow
 abbrev pub IsNumber : Bool → ℕ → ℕ → Type 0

@@ -1,13 +1,13 @@
 -- What the words of a command line are read as. Whether they are taken, and what the words of a command are, is what `clap`'s own
 -- definition says of the command line at these words; but help and the version are told only where nothing else is asked for.
-use Rattle.std.specs.Prelude.{◌≡◌, ◌≢◌, ⊤, List, [], ◌∷◌, ◌++◌, map, codes, Option, Some, None, option_map, option_and_then, Result, Ok, Err, if◌then◌else◌, String, string_bytes}
+use Rattle.std.specs.Prelude.{◌≡◌, ◌≢◌, ⊤, Bool, true, false, List, [], ◌∷◌, ◌++◌, map, codes, Option, Some, None, option_map, option_and_then, Result, Ok, Err, if◌then◌else◌, String, string_bytes}
 use Rattle.std.specs.Str.{bytes_eq}
 use Rattle.std.specs.declared.alloc.Global.{Global}
 use Rattle.clap.specs.Words.{Kinds, Row, Text, all_of, fault_of, first_of, subcommand_of}
 use Rattle.clap.specs.Walk.{texts}
 use Rattle.clap.specs.declared.error.kind.ErrorKind.{ErrorKind}
 use Rattle.clap.specs.declared.error.kind.ErrorKind.TheVariants.{DisplayHelp, DisplayVersion, OutOfMemory}
-use Rattle.tool_words.specs.CommandLine.{command_line, compare_link_operands, compare_operands, demo_operands, harden_operands, link_operands, rewrite_operands, run_operands, verify_operands}
+use Rattle.tool_words.specs.CommandLine.{COMPARE, COMPARE_LINK, DEMO, HARDEN, Known, LINK, REWRITE, RUN, VERIFY, command_line, commands}
 use Rattle.tool_words.specs.HelpWords.{asks_help, asks_version}
 use Rattle.tool_words.specs.declared.asked.Asked.{Asked}
 use Rattle.tool_words.specs.declared.asked.Asked.TheVariants.{Rewrite, Verify, Run, Compare, Demo, Harden, Link, CompareLink}
@@ -42,25 +42,22 @@ gathered (Some word ∷ rest) = option_map (λ words. word ∷ words) (gathered 
 abbrev pub listed_in : List Text → List Row → Option (List Text)
 listed_in operands rows = gathered (map (λ operand. first_of operand rows) operands)
 
-abbrev pub request : Text → List Text → List Row → Option (List Text)
-request name operands rows = option_map (λ words. name ∷ words) (listed_in operands rows)
-
--- the same, with the objects behind them
-abbrev pub request_with_objects : Text → List Text → List Row → Option (List Text)
-request_with_objects name operands rows =
+-- a command's name and its words, as they stand in what was matched, with the objects behind them where it has any
+abbrev pub request_by : Bool → Text → List Text → List Row → Option (List Text)
+request_by false name operands rows = option_map (λ words. name ∷ words) (listed_in operands rows)
+request_by true name operands rows =
     option_and_then (λ objects. option_map (λ words. name ∷ words ++ objects) (listed_in operands rows)) (all_of (codes "OBJECT") rows)
 
--- a command's name and its words, as they stand in what was matched
+abbrev pub request : Known → List Row → Option (List Text)
+request command rows = request_by command.has_objects command.name command.operands rows
+
+-- the same of the command with a name
+abbrev pub request_among : List Known → Text → List Row → Option (List Text)
+request_among [] name rows = None
+request_among (command ∷ rest) name rows = if bytes_eq name command.name then request command rows else request_among rest name rows
+
 abbrev pub request_in : Text × List Row → Option (List Text)
-request_in (name, rows) =
-    if bytes_eq name (codes "rewrite") then request (codes "rewrite") rewrite_operands rows else
-    if bytes_eq name (codes "verify") then request (codes "verify") verify_operands rows else
-    if bytes_eq name (codes "run") then request (codes "run") run_operands rows else
-    if bytes_eq name (codes "compare") then request (codes "compare") compare_operands rows else
-    if bytes_eq name (codes "demo") then request (codes "demo") demo_operands rows else
-    if bytes_eq name (codes "harden") then request (codes "harden") harden_operands rows else
-    if bytes_eq name (codes "link") then request_with_objects (codes "link") link_operands rows else
-    if bytes_eq name (codes "compare-link") then request_with_objects (codes "compare-link") compare_link_operands rows else None
+request_in (name, rows) = request_among commands name rows
 
 -- what an error of this kind tells
 abbrev pub told : ErrorKind → Reading
@@ -118,14 +115,14 @@ compare_link_listed w = w.entry.now ∷ w.policy.now ∷ w.image.now ∷ w.map.n
 
 -- the name of a command and its words
 abbrev pub request_of : Asked → List Text
-request_of (Rewrite w) = codes "rewrite" ∷ rewrite_listed w
-request_of (Verify w) = codes "verify" ∷ verify_listed w
-request_of (Run w) = codes "run" ∷ run_listed w
-request_of (Compare w) = codes "compare" ∷ compare_listed w
-request_of (Demo w) = codes "demo" ∷ demo_listed w
-request_of (Harden w) = codes "harden" ∷ harden_listed w
-request_of (Link w) = codes "link" ∷ link_listed w
-request_of (CompareLink w) = codes "compare-link" ∷ compare_link_listed w
+request_of (Rewrite w) = REWRITE.name ∷ rewrite_listed w
+request_of (Verify w) = VERIFY.name ∷ verify_listed w
+request_of (Run w) = RUN.name ∷ run_listed w
+request_of (Compare w) = COMPARE.name ∷ compare_listed w
+request_of (Demo w) = DEMO.name ∷ demo_listed w
+request_of (Harden w) = HARDEN.name ∷ harden_listed w
+request_of (Link w) = LINK.name ∷ link_listed w
+request_of (CompareLink w) = COMPARE_LINK.name ∷ compare_link_listed w
 
 -- the result is what words with this reading come to, or memory was wanting
 abbrev pub Gives : Reading → Result Asked WordsEnd → Type 0

@@ -1,5 +1,5 @@
-ghost use Rattle.std.specs.Prelude.{IfOk, codes, map};
-ghost use Rattle.tool_words.specs.CommandLine.{AreCommands, IsArgument, IsCommand, command_line, form_of, many};
+ghost use Rattle.std.specs.Prelude.{◌≡◌, IfOk, codes, map};
+ghost use Rattle.tool_words.specs.CommandLine.{AreCommands, IsArgument, IsCommand, command_line, form_of, many, usage};
 
 use clap::{Arg, ArgAction, Command};
 use std::alloc::{AllocError, Global};
@@ -7,15 +7,15 @@ use std::alloc::{AllocError, Global};
 const VERSION: &str = "1.0.0";
 
 /// A command: its name, what it does, the words that it wants, each with what it is, and whether one object or more follow them.
-struct Form {
-    name: &'static str,
+pub(crate) struct Form {
+    pub(crate) name: &'static str,
     about: &'static str,
     operands: &'static [(&'static str, &'static str)],
     has_objects: bool,
 }
 
 /// The commands, in the order of the help.
-static COMMANDS: [Form; 8] = [
+pub(crate) static COMMANDS: [Form; 8] = [
     Form {
         name: "rewrite",
         about: "Hardens an object: writes an image, its graph and its map",
@@ -117,6 +117,16 @@ static COMMANDS: [Form; 8] = [
         has_objects: true,
     },
 ];
+
+/// Their names, behind the program's.
+const USAGE: &str = "usage: rvcfi rewrite|verify|run|compare|demo|harden|link|compare-link";
+
+/// The line that tells which commands there are.
+pub fn usage() -> &'static str
+    ensures { result.now ≡ usage }
+{
+    USAGE
+}
 
 /// The word of which a command wants one or more: an object.
 fn objects<'a>(alloc: Global) -> Arg<'a>

@@ -6,6 +6,7 @@ pub use asked::{
     Asked, CompareLinkWords, CompareWords, DemoWords, HardenWords, LinkWords, RewriteWords,
     RunWords, VerifyWords,
 };
+pub use command::usage;
 pub use end::WordsEnd;
 pub use read::read_words;
 

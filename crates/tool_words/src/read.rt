@@ -4,8 +4,8 @@ ghost use Rattle.std.specs.Prelude.{◌≡◌, IfOk, [], ◌∷◌, ◌++◌, co
 ghost use Rattle.clap.specs.Words.{all_of, first_of, found_of, kind_of, rows_of, subcommand_rows_of};
 ghost use Rattle.clap.specs.Walk.{texts};
 ghost use Rattle.tool_words.specs.Plain.{AsksAsRead, AsksIfFaultless, TakesMarked, TakesPlain};
-ghost use Rattle.tool_words.specs.CommandLine.{compare_link_operands, compare_operands, demo_operands, harden_operands, link_operands, rewrite_operands, run_operands, verify_operands};
-ghost use Rattle.tool_words.specs.Reading.{EndsBy, Gives, asked_or_refused, listed_in, reading, request, request_in, request_of, request_with_objects, rewrite_listed, spelled};
+ghost use Rattle.tool_words.specs.CommandLine.{COMPARE, COMPARE_LINK, DEMO, HARDEN, LINK, REWRITE, RUN, VERIFY};
+ghost use Rattle.tool_words.specs.Reading.{EndsBy, Gives, asked_or_refused, listed_in, reading, request, request_in, request_of, rewrite_listed, spelled};
 
 use crate::asked::{
     Asked, CompareLinkWords, CompareWords, DemoWords, HardenWords, LinkWords, RewriteWords,
@@ -41,7 +41,7 @@ fn two_words<'a>(matches: &ArgMatches<'a>, first: &str, second: &str) -> Option<
 
 /// The words of `rewrite`, if each is there.
 fn rewrite_words<'a>(matches: &ArgMatches<'a>) -> Option<RewriteWords<'a>>
-    ensures { option_map rewrite_listed result ≡ listed_in rewrite_operands (rows_of (found_of matches.now)) }
+    ensures { option_map rewrite_listed result ≡ listed_in REWRITE.operands (rows_of (found_of matches.now)) }
 {
     let (((object, entry), (policy, image)), (graph, map)) = two_words(matches, "OBJECT", "ENTRY")
         .zip(two_words(matches, "POLICY", "IMAGE"))
@@ -58,7 +58,7 @@ fn rewrite_words<'a>(matches: &ArgMatches<'a>) -> Option<RewriteWords<'a>>
 
 /// `rewrite` and its words, if each is there.
 fn rewrite<'a>(matches: &ArgMatches<'a>) -> Option<Asked<'a>>
-    ensures { option_map request_of result ≡ request (codes "rewrite") rewrite_operands (rows_of (found_of matches.now)) }
+    ensures { option_map request_of result ≡ request REWRITE (rows_of (found_of matches.now)) }
 {
     let words = rewrite_words(matches)?;
     Some(Asked::Rewrite(words))
@@ -66,7 +66,7 @@ fn rewrite<'a>(matches: &ArgMatches<'a>) -> Option<Asked<'a>>
 
 /// `harden` and its words, if each is there.
 fn harden<'a>(matches: &ArgMatches<'a>) -> Option<Asked<'a>>
-    ensures { option_map request_of result ≡ request (codes "harden") harden_operands (rows_of (found_of matches.now)) }
+    ensures { option_map request_of result ≡ request HARDEN (rows_of (found_of matches.now)) }
 {
     let (form, rewrite) = word(matches, "FORM").zip(rewrite_words(matches))?;
     Some(Asked::Harden(HardenWords { form, rewrite }))
@@ -74,7 +74,7 @@ fn harden<'a>(matches: &ArgMatches<'a>) -> Option<Asked<'a>>
 
 /// `verify` and its words, if each is there.
 fn verify<'a>(matches: &ArgMatches<'a>) -> Option<Asked<'a>>
-    ensures { option_map request_of result ≡ request (codes "verify") verify_operands (rows_of (found_of matches.now)) }
+    ensures { option_map request_of result ≡ request VERIFY (rows_of (found_of matches.now)) }
 {
     let (image, graph) = two_words(matches, "IMAGE", "GRAPH")?;
     Some(Asked::Verify(VerifyWords { image, graph }))
@@ -82,7 +82,7 @@ fn verify<'a>(matches: &ArgMatches<'a>) -> Option<Asked<'a>>
 
 /// `run` and its words, if each is there.
 fn run<'a>(matches: &ArgMatches<'a>) -> Option<Asked<'a>>
-    ensures { option_map request_of result ≡ request (codes "run") run_operands (rows_of (found_of matches.now)) }
+    ensures { option_map request_of result ≡ request RUN (rows_of (found_of matches.now)) }
 {
     let (((image, graph), (script, input)), steps) = two_words(matches, "IMAGE", "GRAPH")
         .zip(two_words(matches, "SCRIPT", "INPUT"))
@@ -98,7 +98,7 @@ fn run<'a>(matches: &ArgMatches<'a>) -> Option<Asked<'a>>
 
 /// `compare` and its words, if each is there.
 fn compare<'a>(matches: &ArgMatches<'a>) -> Option<Asked<'a>>
-    ensures { option_map request_of result ≡ request (codes "compare") compare_operands (rows_of (found_of matches.now)) }
+    ensures { option_map request_of result ≡ request COMPARE (rows_of (found_of matches.now)) }
 {
     let (((object, entry), (policy, image)), (map, input)) = two_words(matches, "OBJECT", "ENTRY")
         .zip(two_words(matches, "POLICY", "IMAGE"))
@@ -117,7 +117,7 @@ fn compare<'a>(matches: &ArgMatches<'a>) -> Option<Asked<'a>>
 
 /// `demo` and its word, if it is there.
 fn demo<'a>(matches: &ArgMatches<'a>) -> Option<Asked<'a>>
-    ensures { option_map request_of result ≡ request (codes "demo") demo_operands (rows_of (found_of matches.now)) }
+    ensures { option_map request_of result ≡ request DEMO (rows_of (found_of matches.now)) }
 {
     let number = word(matches, "NUMBER")?;
     Some(Asked::Demo(DemoWords { number }))
@@ -135,7 +135,7 @@ fn objects<'a>(alloc: Global, matches: &ArgMatches<'a>) -> Result<Option<Vec<&'a
 
 /// `link` of these objects, if each other word is there.
 fn link_of<'a>(matches: &ArgMatches<'a>, objects: Vec<&'a str>) -> Option<Asked<'a>>
-    ensures { option_map request_of result ≡ option_map (λ words. codes "link" ∷ words ++ texts objects.entry.items) (listed_in link_operands (rows_of (found_of matches.now))) }
+    ensures { option_map request_of result ≡ option_map (λ words. LINK.name ∷ words ++ texts objects.entry.items) (listed_in LINK.operands (rows_of (found_of matches.now))) }
 {
     let (((form, entry), (policy, image)), (graph, map)) = two_words(matches, "FORM", "ENTRY")
         .zip(two_words(matches, "POLICY", "IMAGE"))
@@ -153,7 +153,7 @@ fn link_of<'a>(matches: &ArgMatches<'a>, objects: Vec<&'a str>) -> Option<Asked<
 
 /// `link` and its words, if each is there.
 fn link<'a>(alloc: Global, matches: &ArgMatches<'a>) -> Result<Option<Asked<'a>>, AllocError>
-    ensures { IfOk result (λ asked. option_map request_of asked ≡ request_with_objects (codes "link") link_operands (rows_of (found_of matches.now))) }
+    ensures { IfOk result (λ asked. option_map request_of asked ≡ request LINK (rows_of (found_of matches.now))) }
 {
     match objects(alloc, matches)? {
         Some(objects) => Ok(link_of(matches, objects)),
@@ -163,7 +163,7 @@ fn link<'a>(alloc: Global, matches: &ArgMatches<'a>) -> Result<Option<Asked<'a>>
 
 /// `compare-link` of these objects, if each other word is there.
 fn compare_link_of<'a>(matches: &ArgMatches<'a>, objects: Vec<&'a str>) -> Option<Asked<'a>>
-    ensures { option_map request_of result ≡ option_map (λ words. codes "compare-link" ∷ words ++ texts objects.entry.items) (listed_in compare_link_operands (rows_of (found_of matches.now))) }
+    ensures { option_map request_of result ≡ option_map (λ words. COMPARE_LINK.name ∷ words ++ texts objects.entry.items) (listed_in COMPARE_LINK.operands (rows_of (found_of matches.now))) }
 {
     let (((entry, policy), (image, map)), (input, steps)) = two_words(matches, "ENTRY", "POLICY")
         .zip(two_words(matches, "IMAGE", "MAP"))
@@ -184,7 +184,7 @@ fn compare_link<'a>(
     alloc: Global,
     matches: &ArgMatches<'a>,
 ) -> Result<Option<Asked<'a>>, AllocError>
-    ensures { IfOk result (λ asked. option_map request_of asked ≡ request_with_objects (codes "compare-link") compare_link_operands (rows_of (found_of matches.now))) }
+    ensures { IfOk result (λ asked. option_map request_of asked ≡ request COMPARE_LINK (rows_of (found_of matches.now))) }
 {
     match objects(alloc, matches)? {
         Some(objects) => Ok(compare_link_of(matches, objects)),

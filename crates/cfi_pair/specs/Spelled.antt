@@ -1,17 +1,17 @@
--- The image and the graph that files spell.
+-- The image and the graph that texts spell.
 use Rattle.std.specs.Prelude.{◌≡◌, ℕ, List, length}
 use Rattle.rv_word.specs.Image.{Contents, IsImageSize, IsVersion}
 use Rattle.elf_image.specs.Spelling.{spelling}
 use Rattle.cfi_graph.specs.Graph.{GraphParts, IsGraph}
 use Rattle.cfi_graph.specs.Text.{graph_text}
 
--- a file spells an image
+-- a text spells an image
 pub record IsImage (bytes : List ℕ) (image : Contents) : Type 0 where
   pub image_is : bytes ≡ spelling image.version image.code image.init
   pub version : IsVersion image.version
   pub size : IsImageSize (length image.code) (length image.init)
 
--- two files spell an image and a graph
+-- two texts spell an image and a graph
 pub record Spell (image_bytes graph_bytes : List ℕ) (image : Contents) (graph : GraphParts) : Type 0 where
   pub image_is : image_bytes ≡ spelling image.version image.code image.init
   pub version : IsVersion image.version

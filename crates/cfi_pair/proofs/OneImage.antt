@@ -6,7 +6,7 @@ use Rattle.elf_image.specs.Header.{data_start}
 use Rattle.elf_image.specs.Spelling.{spelling}
 use Rattle.elf_image.proofs.Only.{read_as}
 use Rattle.cfi_graph.specs.Graph.{GraphParts}
-use Rattle.tool_common.specs.Spelled.{IsImage, Spell}
+use Rattle.cfi_pair.specs.Spelled.{IsImage, Spell}
 
 -- the image that a file spells
 abbrev image_in : List ℕ → Contents

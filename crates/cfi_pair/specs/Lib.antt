@@ -1,0 +1,3 @@
+pub mod Spelled
+pub mod Opening
+pub mod Judgement

@@ -1,0 +1,8 @@
+//! An image and its graph, for all who ask whether they go together: two texts are read as such, and judged by the rules.
+#![tactic(auto)]
+
+pub use judging::{Verdict, judge, verify_texts};
+pub use opening::{Pair, PairEnd, PairFault, open_pair};
+
+mod judging;
+mod opening;
