@@ -3,6 +3,8 @@
 
 pub use judging::{Verdict, judge, verify_texts};
 pub use opening::{Pair, PairEnd, PairFault, open_pair};
+pub use verdict::{RvcfiVerdict, reason_number, verdict_of};
 
 mod judging;
 mod opening;
+mod verdict;

@@ -14,18 +14,22 @@ use Rattle.cfi_rules.specs.declared.reject.Reject as V
 use Rattle.cfi_rules.specs.declared.reject.Reject.TheVariants.{At, Length}
 use Rattle.tool_common.specs.Reads.{Content}
 use Rattle.cfi_pair.specs.Spelled.{Spell}
-use Rattle.cfi_pair.proofs.Determined.{graph_read, no_fault, none_rejected, one_pair, own}
-use Rattle.cfi_pair.proofs.OneImage.{version_told}
+use Rattle.cfi_pair.proofs.Determined.{none_rejected, one_pair}
 use Rattle.tool_common.specs.Words.{text_named}
 use Rattle.tool_common.specs.declared.refusal.Refusal.{Refusal}
 use Rattle.tool_common.specs.declared.refusal.Refusal.TheVariants.{Graph, Harts, Image, Script}
 use Rattle.tool_common.proofs.Held.{same_bytes, same_named}
 use Rattle.cfi_report.specs.ReportText.{end_status}
-use Rattle.cfi_report.specs.SafeRun.{IsSafeRun, undisturbed_script}
+use Rattle.cfi_launch.specs.SafeRun.{IsSafeRun, undisturbed_script}
 use Rattle.cfi_pairs.specs.Complete.{RunIsComplete, VerifyIsComplete}
-use Rattle.cfi_pairs.specs.Opening.{IsRefusal, script_given}
+use Rattle.cfi_launch.specs.Launch.{IsLaunchFault, script_given}
+use Rattle.cfi_launch.specs.declared.launching.LaunchFault.{LaunchFault}
+use Rattle.cfi_launch.specs.declared.launching.LaunchFault.TheVariants as faults
+use Rattle.cfi_launch.proofs.Determined.{no_launch_fault}
+use Rattle.cfi_launch.proofs.ScriptHarts.{one_may_run}
+use Rattle.cfi_pair.specs.declared.opening.PairFault.TheVariants as pair
+use Rattle.cfi_pairs.specs.Refused.{IsRefusal}
 use Rattle.cfi_pairs.specs.Run.{ExplainsRun, IsRunOf, RunWords, run_status}
-use Rattle.cfi_pairs.proofs.ScriptHarts.{one_may_run}
 use Rattle.cfi_pairs.specs.Verify.{ExplainsVerdict, IsVerdictOf, VerifyWords, verdict_status}
 use Rattle.cfi_pairs.specs.declared.run.RunOutcome as N
 use Rattle.cfi_pairs.specs.declared.run.RunOutcome.TheVariants as runs
@@ -33,23 +37,16 @@ use Rattle.cfi_pairs.specs.declared.verify.Verdict as D
 use Rattle.cfi_pairs.specs.declared.verify.Verdict.TheVariants as verdicts
 
 module _ (image_bytes graph_bytes : List ℕ) (image : Contents) (graph : GraphParts) (spell : Spell image_bytes graph_bytes image graph) where
-  -- an image that a file tells to be of version 1 may have one hart
-  few_harts : (harts : ℕ) → MayRun (image_profile image) harts → version_in image_bytes ≡ 1 → 1 < harts → ⊥
-  few_harts harts may first more =
-      let same : image.version ≡ 1 = sym (version_told image_bytes image (own image_bytes graph_bytes image graph spell)) ∙ first in
-      let most : harts ≤ (profile_of 1).harts = subst (λ (v : ℕ). harts ≤ (profile_of v).harts) same may.most in
-      omega (arith, most, more)
+  no_fault : (script : Option (List ℕ)) (read : ScriptParts) → script_given script ≡ Ok read → MayRun (image_profile image) read.harts
+      → (fault : LaunchFault) → IsLaunchFault image_bytes graph_bytes script fault → ⊥
+  no_fault = no_launch_fault image_bytes graph_bytes image graph spell
 
   no_refusal : (script : Option (List ℕ)) (read : ScriptParts) → script_given script ≡ Ok read → MayRun (image_profile image) read.harts
       → (refusal : Refusal) → IsRefusal image_bytes graph_bytes script refusal → ⊥
-  no_refusal script read given may (Image refusal) is = let no = no_fault image_bytes graph_bytes image graph spell in cc (is, no)
-  no_refusal script read given may (Graph line reason) is = let wrong = is.1 in let read = graph_read image_bytes graph_bytes image graph spell in cc (wrong, read)
-  no_refusal script read given may (Script line reason) is = let wrong = is.1 in cc (wrong, given)
-  no_refusal script read given may (Harts count) is =
-      let (pair, (other, again, counted), more, first) = is in
-      let same : other ≡ read = cc (again, given) in
-      let harts : read.harts ≡ count = sym (ap (λ (s : ScriptParts). s.harts) same) ∙ counted in
-      few_harts count (subst (λ (n : ℕ). MayRun (image_profile image) n) harts may) first more
+  no_refusal script read given may (Image refusal) is = no_fault script read given may (faults.Pair (pair.Image refusal)) is
+  no_refusal script read given may (Graph line reason) is = no_fault script read given may (faults.Pair (pair.Graph line reason)) is
+  no_refusal script read given may (Script line reason) is = no_fault script read given may (faults.Script line reason) is
+  no_refusal script read given may (Harts count) is = no_fault script read given may (faults.Harts count) is
   no_refusal script read given may other is = is
 
   module _ (well : IsWellFormed (image_profile image) image graph) where

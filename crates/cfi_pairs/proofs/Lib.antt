@@ -1,2 +1,1 @@
-pub mod ScriptHarts
 pub mod Complete

@@ -11,8 +11,8 @@ use Rattle.tool_common.specs.Reads.{Content}
 use Rattle.cfi_pair.specs.Spelled.{Spell}
 use Rattle.tool_common.specs.Words.{text_named}
 use Rattle.cfi_report.specs.ReportText.{end_status}
-use Rattle.cfi_report.specs.SafeRun.{IsSafeRun}
-use Rattle.cfi_pairs.specs.Opening.{script_given}
+use Rattle.cfi_launch.specs.SafeRun.{IsSafeRun}
+use Rattle.cfi_launch.specs.Launch.{script_given}
 use Rattle.cfi_pairs.specs.Run.{RunWords, run_names}
 use Rattle.cfi_pairs.specs.Verify.{VerifyWords, verify_names}
 

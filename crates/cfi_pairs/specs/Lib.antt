@@ -1,4 +1,4 @@
-pub mod Opening
+pub mod Refused
 pub mod Verify
 pub mod Run
 pub mod Complete

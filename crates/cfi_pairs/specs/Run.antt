@@ -1,20 +1,15 @@
 -- `run IMAGE GRAPH SCRIPT INPUT STEPS`: a run of an accepted image. The word `none` for SCRIPT or INPUT
 -- means no file.
-use Rattle.std.specs.Prelude.{◌≡◌, ℕ, List, [], ◌∷◌, ◌++◌, codes, Option, Some, None, option_map, Ok}
-use Rattle.rv_word.specs.Image.{Contents, image_profile}
-use Rattle.rv_word.specs.MemoryMap.{MayRun}
-use Rattle.cfi_graph.specs.Graph.{GraphParts}
+use Rattle.std.specs.Prelude.{◌≡◌, ℕ, List, [], ◌∷◌, ◌++◌, codes, Option, Some, None, option_map}
 use Rattle.cfi_rules.specs.RejectText.{reject_text}
-use Rattle.cfi_rules.specs.Rules.{IsRejected}
-use Rattle.cfi_script.specs.Script.{ScriptParts}
 use Rattle.cfi_step.specs.declared.report.RunReport.{RunReport}
 use Rattle.tool_common.specs.Lines.{with_newline}
-use Rattle.cfi_pairs.specs.Opening.{IsRefusal, script_given}
+use Rattle.cfi_launch.specs.Launch.{IsLaunchOf}
+use Rattle.cfi_launch.specs.declared.launching.Launched.TheVariants as launched
+use Rattle.cfi_pairs.specs.Refused.{IsRefusal}
 use Rattle.tool_common.specs.Reads.{Content, Gave, GaveNamed}
 use Rattle.tool_common.specs.Refusals.{refusal_line}
-use Rattle.cfi_pair.specs.Spelled.{Spell}
 use Rattle.cfi_report.specs.ReportText.{end_status, report_text}
-use Rattle.cfi_report.specs.SafeRun.{IsSafeRun}
 use Rattle.tool_common.specs.Words.{file_word, steps_of, text_named}
 use Rattle.cfi_pairs.specs.declared.run.RunOutcome.{RunOutcome}
 use Rattle.cfi_pairs.specs.declared.run.RunOutcome.TheVariants.{Refused, Rejected, Ran}
@@ -42,24 +37,11 @@ run_names asks = Some asks.image ∷ Some asks.graph ∷ asks.script ∷ asks.in
 abbrev pub run_asked : RunRequest → RunWords
 run_asked r = record { image = r.image.now; graph = r.graph.now; script = option_map (λ name. name.now) r.script; input = option_map (λ name. name.now) r.input; limit = r.limit }
 
--- the pair is rejected, or it is run
-abbrev pub IsRunOfPair : Contents → GraphParts → ScriptParts → List ℕ → ℕ → RunOutcome → Type 0
-IsRunOfPair image graph script input limit (Refused refusal) = ⊥
-IsRunOfPair image graph script input limit (Rejected reject) = IsRejected (image_profile image) image graph reject
-IsRunOfPair image graph script input limit (Ran version report) = (version ≡ image.version) × IsSafeRun image graph script input limit report
-
--- the files spell a pair and a script, whose harts the image may have
-abbrev pub IsRunOfSpelled : List ℕ → List ℕ → Option (List ℕ) → List ℕ → ℕ → RunOutcome → Type 0
-IsRunOfSpelled image_bytes graph_bytes script input limit outcome =
-    (image : Contents) × (graph : GraphParts) × (read : ScriptParts)
-    × Spell image_bytes graph_bytes image graph × (script_given script ≡ Ok read) × MayRun (image_profile image) read.harts
-    × IsRunOfPair image graph read input limit outcome
-
--- a file is refused, and only where none is the pair is asked the rules
+-- a file is refused, and only where none is the pair is rejected, or it is run
 abbrev pub IsRunOf : List ℕ → List ℕ → Option (List ℕ) → List ℕ → ℕ → RunOutcome → Type 0
 IsRunOf image graph script input limit (Refused refusal) = IsRefusal image graph script refusal
-IsRunOf image graph script input limit (Rejected reject) = IsRunOfSpelled image graph script input limit (Rejected reject)
-IsRunOf image graph script input limit (Ran version report) = IsRunOfSpelled image graph script input limit (Ran version report)
+IsRunOf image graph script input limit (Rejected reject) = IsLaunchOf image graph script input limit (launched.Rejected reject)
+IsRunOf image graph script input limit (Ran version report) = IsLaunchOf image graph script input limit (launched.Ran version report)
 
 -- the files gave bytes of which the run comes to this
 pub record ExplainsRun (content : Content) (asks : RunWords) (outcome : RunOutcome) : Type 0 where

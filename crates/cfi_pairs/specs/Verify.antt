@@ -7,7 +7,7 @@ use Rattle.cfi_pair.specs.Judgement as rules
 use Rattle.cfi_pair.specs.Spelled.{Spell}
 use Rattle.cfi_pair.specs.declared.judging.Verdict.TheVariants as says
 use Rattle.tool_common.specs.Lines.{with_newline}
-use Rattle.cfi_pairs.specs.Opening.{IsRefusal}
+use Rattle.cfi_pairs.specs.Refused.{IsRefusal}
 use Rattle.tool_common.specs.Reads.{Content, Gave}
 use Rattle.tool_common.specs.Refusals.{refusal_line}
 use Rattle.tool_words.specs.declared.asked.VerifyWords as W

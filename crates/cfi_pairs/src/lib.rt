@@ -5,6 +5,6 @@
 pub use run::{RunOutcome, RunRequest, run_files};
 pub use verify::{Verdict, verify_files};
 
-mod opening;
+mod refused;
 mod run;
 mod verify;

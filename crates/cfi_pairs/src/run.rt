@@ -1,24 +1,17 @@
-ghost use Rattle.std.specs.Prelude.{◌≡◌, ◌==◌, ◌&&◌, Ok, IfOk, IfErr, IsOk, nat_lt, option_map, ◌∷◌, []};
-ghost use Rattle.rv_word.specs.Image.{image_profile};
-ghost use Rattle.rv_word.specs.MemoryMap.{MayRun};
+ghost use Rattle.std.specs.Prelude.{◌≡◌, IfOk, IfErr, IsOk, option_map, ◌∷◌, []};
 ghost use Rattle.tool_io.specs.Names.{AreRead};
 ghost use Rattle.tool_io.specs.Reading.{CountsReads, IsOnlyRead};
-ghost use Rattle.text_lines.specs.Answers.{Answers};
-ghost use Rattle.cfi_pairs.specs.Opening.{IsOpenEnd, script_given};
 ghost use Rattle.tool_common.specs.Reads.{IsFault, IsStop, IsTooLong, file_names};
-ghost use Rattle.cfi_pair.specs.Spelled.{Spell};
-ghost use Rattle.cfi_pairs.specs.Run.{ExplainsRun, IsRunOf, IsRunOfPair, run_asked, run_names, run_status, run_text, run_words};
+ghost use Rattle.cfi_pairs.specs.Run.{ExplainsRun, IsRunOf, run_asked, run_names, run_status, run_text, run_words};
 
-use crate::opening::{OpenEnd, open_files};
+use crate::refused::refusal_of;
 use crate::verify::Verdict;
-use cfi_pair::Pair;
+use cfi_launch::{LaunchEnd, Launched, launch};
 use cfi_report::{end_status, report_text};
-use cfi_script::Script;
-use cfi_step::{RunReport, run};
-use cfi_verify::{Reject, VerifyEnd, verify};
-use rv_word::{Image, NoMemory};
+use cfi_step::RunReport;
+use cfi_verify::Reject;
+use rv_word::NoMemory;
 use std::alloc::Global;
-use text_lines::TextEnd;
 use tool_common::{Refusal, Stop, file_word, line, read_all, status, steps, text_named};
 use tool_io::Files;
 use tool_words::RunWords;
@@ -84,74 +77,6 @@ impl RunOutcome {
     }
 }
 
-/// The script that a text spells; without a text one hart runs, undisturbed.
-fn script_of(alloc: Global, text: Option<&[u8]>) -> Result<Script, TextEnd>
-    ensures { Answers result (script_given (option_map (λ t. t.now) text.entry)) }
-{
-    match text {
-        None => Ok(Script::none(alloc)),
-        Some(text) => Script::read(alloc, text),
-    }
-}
-
-/// Whether a script is for several harts, and an image for one.
-fn lacks_harts(image: &Image<'_>, script: &Script) -> bool
-    ensures { result ≡ (image.now.version == 1) && nat_lt 1 script.now.harts }
-{
-    image.version() == 1 && script.harts() > 1
-}
-
-/// The image, the graph and the script that files spell, whose harts the image may have.
-fn open_all<'a>(
-    alloc: Global,
-    image: &'a [u8],
-    graph: &[u8],
-    script: Option<&[u8]>,
-) -> Result<(Pair<'a>, Script), OpenEnd>
-    ensures spelled { IfOk result (λ all. Spell image.now graph.now all.0.image all.0.graph) }
-    ensures given { IfOk result (λ all. script_given (option_map (λ t. t.now) script.entry) ≡ Ok all.1) }
-    ensures may_run { IfOk result (λ all. MayRun (image_profile all.0.image) all.1.harts) }
-    ensures refused { IfErr result (IsOpenEnd image.now graph.now (option_map (λ t. t.now) script.entry)) }
-{
-    let pair = match open_files(alloc, image, graph) {
-        Ok(pair) => pair,
-        Err(end) => return Err(end),
-    };
-    let script = match script_of(alloc, script) {
-        Ok(script) => script,
-        Err(TextEnd::Line(line, reason)) => {
-            return Err(OpenEnd::Refused(Refusal::Script(line, reason)));
-        }
-        Err(TextEnd::NoMemory) => return Err(OpenEnd::NoMemory),
-    };
-    if lacks_harts(&pair.image, &script) {
-        return Err(OpenEnd::Refused(Refusal::Harts(script.harts())));
-    }
-    Ok((pair, script))
-}
-
-/// Runs an image with the harts of a script, if it goes with its graph.
-fn run_pair(
-    alloc: Global,
-    pair: &Pair<'_>,
-    script: &mut Script,
-    input: &[u8],
-    limit: u64,
-) -> Result<RunOutcome, NoMemory>
-    requires { MayRun (image_profile pair.now.image) script.old.harts }
-    ensures { IfOk result (IsRunOfPair pair.now.image pair.now.graph script.old input.now limit) }
-{
-    let harts = script.harts();
-    match verify(alloc, &pair.image, &pair.graph) {
-        Ok(checked) => Ok(RunOutcome::Ran(
-            pair.image.version(),
-            run(alloc, &checked, input, harts, script, limit)?,
-        )),
-        Err(VerifyEnd::Reject(reject)) => Ok(RunOutcome::Rejected(reject)),
-        Err(VerifyEnd::NoMemory) => Err(NoMemory),
-    }
-}
-
 /// Runs the image that some bytes spell, if others spell its graph and a script.
 fn run_bytes(
     alloc: Global,
@@ -163,10 +88,11 @@ fn run_bytes(
 ) -> Result<RunOutcome, NoMemory>
     ensures { IfOk result (IsRunOf image.now graph.now (option_map (λ t. t.now) script.entry) input.now limit) }
 {
-    match open_all(alloc, image, graph, script) {
-        Ok((pair, mut script)) => run_pair(alloc, &pair, &mut script, input, limit),
-        Err(OpenEnd::Refused(refusal)) => Ok(RunOutcome::Refused(refusal)),
-        Err(OpenEnd::NoMemory) => Err(NoMemory),
+    match launch(alloc, image, graph, script, input, limit) {
+        Ok(Launched::Rejected(reject)) => Ok(RunOutcome::Rejected(reject)),
+        Ok(Launched::Ran(version, report)) => Ok(RunOutcome::Ran(version, report)),
+        Err(LaunchEnd::Fault(fault)) => Ok(RunOutcome::Refused(refusal_of(fault))),
+        Err(LaunchEnd::NoMemory) => Err(NoMemory),
     }
 }
 

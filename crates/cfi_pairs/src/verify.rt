@@ -4,8 +4,9 @@ ghost use Rattle.tool_io.specs.Reading.{CountsReads, IsOnlyRead};
 ghost use Rattle.tool_common.specs.Reads.{IsFault, IsStop, IsTooLong, file_names};
 ghost use Rattle.cfi_pairs.specs.Verify.{ExplainsVerdict, IsJudgement, IsVerdictOf, verdict_status, verify_asked, verify_names};
 
-use crate::opening::{OpenEnd, open_files};
-use cfi_pair::{Pair, Verdict as Judgement, judge};
+use crate::refused::refusal_of;
+use cfi_launch::LaunchFault;
+use cfi_pair::{Pair, PairEnd, Verdict as Judgement, judge, open_pair};
 use cfi_verify::Reject;
 use rv_word::NoMemory;
 use std::alloc::Global;
@@ -67,12 +68,12 @@ fn verdict(alloc: Global, pair: &Pair<'_>) -> Result<Verdict, NoMemory>
 fn verdict_of(alloc: Global, image: &[u8], graph: Vec<u8>) -> Result<Verdict, NoMemory>
     ensures { IfOk result (IsVerdictOf image.now graph.items) }
 {
-    let opened = open_files(alloc, image, &graph);
+    let opened = open_pair(alloc, image, &graph);
     drop(graph);
     match opened {
         Ok(pair) => verdict(alloc, &pair),
-        Err(OpenEnd::Refused(refusal)) => Ok(Verdict::Refused(refusal)),
-        Err(OpenEnd::NoMemory) => Err(NoMemory),
+        Err(PairEnd::Fault(fault)) => Ok(Verdict::Refused(refusal_of(LaunchFault::Pair(fault)))),
+        Err(PairEnd::NoMemory) => Err(NoMemory),
     }
 }
 

@@ -1,2 +1,1 @@
 pub mod ReportText
-pub mod SafeRun

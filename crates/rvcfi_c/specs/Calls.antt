@@ -1,14 +1,11 @@
 -- The list of system calls of a graph, for C.
-use Rattle.std.specs.Prelude.{◌≡◌, ◌++◌, ℕ, List, None, Some, Err, length, min, take, drop}
+use Rattle.std.specs.Prelude.{◌≡◌, ℕ, List, None, Some, Err, length}
 use Rattle.cfi_graph.specs.Graph.{GraphParts, IsGraph, calls_in}
 use Rattle.cfi_graph.specs.Reading.{graph_of}
 use Rattle.cfi_graph.specs.Text.{graph_text}
+use Rattle.cfi_pair.specs.Room.{held}
 use Rattle.text_lines.specs.declared.end.TextEnd.TheVariants.{Line}
 use Rattle.text_lines.specs.declared.reason.Reason.{Reason}
-
--- the first places hold numbers, as many as there is room for, and the others are as they were
-abbrev pub held : List ℕ → List ℕ → List ℕ
-held numbers places = take (min (length numbers) (length places)) numbers ++ drop (min (length numbers) (length places)) places
 
 -- the text is a graph whose list has so many numbers, and `after` holds them
 pub record IsListOf (bytes before after : List ℕ) (count : ℕ) : Type 0 where

@@ -5,8 +5,7 @@ ghost use Rattle.rvcfi_c.specs.Answers.{IsComplete, IsNoImage, IsVerdictOf};
 ghost use Rattle.rvcfi_c.specs.Plan.{IsPlanOf};
 
 use crate::plan::{RvcfiPlan, plan_of};
-use crate::verdict::{RvcfiVerdict, verdict_of};
-use cfi_pair::verify_texts;
+use cfi_pair::{RvcfiVerdict, verdict_of, verify_texts};
 use std::alloc::Global;
 
 /// Whether two texts are an image and its graph and go together. The answer is the verdict's outcome.

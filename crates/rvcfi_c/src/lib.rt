@@ -2,10 +2,9 @@
 //! of a graph's system calls. `library/include/rvcfi.h` declares the exports.
 #![tactic(auto)]
 
+pub use cfi_pair::RvcfiVerdict;
 pub use plan::RvcfiPlan;
-pub use verdict::RvcfiVerdict;
 
 mod calls;
 mod exports;
 mod plan;
-mod verdict;

@@ -25,7 +25,7 @@ use Rattle.gen_hardened.specs.Laws.{entered}
 use Rattle.tool_common.specs.Lines.{with_newline}
 use Rattle.tool_common.specs.Words.{steps_of}
 use Rattle.cfi_report.specs.ReportText.{end_status, report_text}
-use Rattle.cfi_report.specs.SafeRun.{IsSafeRun, undisturbed_script}
+use Rattle.cfi_launch.specs.SafeRun.{IsSafeRun, undisturbed_script}
 use Rattle.tool_commands.specs.Compare.{answer_status, at_map}
 use Rattle.tool_commands.specs.Rewrite.{IsMade}
 use Rattle.tool_commands.specs.declared.demo.DemoOutcome.{DemoOutcome}

@@ -10,7 +10,7 @@ ghost use Rattle.cfi_harden.specs.Prepared.{IsPrepared};
 ghost use Rattle.cfi_harden.specs.Preparing.{Reads};
 ghost use Rattle.cfi_harden.specs.Request.{Request};
 ghost use Rattle.cfi_meaning.specs.Hardened.{NeverDiffersOf};
-ghost use Rattle.cfi_report.specs.SafeRun.{IsSafeRun, undisturbed_script};
+ghost use Rattle.cfi_launch.specs.SafeRun.{IsSafeRun, undisturbed_script};
 ghost use Rattle.tool_commands.specs.Demo.{STEP_LIMIT};
 ghost use Rattle.tool_commands.specs.Demonstration.{CanRunAt, IsAnswerAt, IsDemoPrepared, IsDrawn, IsImageIn, IsSourceOn};
 ghost use Rattle.tool_commands.specs.Rewrite.{IsMade, IsSpelled};

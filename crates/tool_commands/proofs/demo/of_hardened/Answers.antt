@@ -5,7 +5,7 @@ use Rattle.cfi_rules.specs.Rules.{IsWellFormed}
 use Rattle.cfi_writer.specs.Hardened.{HardenedParts}
 use Rattle.cfi_harden.specs.Request.{program_request}
 use Rattle.gen_hardened.specs.Laws.{entered}
-use Rattle.cfi_report.specs.SafeRun.{IsSafeRun, undisturbed_script}
+use Rattle.cfi_launch.specs.SafeRun.{IsSafeRun, undisturbed_script}
 use Rattle.tool_commands.specs.Demo.{STEP_LIMIT}
 use Rattle.tool_commands.specs.Demonstration.{IsImageIn}
 use Rattle.tool_commands.specs.Rewrite.{IsMade}

@@ -1,7 +1,10 @@
-ghost use Rattle.std.specs.Prelude.{◌≡◌};
-ghost use Rattle.rvcfi_c.specs.Answers.{numbers, reason_number, rule_number, verdict_of};
+//! What is said of two texts, in the numbers by which C is told.
 
-use cfi_pair::{PairEnd, PairFault, Verdict};
+ghost use Rattle.std.specs.Prelude.{◌≡◌};
+ghost use Rattle.cfi_pair.specs.Numbers.{numbers, reason_number, rule_number, verdict_of};
+
+use crate::judging::Verdict;
+use crate::opening::{PairEnd, PairFault};
 use cfi_rules::{Reject, Rule};
 use elf_image::ImageRefusal;
 use text_lines::Reason;
@@ -33,7 +36,8 @@ fn numbers(outcome: u32, reason: u32, first: u64, second: u64) -> RvcfiVerdict
     }
 }
 
-fn reason_number(reason: Reason) -> u32
+/// The number of why a line is refused.
+pub fn reason_number(reason: Reason) -> u32
     ensures { result ≡ reason_number reason }
 {
     match reason {
@@ -60,7 +64,7 @@ fn rule_number(rule: Rule) -> u32
 }
 
 /// The numbers of what is said.
-pub(crate) fn verdict_of(said: Result<Verdict, PairEnd>) -> RvcfiVerdict
+pub fn verdict_of(said: Result<Verdict, PairEnd>) -> RvcfiVerdict
     ensures { result ≡ verdict_of said }
 {
     match said {

@@ -1,8 +1,8 @@
 use Rattle.std.proofs.Common.{◌∙◌, ◌<◌, ◌==◌, ℕ, nat_lt, option_map, subst, sym}
 use Rattle.std.proofs.lemmas.Bool.{and_parts, eqb-true, ltb-true}
 use Rattle.cfi_pair.proofs.OneImage.{spelled_image, version_told}
-use Rattle.cfi_pairs.proofs.ScriptHarts.{given_counts, may_run}
-use Rattle.cfi_pairs.proofs.run.open_all.Goals as goal
+use Rattle.cfi_launch.proofs.ScriptHarts.{given_counts, may_run}
+use Rattle.cfi_launch.proofs.launching.open_all.Goals as goal
 
 pub returns-then-lacks_harts-clause-refused : goal.returns-then-lacks_harts-clause-refused
 returns-then-lacks_harts-clause-refused c =

@@ -12,8 +12,8 @@ use Rattle.text_lines.specs.declared.end.TextEnd.TheVariants.{Line}
 use Rattle.text_lines.specs.declared.reason.Reason.TheVariants.{Range}
 use Rattle.cfi_script.specs.Script.{Changes, ScriptParts}
 use Rattle.cfi_script.specs.ScriptText.{changes_of_lines, for_one, for_several, harts_of, script_names, script_of, turns_read, with_count, with_harts}
-use Rattle.cfi_report.specs.SafeRun.{undisturbed_script}
-use Rattle.cfi_pairs.specs.Opening.{script_given}
+use Rattle.cfi_launch.specs.SafeRun.{undisturbed_script}
+use Rattle.cfi_launch.specs.Launch.{script_given}
 
 -- every image may have one hart
 pub one_may_run : (version : ℕ) → MayRun (profile_of version) 1

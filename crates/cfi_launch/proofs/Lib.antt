@@ -1,0 +1,2 @@
+pub mod ScriptHarts
+pub mod Determined

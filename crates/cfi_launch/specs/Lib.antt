@@ -1,0 +1,2 @@
+pub mod SafeRun
+pub mod Launch

@@ -1,0 +1,136 @@
+ghost use Rattle.std.specs.Prelude.{◌≡◌, ◌==◌, ◌&&◌, Ok, IfOk, IfErr, nat_lt, option_map};
+ghost use Rattle.rv_word.specs.Image.{image_profile};
+ghost use Rattle.rv_word.specs.MemoryMap.{MayRun};
+ghost use Rattle.text_lines.specs.Answers.{Answers};
+ghost use Rattle.cfi_pair.specs.Spelled.{Spell};
+ghost use Rattle.cfi_launch.specs.Launch.{IsComplete, IsLaunchEnd, IsLaunchOf, IsLaunchOfPair, script_given};
+
+use cfi_pair::{Pair, PairEnd, PairFault, open_pair};
+use cfi_script::Script;
+use cfi_step::{RunReport, run};
+use cfi_verify::{Reject, VerifyEnd, verify};
+use rv_word::{Image, NoMemory};
+use std::alloc::Global;
+use text_lines::{Reason, TextEnd};
+
+/// What a pair that was read comes to.
+#[derive(Drop)]
+pub enum Launched {
+    /// It breaks a rule: the first that fails, at its least address.
+    Rejected(Reject),
+    /// The version of the image, and the report of its run.
+    Ran(u8, RunReport),
+}
+
+/// Why texts are not run: the first of them that is not what it should be.
+#[derive(Clone, Copy)]
+pub enum LaunchFault {
+    /// The image or the graph.
+    Pair(PairFault),
+    /// The script: the first line that fails, from 1, and why.
+    Script(u64, Reason),
+    /// The script is for so many harts, more than one, and the image for one.
+    Harts(u8),
+}
+
+/// Why there is no run.
+#[derive(Clone, Copy)]
+pub enum LaunchEnd {
+    /// One of the texts is not what it should be.
+    Fault(LaunchFault),
+    /// There was no memory.
+    NoMemory,
+}
+
+/// The script that a text spells; without a text one hart runs, undisturbed.
+fn script_of(alloc: Global, text: Option<&[u8]>) -> Result<Script, TextEnd>
+    ensures { Answers result (script_given (option_map (λ t. t.now) text.entry)) }
+{
+    match text {
+        None => Ok(Script::none(alloc)),
+        Some(text) => Script::read(alloc, text),
+    }
+}
+
+/// Whether a script is for several harts, and an image for one.
+fn lacks_harts(image: &Image<'_>, script: &Script) -> bool
+    ensures { result ≡ (image.now.version == 1) && nat_lt 1 script.now.harts }
+{
+    image.version() == 1 && script.harts() > 1
+}
+
+/// The image, the graph and the script that texts spell, whose harts the image may have.
+fn open_all<'a>(
+    alloc: Global,
+    image: &'a [u8],
+    graph: &[u8],
+    script: Option<&[u8]>,
+) -> Result<(Pair<'a>, Script), LaunchEnd>
+    ensures spelled { IfOk result (λ all. Spell image.now graph.now all.0.image all.0.graph) }
+    ensures given { IfOk result (λ all. script_given (option_map (λ t. t.now) script.entry) ≡ Ok all.1) }
+    ensures may_run { IfOk result (λ all. MayRun (image_profile all.0.image) all.1.harts) }
+    ensures refused { IfErr result (IsLaunchEnd image.now graph.now (option_map (λ t. t.now) script.entry)) }
+{
+    let pair = match open_pair(alloc, image, graph) {
+        Ok(pair) => pair,
+        Err(PairEnd::Fault(fault)) => return Err(LaunchEnd::Fault(LaunchFault::Pair(fault))),
+        Err(PairEnd::NoMemory) => return Err(LaunchEnd::NoMemory),
+    };
+    let script = match script_of(alloc, script) {
+        Ok(script) => script,
+        Err(TextEnd::Line(line, reason)) => {
+            return Err(LaunchEnd::Fault(LaunchFault::Script(line, reason)));
+        }
+        Err(TextEnd::NoMemory) => return Err(LaunchEnd::NoMemory),
+    };
+    if lacks_harts(&pair.image, &script) {
+        return Err(LaunchEnd::Fault(LaunchFault::Harts(script.harts())));
+    }
+    Ok((pair, script))
+}
+
+/// Runs an image with the harts of a script, if it goes with its graph.
+fn run_pair(
+    alloc: Global,
+    pair: &Pair<'_>,
+    script: &mut Script,
+    input: &[u8],
+    limit: u64,
+) -> Result<Launched, NoMemory>
+    requires { MayRun (image_profile pair.now.image) script.old.harts }
+    ensures { IfOk result (IsLaunchOfPair pair.now.image pair.now.graph script.old input.now limit) }
+{
+    let harts = script.harts();
+    match verify(alloc, &pair.image, &pair.graph) {
+        Ok(checked) => Ok(Launched::Ran(
+            pair.image.version(),
+            run(alloc, &checked, input, harts, script, limit)?,
+        )),
+        Err(VerifyEnd::Reject(reject)) => Ok(Launched::Rejected(reject)),
+        Err(VerifyEnd::NoMemory) => Err(NoMemory),
+    }
+}
+
+/// Runs the image that a text spells for at most so many steps, if others spell its graph and a script and the rules accept it. Without a
+/// script one hart runs, undisturbed.
+pub fn launch(
+    alloc: Global,
+    image: &[u8],
+    graph: &[u8],
+    script: Option<&[u8]>,
+    input: &[u8],
+    limit: u64,
+) -> Result<Launched, LaunchEnd>
+    ensures launched { IfOk result (IsLaunchOf image.now graph.now (option_map (λ t. t.now) script.entry) input.now limit) }
+    ensures refused { IfErr result (IsLaunchEnd image.now graph.now (option_map (λ t. t.now) script.entry)) }
+    ensures complete { IsComplete image.now graph.now (option_map (λ t. t.now) script.entry) result }
+{
+    let (pair, mut script) = match open_all(alloc, image, graph, script) {
+        Ok(opened) => opened,
+        Err(end) => return Err(end),
+    };
+    match run_pair(alloc, &pair, &mut script, input, limit) {
+        Ok(launched) => Ok(launched),
+        Err(NoMemory) => Err(LaunchEnd::NoMemory),
+    }
+}
