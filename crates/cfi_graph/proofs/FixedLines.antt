@@ -21,7 +21,7 @@ use Rattle.cfi_graph.specs.Text.{words_of_line}
 use Rattle.cfi_graph.proofs.Plain.{is_list, kind_plain, words_plain}
 use Rattle.cfi_graph.proofs.Spelled.{kind_spelled, line_spelled, no_end, words_spelled}
 
-number_plain : (count : ℕ) (word : List ℕ) (a : ℕ) → hex count word ≡ Some a → plain word ≡ true
+pub number_plain : (count : ℕ) (word : List ℕ) (a : ℕ) → hex count word ≡ Some a → plain word ≡ true
 number_plain count word a e = ap plain (hex_spelled count word a e) ∙ hex_plain count a
 
 three_words : (name from to : List ℕ) (a b : ℕ) → plain name ≡ true → hex 8 from ≡ Some a → hex 8 to ≡ Some b → words_of (name ++ 32 ∷ (from ++ 32 ∷ to)) ≡ name ∷ from ∷ to ∷ []
@@ -48,7 +48,7 @@ site_words version name address sort label l n e =
     ap (line_of version) (words_back name (address ∷ sort ∷ label ∷ []) plains) ∙ rw n e)))
 
 -- a word, the space behind it, and what stands after that
-word_then : (line : List ℕ) (start size : ℕ) → start + size < length line → get_or line (start + size) 0 ≡ 32 → drop start line ≡ take size (drop start line) ++ 32 ∷ drop (start + size + 1) line
+pub word_then : (line : List ℕ) (start size : ℕ) → start + size < length line → get_or line (start + size) 0 ≡ 32 → drop start line ≡ take size (drop start line) ++ 32 ∷ drop (start + size + 1) line
 word_then line start size h space =
     sym (take-append-drop size (drop start line)) ∙ ap (λ xs. take size (drop start line) ++ xs) (drop-drop size start line ∙ drop_more line (start + size) 0 h ∙ ap (λ b. b ∷ drop (start + size + 1) line) space)
 

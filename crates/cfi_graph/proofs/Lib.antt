@@ -1,8 +1,8 @@
-pub mod LineForms
 pub mod Rising
 pub mod Plain
 pub mod Spelled
 pub mod FixedLines
+pub mod LineForms
 pub mod Whole
 pub mod Heading
 pub mod Only

@@ -1,6 +1,6 @@
 //! What the words of a graph's line spell.
 
-ghost use Rattle.std.specs.Prelude.{◌≡◌, IfOk, option_map};
+ghost use Rattle.std.specs.Prelude.{◌≡◌, ◌∷◌, ◌<◌, IfOk, IfSome, length, option_and_then, option_map};
 ghost use Rattle.cfi_graph.specs.Lines.{
   addresses_of,
   class_of,
@@ -22,6 +22,23 @@ use rv_word::{NoMemory, Places};
 use std::alloc::Global;
 use text_lines::{cut, hex_of, is_word};
 
+/// The address that the first of these words spells, if it spells one, and the words after it. Where a space
+/// stands behind eight digits, it need not be searched.
+fn first_address(words: &[u8]) -> Option<(u32, Option<&[u8]>)>
+    ensures spelled { addresses_of (words_of words.now) ≡ option_and_then (λ r. option_map (λ others. r.0 ∷ others)
+        (addresses_of (parts_after 32 (option_map (λ w. w.now) r.1)))) result }
+    ensures shorter { IfSome result (λ r. IfSome r.1 (λ rest. length rest.now < length words.now)) }
+{
+    if words.len() > 8 && words[8] == b' ' {
+        if let Some(address) = hex_of(&words[..8], 8) {
+            return Some((address, Some(&words[9..])));
+        }
+    }
+    let (word, rest) = cut(words, b' ');
+    let address = hex_of(word, 8)?;
+    Some((address, rest))
+}
+
 /// The addresses that words spell, or none where a word is no address.
 fn addresses(alloc: Global, words: Option<&[u8]>) -> Result<Option<Places>, NoMemory>
     ensures { IfOk result
@@ -30,8 +47,7 @@ fn addresses(alloc: Global, words: Option<&[u8]>) -> Result<Option<Places>, NoMe
     let mut items = Vec::new(alloc);
     let mut left = words;
     while let Some(rest) = left {
-        let (word, next) = cut(rest, b' ');
-        let Some(address) = hex_of(word, 8) else {
+        let Some((address, next)) = first_address(rest) else {
             return Ok(None);
         };
         items.push(u64::from(address))?;
