@@ -1,7 +1,8 @@
-pub mod LineForms
-pub mod Fixed
 pub mod Rising
+pub mod Plain
 pub mod Spelled
+pub mod FixedLines
+pub mod LineForms
 pub mod Whole
 pub mod Heading
 pub mod Only

@@ -7,7 +7,6 @@ use Rattle.std.proofs.lemmas.Slice.Eq.{bytes_eq-Decides}
 use Rattle.std.proofs.Math.Dec.{leb, ltb}
 use Rattle.cfi_graph.specs.declared.line.GraphLine.{GraphLine}
 use Rattle.cfi_graph.specs.declared.line.GraphLine.TheVariants.{Calls, Class, CallClass, JumpClass, Site, Edge, Call}
-use Rattle.cfi_graph.specs.declared.line.SiteKind.{SiteKind}
 use Rattle.cfi_graph.specs.declared.line.SiteKind.TheVariants as kind
 use Rattle.cfi_graph.specs.declared.line.Sort.{Sort}
 use Rattle.cfi_graph.specs.declared.line.Sort.TheVariants as sorts
@@ -19,22 +18,14 @@ use Rattle.text_lines.specs.Hex.{hex, hex_text}
 use Rattle.text_lines.specs.Lines.{lines_of, spaced, words_of}
 use Rattle.text_lines.specs.Reading.{if_right, one_named}
 use Rattle.text_lines.proofs.Accepts.{Accepts, end_only, line_first, read_back}
-use Rattle.text_lines.proofs.Written.{hex_back, hex_plain, join_newlines, lacks, plain, spaced_line, split_join, words_back}
+use Rattle.text_lines.proofs.Written.{hex_back, hex_plain, join_newlines, lacks, spaced_line, split_join, words_back}
 use Rattle.cfi_graph.specs.Text.{class_name, graph_lines, graph_name, graph_text, kind_name, words_of_calls, words_of_class, words_of_line}
 use Rattle.cfi_graph.specs.Lines.{addresses_of, length_of, line_of, sort_named}
 use Rattle.cfi_graph.specs.Reading.{after_first, calls_key, calls_lines, graph_names, graph_of, graph_rules, in_order, third_line, version_at, with_code, with_lines}
 use Rattle.cfi_graph.proofs.CallsLine.{calls_back, calls_plain, judged_back}
+use Rattle.cfi_graph.proofs.Plain.{class_plain, is_list, words_plain}
+use Rattle.cfi_graph.proofs.Spelled.{no_end}
 use Rattle.cfi_graph.proofs.Whole.{rises_after, spellings}
-
--- a line is a list of system calls
-abbrev is_list : GraphLine → Bool
-is_list (Calls numbers) = true
-is_list (Class label targets) = false
-is_list (CallClass label targets) = false
-is_list (JumpClass label targets) = false
-is_list (Site address kind label) = false
-is_list (Edge from to) = false
-is_list (Call from to) = false
 
 -- a line above another is no list
 other_after : (before : Key) (l : GraphLine) → key_below before (key_of l) ≡ true → is_list l ≡ false
@@ -100,33 +91,6 @@ module _ (version len : ℕ) (small : len ≤ 0x100000) where
   named_back (Call from to) other fits e =
       let p = and_parts (is_code_address len from) (is_code_address len to) e in
       rw (address_back len from small p.0, address_back len to small p.1) refl
-
-targets_plain : (targets : List ℕ) → list_all plain (map (hex_text 8) targets) ≡ true
-targets_plain [] = refl
-targets_plain (a ∷ rest) = and_from _ _ (hex_plain 8 a) (targets_plain rest)
-
-kind_plain : (k : SiteKind) → plain (kind_name k) ≡ true
-kind_plain kind.Call = refl
-kind_plain kind.Jump = refl
-
-name_plain : (sort : Sort) → plain (class_name sort) ≡ true
-name_plain sorts.Both = refl
-name_plain sorts.Calls = refl
-name_plain sorts.Jumps = refl
-
-class_plain : (sort : Sort) (label : ℕ) (targets : List ℕ) → list_all plain (words_of_class sort label targets) ≡ true
-class_plain sort label targets =
-    and_from _ _ (name_plain sort) (and_from _ _ (hex_plain 5 label) (targets_plain targets))
-
-words_plain : (l : GraphLine) → is_list l ≡ false → list_all plain (words_of_line l) ≡ true
-words_plain (Calls numbers) other = absurd cc
-words_plain (Class label targets) other = class_plain sorts.Both label targets
-words_plain (CallClass label targets) other = class_plain sorts.Calls label targets
-words_plain (JumpClass label targets) other = class_plain sorts.Jumps label targets
-words_plain (Site a k label) other =
-    and_from _ _ (hex_plain 8 a) (and_from _ _ (kind_plain k) (and_from _ true (hex_plain 5 label) refl))
-words_plain (Edge from to) other = and_from _ _ (hex_plain 8 from) (and_from _ true (hex_plain 8 to) refl)
-words_plain (Call from to) other = and_from _ _ (hex_plain 8 from) (and_from _ true (hex_plain 8 to) refl)
 
 -- the words of a class are cut apart again
 class_words_back : (sort : Sort) (label : ℕ) (targets : List ℕ) → words_of (spaced (words_of_class sort label targets)) ≡ words_of_class sort label targets
@@ -202,13 +166,9 @@ length_back len e =
     ap length_of (words_back (codes "code") (codes "40000000" ∷ hex_text 8 len ∷ []) (and_from _ true (hex_plain 8 len) refl)) ∙ hex_back 8 len (omega arith)
 
 module _ (version len : ℕ) where
-  no_end : line_of version (words_of (codes "end")) ≡ None
-  unfolding line_of
-  no_end = refl
-
   -- lines that are no lists are read after the list, if there is one
   body_back : (calls : Option (List ℕ)) (lines : List GraphLine) → Accepts (graph_rules version len) (calls_key calls) (spellings lines ++ [] ∷ []) lines → with_lines version len calls (spellings lines ++ [] ∷ []) ≡ Ok (record { version = version; code = len; lines = calls_lines calls ++ lines })
-  body_back calls lines are = rw (read_back (graph_rules version len) no_end (line_after 3 calls) are) refl
+  body_back calls lines are = rw (read_back (graph_rules version len) (no_end version) (line_after 3 calls) are) refl
 
   -- lines without a list
   abbrev Spelled : GraphLine → Type 0

@@ -57,7 +57,7 @@ sort_read version name sort e =
     let same = same_Some _ _ g.1 in
     (sort_spelled name sort (is ∙ ap Some same), ap (is_sort_of version) (sym same) ∙ g.0))
 
-kind_spelled : (name : List ℕ) (k : SiteKind) → kind_of name ≡ Some k → name ≡ kind_name k
+pub kind_spelled : (name : List ℕ) (k : SiteKind) → kind_of name ≡ Some k → name ≡ kind_name k
 kind_spelled name k e =
     chosen (bytes_eq name (codes "call")) _ _ _ e
     (λ t s. same_bytes name _ t ∙ ap kind_name (same_Some _ _ s))
@@ -98,7 +98,7 @@ module _ (version : ℕ) where
   named_spelled (Some sort) name words l named e =
       ap (λ n. n ∷ words) (sort_read version name sort named).0 ∙ class_spelled sort words l e
 
-  words_spelled : (words : List (List ℕ)) (l : GraphLine) → line_of version words ≡ Some l → words ≡ words_of_line l
+  pub words_spelled : (words : List (List ℕ)) (l : GraphLine) → line_of version words ≡ Some l → words ≡ words_of_line l
   unfolding line_of
   words_spelled [] l e = absurd cc
   words_spelled (name ∷ words) l e = named_spelled (sort_named version name) name words l refl e
@@ -106,6 +106,11 @@ module _ (version : ℕ) where
   pub line_spelled : (line : List ℕ) (l : GraphLine) → line_of version (words_of line) ≡ Some l → line ≡ spaced (words_of_line l)
   line_spelled line l e =
       sym (join_with_byte-slice_split 32 line) ∙ ap (join_with_byte 32) (words_spelled (words_of line) l e)
+
+-- the last line of a text spells none
+pub no_end : (version : ℕ) → line_of version (words_of (codes "end")) ≡ None
+unfolding line_of
+no_end version = refl
 
 -- ---- a line that is read fits its version
 

@@ -1,6 +1,6 @@
 //! What the words of a graph's line spell.
 
-ghost use Rattle.std.specs.Prelude.{◌≡◌, ℕ, IfOk, IfSome, Some, option_map};
+ghost use Rattle.std.specs.Prelude.{◌≡◌, ◌∷◌, ◌<◌, IfOk, IfSome, length, option_and_then, option_map};
 ghost use Rattle.cfi_graph.specs.Lines.{
   addresses_of,
   class_of,
@@ -22,6 +22,23 @@ use rv_word::{NoMemory, Places};
 use std::alloc::Global;
 use text_lines::{cut, hex_of, is_word};
 
+/// The address that the first of these words spells, if it spells one, and the words after it. Where a space
+/// stands behind eight digits, it need not be searched.
+fn first_address(words: &[u8]) -> Option<(u32, Option<&[u8]>)>
+    ensures spelled { addresses_of (words_of words.now) ≡ option_and_then (λ r. option_map (λ others. r.0 ∷ others)
+        (addresses_of (parts_after 32 (option_map (λ w. w.now) r.1)))) result }
+    ensures shorter { IfSome result (λ r. IfSome r.1 (λ rest. length rest.now < length words.now)) }
+{
+    if words.len() > 8 && words[8] == b' ' {
+        if let Some(address) = hex_of(&words[..8], 8) {
+            return Some((address, Some(&words[9..])));
+        }
+    }
+    let (word, rest) = cut(words, b' ');
+    let address = hex_of(word, 8)?;
+    Some((address, rest))
+}
+
 /// The addresses that words spell, or none where a word is no address.
 fn addresses(alloc: Global, words: Option<&[u8]>) -> Result<Option<Places>, NoMemory>
     ensures { IfOk result
@@ -30,8 +47,7 @@ fn addresses(alloc: Global, words: Option<&[u8]>) -> Result<Option<Places>, NoMe
     let mut items = Vec::new(alloc);
     let mut left = words;
     while let Some(rest) = left {
-        let (word, next) = cut(rest, b' ');
-        let Some(address) = hex_of(word, 8) else {
+        let Some((address, next)) = first_address(rest) else {
             return Ok(None);
         };
         items.push(u64::from(address))?;
@@ -99,7 +115,8 @@ fn kind(name: &[u8]) -> Option<SiteKind>
 }
 
 /// The site line of an address, a kind and a label.
-fn site_from(address: &[u8], name: &[u8], label: &[u8]) -> Option<GraphLine>
+#[inline(always)]
+pub(crate) fn site_from(address: &[u8], name: &[u8], label: &[u8]) -> Option<GraphLine>
     ensures { result ≡ site_from address.now name.now label.now }
 {
     let address = hex_of(address, 8)?;
@@ -142,32 +159,6 @@ fn pair(words: Option<&[u8]>) -> Option<(u64, u64)>
     two_addresses(from, to)
 }
 
-/// The length of a line of a name of four letters and two addresses.
-const PAIR_LINE: usize = 22;
-
-/// The edge or call that a line of four letters, a space, eight digits, a space and eight digits spells:
-/// most lines of a graph of either version, so they are read without a search for their spaces. Of any
-/// other line it says nothing.
-fn pair_line(line: &[u8]) -> Option<GraphLine>
-    ensures { IfSome result (λ l. (version : ℕ) → line_of version (words_of line.now) ≡ Some l) }
-{
-    if line.len() != PAIR_LINE {
-        return None;
-    }
-    if line[4] != b' ' || line[13] != b' ' {
-        return None;
-    }
-    let from = hex_of(&line[5..13], 8)?;
-    let to = hex_of(&line[14..], 8)?;
-    if is_word(&line[..4], b"edge") {
-        return Some(GraphLine::Edge(u64::from(from), u64::from(to)));
-    }
-    if is_word(&line[..4], b"call") {
-        return Some(GraphLine::Call(u64::from(from), u64::from(to)));
-    }
-    None
-}
-
 /// The line of a graph that is no class's, of this name and these words after it.
 fn other(name: &[u8], words: Option<&[u8]>) -> Option<GraphLine>
     ensures { result ≡ other_of name.now (parts_after 32 (option_map (λ w. w.now) words.entry)) }
@@ -184,19 +175,8 @@ fn other(name: &[u8], words: Option<&[u8]>) -> Option<GraphLine>
     None
 }
 
-/// The line of a graph of this version that the words of these bytes spell, if they spell one.
-#[tactic(auto, unfolding(crate::specs::Lines::line_of))]
-fn line_of_words(alloc: Global, version: u8, line: &[u8]) -> Result<Option<GraphLine>, NoMemory>
-    ensures { IfOk result (λ r. r ≡ line_of version (words_of line.now)) }
-{
-    let (name, words) = cut(line, b' ');
-    match sort_named(version, name) {
-        Some(sort) => class(alloc, sort, words),
-        None => Ok(other(name, words)),
-    }
-}
-
 /// The line of a graph of this version that these bytes spell, if they have the form of one.
+#[tactic(auto, unfolding(crate::specs::Lines::line_of))]
 pub(crate) fn line_of(
     alloc: Global,
     version: u8,
@@ -204,10 +184,11 @@ pub(crate) fn line_of(
 ) -> Result<Option<GraphLine>, NoMemory>
     ensures { IfOk result (λ r. r ≡ line_of version (words_of line.now)) }
 {
-    if let Some(found) = pair_line(line) {
-        return Ok(Some(found));
+    let (name, words) = cut(line, b' ');
+    match sort_named(version, name) {
+        Some(sort) => class(alloc, sort, words),
+        None => Ok(other(name, words)),
     }
-    line_of_words(alloc, version, line)
 }
 
 /// The length of the code that the second line gives, if the line has its form.

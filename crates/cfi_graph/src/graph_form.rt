@@ -1,5 +1,6 @@
 ghost use Rattle.cfi_graph.specs.Reading.{graph_rules};
 
+use crate::fixed::first_line;
 use crate::forms::line_of;
 use crate::line::{GraphLine, Key};
 use crate::rules::{in_order, line_in_range};
@@ -34,17 +35,26 @@ impl LineForm for GraphForm {
         line_of(alloc, self.version, line)
     }
 
+    #[inline(always)]
+    fn first_line<'a>(&self, text: &'a [u8]) -> Option<(GraphLine, &'a [u8])> {
+        first_line(text)
+    }
+
+    #[inline(always)]
     fn in_range(&self, line: &GraphLine) -> bool {
         line_in_range(self.code, line)
     }
 
+    #[inline(always)]
     fn in_order(&self, line: &GraphLine) -> bool {
         in_order(self.before, line)
     }
 
+    #[inline(always)]
     fn add(&mut self, line: GraphLine) -> Result<(), NoMemory> {
         let key = line.key();
-        self.lines.push(line)?;
+        self.lines.reserve(1)?;
+        self.lines.push_reserved(line);
         self.before = Some(key);
         Ok(())
     }

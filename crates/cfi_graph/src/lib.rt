@@ -12,6 +12,7 @@ pub use write::write_graph;
 
 mod calls;
 mod class;
+mod fixed;
 mod forms;
 mod graph;
 mod graph_form;

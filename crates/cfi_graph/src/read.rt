@@ -7,6 +7,7 @@ ghost use Rattle.text_lines.specs.Answers.{Answers};
 ghost use Rattle.text_lines.specs.Lines.{lines_of};
 
 use crate::calls::{calls_of, judged, line_after};
+use crate::fixed::PAIR_LINE;
 use crate::forms::code_length;
 use crate::graph::{Graph, GraphLines};
 use crate::graph_form::GraphForm;
@@ -68,12 +69,14 @@ fn third_line(text: &[u8]) -> Result<(Option<Numbers>, &[u8]), TextEnd>
     Ok((Some(calls), rest))
 }
 
-/// The form of the lines after the list of system calls, with the line of that, if there is one.
+/// The form of the lines after the list of system calls, with the line of that, if there is one. It has
+/// room for the lines of `len` bytes, of which few are shorter than an edge's.
 fn begun(
     alloc: Global,
     version: u8,
     code: u32,
     calls: Option<Numbers>,
+    len: usize,
 ) -> Result<GraphForm, NoMemory>
     ensures version { IfOk result (λ f. f.version ≡ version) }
     ensures code { IfOk result (λ f. f.code ≡ code) }
@@ -84,7 +87,7 @@ fn begun(
         version,
         code,
         before: None,
-        lines: Vec::new(alloc),
+        lines: Vec::with_capacity(alloc, len / (PAIR_LINE + 1))?,
     };
     if let Some(numbers) = calls {
         form.lines.push(GraphLine::Calls(numbers))?;
@@ -107,7 +110,7 @@ fn with_lines(
     ensures { Answers result (with_lines version code calls (lines_of text.now)) }
 {
     let first = line_after(3, &calls);
-    let mut form = begun(alloc, version, code, calls)?;
+    let mut form = begun(alloc, version, code, calls, text.len())?;
     read_lines(alloc, &mut form, first, text)?;
     Ok(Graph {
         version,

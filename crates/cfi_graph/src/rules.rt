@@ -46,6 +46,7 @@ fn are_code_addresses(len: u32, addresses: &[u64]) -> bool
 }
 
 /// Whether each number of a class's line is one that a graph of `len` bytes of code may have.
+#[inline(never)]
 fn class_in_range(len: u32, label: u32, targets: &[u64]) -> bool
     ensures { result ≡ class_in_range len label targets.now }
 {
@@ -68,6 +69,7 @@ fn are_calls(numbers: &Numbers) -> bool
 }
 
 /// Whether each number of a line is one that a graph of `len` bytes of code may have.
+#[inline(always)]
 pub(crate) fn line_in_range(len: u32, line: &GraphLine) -> bool
     ensures { result ≡ line_in_range len line.now }
 {
@@ -82,6 +84,7 @@ pub(crate) fn line_in_range(len: u32, line: &GraphLine) -> bool
     }
 }
 
+#[inline(never)]
 fn is_rising(items: &[u64]) -> bool
     ensures { result ≡ is_rising nat_lt items.now }
 {
@@ -111,6 +114,7 @@ pub(crate) fn calls_rise(numbers: &Numbers) -> bool
     rises(numbers.as_slice())
 }
 
+#[inline(always)]
 fn targets_rise(line: &GraphLine) -> bool
     ensures { result ≡ targets_rise line.now }
 {
@@ -124,6 +128,7 @@ fn targets_rise(line: &GraphLine) -> bool
 }
 
 /// Whether a line may stand after a line with the key `before`.
+#[inline(always)]
 pub(crate) fn in_order(before: Option<Key>, line: &GraphLine) -> bool
     ensures { result ≡ in_order before line.now }
 {

@@ -58,7 +58,7 @@ module _ {L B I : Type 0} (rules : LineRules L B I) where
 
   -- where `end` is no line of the form, what is accepted is read
   module _ (no_end : rules.spelled (words_of (codes "end")) ≡ None) where
-    not_end : (line : List ℕ) (l : L) → rules.spelled (words_of line) ≡ Some l → bytes_eq line (codes "end") ≡ false
+    pub not_end : (line : List ℕ) (l : L) → rules.spelled (words_of line) ≡ Some l → bytes_eq line (codes "end") ≡ false
     not_end line l e =
         elim (cases_Bool (bytes_eq line (codes "end"))) [
           | inl t ↦

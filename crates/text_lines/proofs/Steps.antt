@@ -1,14 +1,14 @@
 -- The lines of a text, one step of their reading at a time. `all` is what the whole text gives after
 -- `init`, and `front` what was collected before this line.
-use Rattle.std.proofs.Common.{◌≡◌, ℕ, ◌+◌, Bool, true, false, not, List, [], ◌∷◌, ◌++◌, length, map, take, codes, position, Option, Result, Ok, Err, refl, sym, ◌∙◌, ap, append_assoc}
+use Rattle.std.proofs.Common.{◌≡◌, ℕ, ◌+◌, ◌<◌, Bool, true, false, not, List, [], ◌∷◌, ◌++◌, length, map, take, codes, position, Option, Some, Result, Ok, Err, refl, sym, ◌∙◌, ap, append_assoc, arith}
 use Rattle.std.specs.List.{join_with_byte, prefix_len}
 use Rattle.std.specs.Str.{bytes_eq}
-use Rattle.std.proofs.Math.Seq.{take-append_seam}
-use Rattle.std.proofs.lemmas.List.{append-nil, append_cancel_left, length-map}
+use Rattle.std.proofs.Math.Seq.{take-append-add, take-append_seam}
+use Rattle.std.proofs.lemmas.List.{append-nil, append_cancel_left, length-append, length-map}
 use Rattle.std.proofs.lemmas.List.Splits.{join_with_byte-slice_split}
 use Rattle.text_lines.specs.Answers.{AfterNoMemory, Answers, UnlessNoMemory}
 use Rattle.text_lines.specs.Lines.{lines_of, words_of}
-use Rattle.text_lines.specs.Reading.{FirstCollected, LineRules, Reading, at_end, judged, one_named, read, refused, told, with_front}
+use Rattle.text_lines.specs.Reading.{FirstCollected, FirstLine, LineRules, Reading, at_end, judged, one_named, read, refused, told, with_front}
 use Rattle.text_lines.specs.declared.reason.Reason.TheVariants.{Form}
 use Rattle.text_lines.specs.declared.end.TextEnd.{TextEnd}
 use Rattle.text_lines.specs.declared.end.TextEnd.TheVariants.{Line, NoMemory}
@@ -42,11 +42,26 @@ first_items init front rest all (more, e) h =
     let whole = append_cancel_left init (more ++ rest.items) all.items parts in
     (length more, e ∙ ap (λ xs. init ++ xs) (sym (take-append_seam more rest.items) ∙ ap (λ xs. take (length more) xs) whole))
 
+pub grown_first : {I : Type 0} (init : List I) {front now : List I} (items : List I) → Grown init front → FirstCollected front now items → Grown init now
+grown_first init items (more, e) (n, f) =
+    (more ++ take n items, f ∙ ap (λ xs. xs ++ take n items) e ∙ append_assoc init more (take n items))
+
+-- the first of what is left to collect, after what was collected, are the first of all
+pub later_first : {I : Type 0} (init front now : List I) (rest all : Reading I) → Grown init front → with_front front rest ≡ with_front init all → FirstCollected front now rest.items → FirstCollected init now all.items
+later_first init front now rest all (more, e) h (n, f) =
+    let parts = sym (append_assoc init more rest.items) ∙ ap (λ xs. xs ++ rest.items) (sym e) ∙ ap (λ (r : Reading _). r.items) h in
+    let whole = append_cancel_left init (more ++ rest.items) all.items parts in
+    (length more + n, f ∙ ap (λ xs. xs ++ take n rest.items) e ∙ append_assoc init more (take n rest.items) ∙ ap (λ xs. init ++ xs) (sym (take-append-add more rest.items n) ∙ ap (take (length more + n)) whole))
+
 -- what holds anyhow holds after want of memory
 pub after_any : {A P : Type 0} (answer : Result A TextEnd) → P → AfterNoMemory answer P
 after_any (Ok x) p = tt
 after_any (Err (Line n reason)) p = tt
 after_any (Err NoMemory) p = p
+
+right_end : {A : Type 0} (end : TextEnd) (right : Result A TextEnd) → right ≡ Err end → Answers {A = A} (Err end) right
+right_end (Line n reason) right e = e
+right_end NoMemory right e = tt
 
 -- the reading ends here
 pub record Ends {I : Type 0} (init front : List I) (all : Reading I) (last : Result (Unit {0}) TextEnd) : Type 0 where
@@ -92,6 +107,29 @@ module _ {L B I : Type 0} (rules : LineRules L B I) (before : B) (number : ℕ) 
     where
       again : (others : Reading I) → with_front front (with_front (rules.items l) others) ≡ with_front init all → with_front (front ++ rules.items l) others ≡ with_front init all
       again others k = ap (λ (items : List I). let r : Reading I = record { items = items; end = others.end } in r) (append_assoc front (rules.items l) others.items) ∙ k
+
+  -- a line that is told without a search
+  module _ (next : List ℕ) (l : L) {text : List ℕ} (f : FirstLine rules text l next) where
+    pub known_line : judged rules before number (Some l) ≡ Ok l → with_front front (read rules before number (lines_of text)) ≡ with_front init all → with_front (front ++ rules.items l) (read rules (rules.after l) (number + 1) (lines_of next)) ≡ with_front init all
+    known_line a h = good_line next l f.first f.goes_on (ap (judged rules before number) f.spells ∙ a) h
+
+    module _ (end : TextEnd) (a : judged rules before number (Some l) ≡ Err end) (h : with_front front (read rules before number (lines_of text)) ≡ with_front init all) where
+      answers : Answers {A = L} (Err end) (judged rules before number (rules.spelled (words_of f.bytes)))
+      answers = right_end end _ (ap (judged rules before number) f.spells ∙ a)
+
+      pub bad_known_end : Answers {A = Unit {0}} (Err end) all.end
+      bad_known_end = bad_line_end end next f.first f.goes_on answers h
+
+      pub bad_known_items : UnlessNoMemory {A = Unit {0}} (Err end) (front ≡ init ++ all.items)
+      bad_known_items = bad_line_items end next f.first f.goes_on answers h
+
+-- what stands after the first line is shorter
+pub after_shorter : {L B I : Type 0} {rules : LineRules L B I} {text rest : List ℕ} {l : L} → FirstLine rules text l rest → length rest < length text
+after_shorter {text} {rest} f =
+    some_line rest (λ part parts q.
+    let whole : text ≡ f.bytes ++ 10 ∷ join_with_byte 10 (part ∷ parts) = sym (join_with_byte-slice_split 10 text) ∙ ap (join_with_byte 10) (f.first ∙ ap (λ ps. f.bytes ∷ ps) q) in
+    let left : join_with_byte 10 (part ∷ parts) ≡ rest = ap (join_with_byte 10) (sym q) ∙ join_with_byte-slice_split 10 rest in
+    omega (arith, ap length whole, ap length left, length-append f.bytes (10 ∷ join_with_byte 10 (part ∷ parts))))
 
 -- the first of the images that passes
 prefix_len-map : {X Y : Type 0} (p : Y → Bool) (f : X → Y) (xs : List X) → prefix_len p (map f xs) ≡ prefix_len (λ x. p (f x)) xs

@@ -76,12 +76,16 @@ plain_lacks separator (b ∷ word) h p =
     let other : (b == separator) ≡ false = ne_eqb b separator (λ e. omega arith) in
     rw other (plain_lacks separator word h parts.1)
 
+pub split_first : (separator : ℕ) (word rest : List ℕ) → lacks separator word ≡ true → slice_split (λ b. b == separator) (word ++ separator ∷ rest) ≡ word ∷ slice_split (λ b. b == separator) rest
+split_first separator word rest first =
+    slice_split_at (λ b. b == separator) word separator rest (lacks_all separator word first) (eq-eqb separator separator refl)
+
 pub split_join : (separator : ℕ) (word : List ℕ) (words : List (List ℕ)) → lacks separator word ≡ true → list_all (lacks separator) words ≡ true → slice_split (λ b. b == separator) (join_with_byte separator (word ∷ words)) ≡ word ∷ words
 split_join separator word [] first rest =
     slice_split_none (λ b. b == separator) word (lacks_all separator word first)
 split_join separator word (next ∷ words) first rest =
     let parts = and_parts (lacks separator next) (list_all (lacks separator) words) rest in
-    slice_split_at (λ b. b == separator) word separator _ (lacks_all separator word first) (eq-eqb separator separator refl) ∙ ap (λ ws. word ∷ ws) (split_join separator next words parts.0 parts.1)
+    split_first separator word _ first ∙ ap (λ ws. word ∷ ws) (split_join separator next words parts.0 parts.1)
 
 -- words of letters and digits, joined by spaces, are cut into the same words
 all_lack : (separator : ℕ) (words : List (List ℕ)) → separator < 48 → list_all plain words ≡ true → list_all (lacks separator) words ≡ true

@@ -2,9 +2,9 @@
 -- fails is named by its number, with the first of three reasons. Form: it is no line that may stand
 -- there, or it has no newline. Range: a number in it is not allowed. Order: it may not stand after
 -- the line before it.
-use Rattle.std.specs.Prelude.{ℕ, ◌+◌, Bool, not, if◌then◌else◌, List, [], ◌∷◌, ◌++◌, take, ◌≡◌, codes, position, Option, Some, None, Result, Ok, Err}
+use Rattle.std.specs.Prelude.{ℕ, ◌+◌, Bool, false, not, if◌then◌else◌, List, [], ◌∷◌, ◌++◌, take, ◌≡◌, codes, position, Option, Some, None, Result, Ok, Err}
 use Rattle.std.specs.Str.{bytes_eq}
-use Rattle.text_lines.specs.Lines.{words_of}
+use Rattle.text_lines.specs.Lines.{lines_of, words_of}
 use Rattle.text_lines.specs.declared.end.TextEnd.{TextEnd}
 use Rattle.text_lines.specs.declared.end.TextEnd.TheVariants.{Line}
 use Rattle.text_lines.specs.declared.reason.Reason.{Reason}
@@ -62,6 +62,13 @@ module _ {L B I : Type 0} (rules : LineRules L B I) where
       if bytes_eq line (codes "end") then at_end (number + 1) (next ∷ rest) else
       with_line (judged before number (rules.spelled (words_of line)))
       (λ l. read (rules.after l) (number + 1) (next ∷ rest))
+
+-- what the first line of a text spells, which has a newline and is not `end`, and what stands after it
+pub record FirstLine {L B I : Type 0} (rules : LineRules L B I) (text : List ℕ) (line : L) (rest : List ℕ) : Type 0 where
+  pub bytes : List ℕ
+  pub first : lines_of text ≡ bytes ∷ lines_of rest
+  pub spells : rules.spelled (words_of bytes) ≡ Some line
+  pub goes_on : bytes_eq bytes (codes "end") ≡ false
 
 -- what comes after a step that may be refused
 abbrev pub if_right : {A C : Type 0} → Result A TextEnd → (A → Result C TextEnd) → Result C TextEnd

@@ -1,8 +1,8 @@
 //! What a form of lines is.
 
-ghost use Rattle.std.specs.Prelude.{◌≡◌, ◌++◌, true, List, IfOk, OnOk, OnErr};
+ghost use Rattle.std.specs.Prelude.{◌≡◌, ◌++◌, true, List, IfOk, IfSome, OnOk, OnErr};
 ghost use Rattle.text_lines.specs.Lines.{words_of};
-ghost use Rattle.text_lines.specs.Reading.{LineRules};
+ghost use Rattle.text_lines.specs.Reading.{FirstLine, LineRules};
 
 use rv_word::NoMemory;
 use std::alloc::Global;
@@ -29,6 +29,14 @@ pub trait LineForm {
     /// The line that these bytes spell, if they have the form of one.
     fn line_of(&self, alloc: Global, line: &[u8]) -> Result<Option<Self::Line>, NoMemory>
         ensures { IfOk result (λ l. l ≡ (rules self.now).spelled (words_of line.now)) };
+
+    /// What the first line of a text spells, and what stands after that line, where the form tells it
+    /// without a search for the newline. It may leave any text to the search.
+    fn first_line<'a>(&self, _text: &'a [u8]) -> Option<(Self::Line, &'a [u8])>
+        ensures { IfSome result (λ f. FirstLine (rules self.now) _text.now f.0 f.1.now) }
+    {
+        None
+    }
 
     /// Whether the numbers of a line are allowed.
     fn in_range(&self, line: &Self::Line) -> bool
