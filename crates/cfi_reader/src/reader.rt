@@ -1,16 +1,18 @@
 //! How far the unit that is being read is read, and one word more.
 
-ghost use Rattle.std.specs.Prelude.{◌≡◌, ◌≢◌, ℕ, List, false, length};
+ghost use Rattle.std.specs.Prelude.{◌≡◌, ◌≢◌, ◌≤◌, ℕ, List, true, false, length};
+ghost use Rattle.rv_word.specs.Numbers.{MOST_NUMBERS};
 ghost use Rattle.cfi_unit.specs.Opens.{InCode};
 ghost use Rattle.cfi_reader.specs.Reading.{Closes, IsReading, LeadsOn, START, is_new, is_stuck};
 ghost use Rattle.cfi_reader.specs.Nodes.{rest_of};
 ghost use Rattle.cfi_reader.specs.Trying.{Ended};
+ghost use Rattle.cfi_reader.specs.declared.reader.Step.TheVariants as S;
 
 use crate::entry::Entry;
 use crate::kept::{count_by, entry_by, label_after, open_entry};
 use crate::matching::matches;
 use crate::node::{Else, Next, row_at};
-use cfi_unit::End;
+use cfi_unit::{End, Pattern};
 use rv_instr::Immediate;
 use rv_word::Numbers;
 
@@ -60,6 +62,23 @@ impl Reader {
         ensures { result ≡ is_stuck self }
     {
         self.node == 0
+    }
+
+    /// Takes a word, if a unit goes on with it alone: then it is the next one, and otherwise nothing changes.
+    #[inline(always)]
+    pub fn pass(&mut self, word: u32) -> bool
+        requires { is_new self.old ≡ false }
+        ensures on { result ≡ true → (calls : List ℕ) (here : ℕ) → length calls ≤ MOST_NUMBERS → InCode here 1 → LeadsOn calls self.old word here (S.More self.new) }
+        ensures same { result ≡ false → self.new ≡ self.old }
+    {
+        let row = row_at(self.node);
+        if let (Pattern::Is(code), Next::More(node)) = (row.pattern, row.yes) {
+            if word == code {
+                self.node = node;
+                return true;
+            }
+        }
+        false
     }
 
     /// The entry of what is read, where no word follows, if it is a unit.

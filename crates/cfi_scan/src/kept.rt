@@ -38,7 +38,7 @@ impl Kept {
     }
 
     /// Reads the next word, before which so many came: the only place where a word is read.
-    #[inline(never)]
+    #[inline(always)]
     pub(crate) fn take<L: Ledger>(&mut self, word: u32, index: usize, steps: &mut Steps<L>)
         requires small { HasPlace (profile_of self.old.units.front) self.old.units.entries.items }
         ensures keeps { (words : List ℕ) → length words ≡ index → Keeps (profile_of self.old.units.front) self.old.units.calls self.old.prologue self.old.units.entries.items self.old.units.done self.old.units.last self.old.units.reader words → Keeps (profile_of self.old.units.front) self.old.units.calls self.new.prologue self.new.units.entries.items self.new.units.done self.new.units.last self.new.units.reader (words ++ word ∷ []) }
