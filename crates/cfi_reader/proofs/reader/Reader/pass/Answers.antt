@@ -7,10 +7,10 @@ use Rattle.cfi_reader.specs.Reading.{IsReading}
 use Rattle.cfi_reader.proofs.Followed.{goes_more, trying}
 use Rattle.cfi_reader.proofs.reader.Reader.pass.Goals as goal
 
-pub returns-then-word-code-clause-on : goal.returns-then-word-code-clause-on
-returns-then-word-code-clause-on c is calls here most place held at reading e =
+pub returns-in-More-clause-on : goal.returns-in-More-clause-on
+returns-in-More-clause-on c is calls here most place held at reading e =
     let reader = c.args.self.now in
     let small : c.args.word < 2 ^ 32 = omega (arith, c.ranges.word.fits) in
-    subst (λ (p : Pattern). IsReading calls (record { node = c.in-Is-More.node; numbers = count_by calls p c.args.word reader.numbers; label = label_after p c.args.word reader.label }) (held ++ c.args.word ∷ []) at) c.in-Is-More.is-0
-    (goes_more calls reader c.row_at-row.result c.args.word here most place small c.row_at-row.ensures held at (trying calls reader held c.args.word at reading) e c.in-Is-More.node
-    (ap (λ (p : Pattern). matches p c.args.word here) c.in-Is-More.is-0 ∙ eq-eqb c.args.word c.in-Is-More.code c.if-word-code.true) c.in-Is-More.is-1)
+    subst (λ (p : Pattern). IsReading calls (record { node = c.in-More.node; numbers = count_by calls p c.args.word reader.numbers; label = label_after p c.args.word reader.label }) (held ++ c.args.word ∷ []) at) c.in-Is.is
+    (goes_more calls reader c.row_at-row.result c.args.word here most place small c.row_at-row.ensures held at (trying calls reader held c.args.word at reading) e c.in-More.node
+    (ap (λ (p : Pattern). matches p c.args.word here) c.in-Is.is ∙ eq-eqb c.args.word c.in-Is.code c.if-word-code.true) c.in-More.is)
