@@ -1,7 +1,7 @@
-use Rattle.std.proofs.Common.{◌<◌, ◌^◌, ℕ, [], ◌∷◌, ◌++◌, ap₂, subst, sym, ◌∙◌, arith}
+use Rattle.std.proofs.Common.{◌<◌, ◌^◌, ℕ, ap₂, subst, sym, ◌∙◌, arith}
 use Rattle.rv_code.specs.Decode.{decoded}
-use Rattle.cfi_reader.specs.Kept.{count_by, entry_by}
-use Rattle.cfi_reader.specs.Reading.{IsReading, Leads}
+use Rattle.cfi_reader.specs.Kept.{entry_by}
+use Rattle.cfi_reader.specs.Reading.{Leads}
 use Rattle.cfi_reader.specs.declared.entry.Entry.{Entry}
 use Rattle.cfi_reader.specs.declared.reader.Step.TheVariants.{Before, Done}
 use Rattle.cfi_reader.proofs.Followed.{goes_before, goes_done, goes_more, goes_stuck, goes_try, later}
@@ -12,11 +12,8 @@ ask-returns-in-More t c held at tries e =
     let a = c.args in
     let r = c.row_at-row in
     let small : a.word < 2 ^ 32 = omega (arith, c.ranges.word.fits) in
-    subst (λ (n : ℕ). IsReading a.calls.now (record { node = c.in-More.node; numbers = n; label = c.label_after-label.result }) (held ++ a.word ∷ []) at)
-    (sym c.count_by-numbers.ensures)
-    (subst (λ (l : ℕ). IsReading a.calls.now (record { node = c.in-More.node; numbers = count_by a.calls.now r.result.pattern a.word a.reader.numbers; label = l }) (held ++ a.word ∷ []) at)
-    (sym c.label_after-label.ensures)
-    (goes_more a.calls.now a.reader r.result a.word a.here c.len-few.ensures.most c.requires.place small r.ensures held at tries e c.in-More.node (sym c.if-matches.ensures) c.in-More.is))
+    goes_more a.calls.now a.reader r.result a.word a.here c.len-few.ensures.most c.requires.place small r.ensures held at tries e c.in-More.node _ _
+    c.count_by-numbers.ensures c.label_after-label.ensures (sym c.if-matches.ensures) c.in-More.is
 
 pub ask-returns-in-Done : goal.ask-returns-in-Done
 ask-returns-in-Done t c held at tries e =
