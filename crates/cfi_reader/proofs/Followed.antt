@@ -123,15 +123,16 @@ module _ (calls : List ℕ) (reader : Reader) (row : Row) (word here : ℕ) (mos
   keeps_on : matches row.pattern word here ≡ true → Keeps calls count label (held ++ word ∷ []) at
   keeps_on fits = keeps_more calls row.pattern (rest_of reader.node) held word at reader.numbers reader.label most t.tries said.told (fits_there fits) t.keeps
 
-  pub goes_more : (node : ℕ) → matches row.pattern word here ≡ true → row.yes ≡ N.More node →
-      Leads calls held word at (More (record { node = node; numbers = count; label = label }))
-  goes_more node fits is =
+  pub goes_more : (node numbers kept : ℕ) → numbers ≡ count → kept ≡ label → matches row.pattern word here ≡ true → row.yes ≡ N.More node →
+      Leads calls held word at (More (record { node = node; numbers = numbers; label = kept }))
+  goes_more node numbers kept counted labelled fits is =
       let test = and_parts (not (node == 1)) (same_shapes (rest_of node) (after row.pattern (rest_of reader.node)))
       (ap (λ (n : _). goes_to n (after row.pattern (rest_of reader.node))) (sym is) ∙ said.goes) in
       record {
         reads = subst (λ (rs : List Shape). Reads rs (held ++ word ∷ []) at) (sym (shapes_are (rest_of node) (after row.pattern (rest_of reader.node)) test.1)) (reads_on fits);
         least = least_on row.pattern (rest_of reader.node) held word at t.tries said.let_on (fits_there fits) t.least;
-        keeps = keeps_on fits;
+        keeps = subst (λ (n : ℕ). Keeps calls n kept (held ++ word ∷ []) at) (sym counted)
+            (subst (λ (l : ℕ). Keeps calls count l (held ++ word ∷ []) at) (sym labelled) (keeps_on fits));
         begun = λ one.
             let first : (node == 1) ≡ true = eq-eqb node 1 one in
             let f : false ≡ true = sym (ap not first) ∙ test.0 in

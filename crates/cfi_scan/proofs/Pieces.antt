@@ -2,7 +2,7 @@
 use Rattle.std.proofs.Common.{◌≡◌, ℕ, ◌+◌, ◌*◌, ◌/◌, ◌%◌, ◌<◌, ◌≤◌, List, [], ◌∷◌, ◌++◌, length, min, get_or, set, take, drop, Some, None, inl, inr, refl, sym, ap, ◌∙◌, subst, arith}
 use Rattle.std.proofs.lemmas.List.{append-nil, append_assoc, length_push, length-append, take-append-le, take_more_set, take_all, nil_from_length}
 use Rattle.std.proofs.lemmas.Bool.{cases_eq, eq-eqb, ne_eqb}
-use Rattle.rv_word.specs.MemoryMap.{CODE_START, Profile}
+use Rattle.rv_word.specs.MemoryMap.{CODE_START, Profile, profile_of}
 use Rattle.cfi_reader.specs.declared.entry.Entry.{Entry}
 use Rattle.cfi_scan.specs.declared.kept.Kept.{Kept}
 use Rattle.cfi_reader.specs.Reading.{START}
@@ -51,12 +51,24 @@ pub cut_word : {bytes words left : List ℕ} → (byte : ℕ) → IsCut bytes wo
 cut_word {bytes} {words} {left} byte cut full =
     cut_append cut (byte ∷ []) (word_of (get_or left 0 0) (get_or left 1 0) (get_or left 2 0) byte ∷ []) [] (three_more left byte full)
 
--- four bytes more, where none is left
-pub cut_quad : {bytes words left : List ℕ} → (a b c d : ℕ) → IsCut bytes words left → length left ≡ 0 → IsCut (bytes ++ a ∷ b ∷ c ∷ d ∷ []) (words ++ word_of a b c d ∷ []) []
-cut_quad {bytes} {words} {left} a b c d cut none =
-    let four : IsCut (a ∷ b ∷ c ∷ d ∷ []) (word_of a b c d ∷ []) [] = goes_on a b c d [] [] [] (ends [] (omega arith)) in
-    cut_append cut (a ∷ b ∷ c ∷ d ∷ []) (word_of a b c d ∷ []) []
-    (subst (λ (l : List ℕ). IsCut (l ++ a ∷ b ∷ c ∷ d ∷ []) (word_of a b c d ∷ []) []) (sym (nil_from_length left none)) four)
+-- bytes that are words, where none is left
+pub whole_cut : (piece : List ℕ) → length piece % 4 ≡ 0 → (words : List ℕ) × IsCut piece words []
+whole_cut [] whole = ([], ends [] (omega arith))
+whole_cut (a ∷ []) whole = absurd (omega arith)
+whole_cut (a ∷ b ∷ []) whole = absurd (omega arith)
+whole_cut (a ∷ b ∷ c ∷ []) whole = absurd (omega arith)
+whole_cut (a ∷ b ∷ c ∷ d ∷ rest) whole =
+    let (words, cut) = whole_cut rest (omega arith) in (word_of a b c d ∷ words, goes_on a b c d rest words [] cut)
+
+-- the first of them
+pub first_cut : (rest words : List ℕ) → 4 ≤ length rest → IsCut rest words [] →
+    (more : List ℕ) × ((words ≡ word_of (get_or rest 0 0) (get_or rest 1 0) (get_or rest 2 0) (get_or rest 3 0) ∷ more) × IsCut (drop 4 rest) more [])
+first_cut rest words room (ends left low) = absurd (omega arith)
+first_cut rest words room (goes_on a b c d bytes more left cut) = (more, (refl, cut))
+
+pub none_cut : (rest words : List ℕ) → length rest < 4 → IsCut rest words [] → words ≡ []
+none_cut rest words few (ends left low) = refl
+none_cut rest words few (goes_on a b c d bytes more left cut) = absurd (omega arith)
 
 -- the prologue's words with one more
 pub keeps_prologue : (most : ℕ) (prologue words : List ℕ) (index word : ℕ) → most ≤ length prologue → index < most → length words ≡ index →
@@ -104,6 +116,11 @@ KeepsUnder p calls k words = Keeps p calls k.prologue k.units.entries.items k.un
 
 abbrev pub KeepsWords : Profile → Kept → List ℕ → Type 0
 KeepsWords p k words = KeepsUnder p k.units.calls k words
+
+-- the same under an equal version and list
+pub moved : {v w : ℕ} {calls others : List ℕ} → w ≡ v → others ≡ calls → (k : Kept) (words : List ℕ) → KeepsUnder (profile_of v) calls k words → KeepsUnder (profile_of w) others k words
+moved {v} {w} {calls} {others} version list k words keeps =
+    subst (λ (n : ℕ). KeepsUnder (profile_of n) others k words) (sym version) (subst (λ (ns : List ℕ). KeepsUnder (profile_of v) ns k words) (sym list) keeps)
 
 abbrev pub sight : Profile → Kept → Taken → Sight
 sight p k t = record {
@@ -181,32 +198,19 @@ seen_word p k next t after byte word some is same keeps bytes seen =
     (omega (arith, seen.fed, length_push bytes byte))
     (subst (λ (calls : List ℕ). KeepsUnder p calls next (seen.words ++ word ∷ [])) (sym same) (keeps seen.words (seen_count p k t bytes seen) (keeps_from p k t bytes seen))))
 
--- four bytes that are a word
-pub seen_quad : (p : Profile) (k next : Kept) (t after : Taken) (a b c d word : ℕ) → t.fed % 4 ≡ 0 → word ≡ word_of a b c d → after ≡ record { left = []; fed = t.fed + 4 } →
+-- bytes that are words
+pub seen_words : (p : Profile) (k next : Kept) (t after : Taken) (piece : List ℕ) → t.fed % 4 ≡ 0 → length piece % 4 ≡ 0 → after ≡ record { left = []; fed = t.fed + length piece } →
     next.units.calls ≡ k.units.calls →
-    ((words : List ℕ) → length words ≡ t.fed / 4 → KeepsWords p k words → KeepsUnder p k.units.calls next (words ++ word ∷ [])) →
-    (bytes : List ℕ) → HasSeen p (sight p k t) bytes → HasSeen p (sight p next after) (bytes ++ a ∷ b ∷ c ∷ d ∷ [])
-seen_quad p k next t after a b c d word whole made is same keeps bytes seen =
-    subst (λ (x : Taken). HasSeen p (sight p next x) (bytes ++ a ∷ b ∷ c ∷ d ∷ [])) (sym is)
-    (seen_from p next (record { left = []; fed = t.fed + 4 }) (bytes ++ a ∷ b ∷ c ∷ d ∷ []) (seen.words ++ word ∷ [])
-    (subst (λ (w : ℕ). IsCut (bytes ++ a ∷ b ∷ c ∷ d ∷ []) (seen.words ++ w ∷ []) []) (sym made)
-    (cut_quad a b c d seen.cut (seen_left p k t bytes seen ∙ whole)))
-    (let e : length (bytes ++ a ∷ b ∷ c ∷ d ∷ []) ≡ length bytes + 4 = omega (arith, length-append bytes (a ∷ b ∷ c ∷ d ∷ [])) in omega (arith, seen.fed))
-    (subst (λ (calls : List ℕ). KeepsUnder p calls next (seen.words ++ word ∷ [])) (sym same) (keeps seen.words (seen_count p k t bytes seen) (keeps_from p k t bytes seen))))
-
--- the first four bytes of what is left are taken
-pub four_first : (rest : List ℕ) → 4 ≤ length rest → get_or rest 0 0 ∷ get_or rest 1 0 ∷ get_or rest 2 0 ∷ get_or rest 3 0 ∷ drop 4 rest ≡ rest
-four_first [] room = absurd (omega arith)
-four_first (a ∷ []) room = absurd (omega arith)
-four_first (a ∷ b ∷ []) room = absurd (omega arith)
-four_first (a ∷ b ∷ c ∷ []) room = absurd (omega arith)
-four_first (a ∷ b ∷ c ∷ d ∷ rest) room = refl
-
-pub four_taken : (taken rest piece : List ℕ) → 4 ≤ length rest → taken ++ rest ≡ piece →
-    taken ++ get_or rest 0 0 ∷ get_or rest 1 0 ∷ get_or rest 2 0 ∷ get_or rest 3 0 ∷ [] ++ drop 4 rest ≡ piece
-four_taken taken rest piece room joined =
-    append_assoc taken (get_or rest 0 0 ∷ get_or rest 1 0 ∷ get_or rest 2 0 ∷ get_or rest 3 0 ∷ []) (drop 4 rest)
-    ∙ ap (λ (r : List ℕ). taken ++ r) (four_first rest room) ∙ joined
+    ((words more : List ℕ) → length words ≡ t.fed / 4 → IsCut piece more [] → KeepsWords p k words → KeepsUnder p k.units.calls next (words ++ more)) →
+    (bytes : List ℕ) → HasSeen p (sight p k t) bytes → HasSeen p (sight p next after) (bytes ++ piece)
+seen_words p k next t after piece whole words is same keeps bytes seen =
+    let (more, cut) = whole_cut piece words in
+    let none : t.left ≡ [] = nil_from_length t.left (seen_left p k t bytes seen ∙ whole) in
+    subst (λ (x : Taken). HasSeen p (sight p next x) (bytes ++ piece)) (sym is)
+    (seen_from p next (record { left = []; fed = t.fed + length piece }) (bytes ++ piece) (seen.words ++ more)
+    (cut_append seen.cut piece more [] (subst (λ (l : List ℕ). IsCut (l ++ piece) more []) (sym none) cut))
+    (omega (arith, seen.fed, length-append bytes piece))
+    (subst (λ (calls : List ℕ). KeepsUnder p calls next (seen.words ++ more)) (sym same) (keeps seen.words more (seen_count p k t bytes seen) cut (keeps_from p k t bytes seen))))
 
 -- a code that has ended
 pub ended : (p : Profile) (k : Kept) (t : Taken) (entries : List Entry) (done last fed : ℕ) (bytes : List ℕ) (seen : HasSeen p (sight p k t) bytes) → fed ≡ t.fed → length entries ≡ length k.units.entries.items →

@@ -53,12 +53,13 @@ impl Carry {
         }
     }
 
-    /// Four bytes came that are a word.
-    pub(crate) fn pass_word(&mut self)
-        requires room { self.old.fed + 4 < 2 ^ 32 }
+    /// So many bytes came that are words.
+    pub(crate) fn pass_words(&mut self, bytes: u32)
+        requires room { self.old.fed + bytes < 2 ^ 32 }
         requires whole { self.old.fed % 4 ≡ 0 }
-        ensures { self.new ≡ record { left = []; fed = self.old.fed + 4 } }
+        requires words { bytes % 4 ≡ 0 }
+        ensures { self.new ≡ record { left = []; fed = self.old.fed + bytes } }
     {
-        self.fed += 4;
+        self.fed += bytes;
     }
 }

@@ -91,6 +91,7 @@ impl Feeder {
     }
 
     /// Takes bytes one by one.
+    #[inline(never)]
     fn bytes<L: Ledger>(&mut self, piece: &[u8], steps: &mut Steps<L>)
         requires small { self.old.fed + length piece.now < 2 ^ 32 }
         ensures seen { (bytes : List ℕ) → HasSeen (profile_of self.old.version) self.old bytes → HasSeen (profile_of self.old.version) self.new (bytes ++ piece.now) }
@@ -116,12 +117,26 @@ impl Feeder {
         ensures room { length self.new.entries ≡ length self.old.entries }
         ensures cost { steps.new + self.old.fed / 4 ≡ steps.old + self.new.fed / 4 }
     {
-        let mut rest = piece;
-        while let [a, b, c, d, next @ ..] = rest {
-            self.quad(*a, *b, *c, *d, steps);
-            rest = next;
-        }
+        let (whole, rest) = piece.split_at(piece.len() - piece.len() % 4);
+        self.whole(whole, steps);
         self.bytes(rest, steps);
+    }
+
+    /// Takes words whole, with no bytes after them.
+    fn whole<L: Ledger>(&mut self, piece: &[u8], steps: &mut Steps<L>)
+        requires small { self.old.fed + length piece.now < 2 ^ 32 }
+        requires whole { self.old.fed % 4 ≡ 0 }
+        requires cut { length piece.now % 4 ≡ 0 }
+        ensures seen { (bytes : List ℕ) → HasSeen (profile_of self.old.version) self.old bytes → HasSeen (profile_of self.old.version) self.new (bytes ++ piece.now) }
+        ensures version { self.new.version ≡ self.old.version }
+        ensures calls { self.new.calls ≡ self.old.calls }
+        ensures fed { self.new.fed ≡ self.old.fed + length piece.now }
+        ensures room { length self.new.entries ≡ length self.old.entries }
+        ensures cost { steps.new + self.old.fed / 4 ≡ steps.old + self.new.fed / 4 }
+    {
+        let index = (self.carry.fed() / 4) as usize;
+        self.carry.pass_words(piece.len() as u32);
+        self.kept.take_words(piece, index, steps);
     }
 
     /// Takes one byte.
@@ -138,23 +153,6 @@ impl Feeder {
         if let Some(word) = self.carry.push(byte) {
             self.kept.take(word, index, steps);
         }
-    }
-
-    /// Takes a word whole, by its four bytes.
-    fn quad<L: Ledger>(&mut self, a: u8, b: u8, c: u8, d: u8, steps: &mut Steps<L>)
-        requires small { self.old.fed + 4 < 2 ^ 32 }
-        requires whole { self.old.fed % 4 ≡ 0 }
-        ensures seen { (bytes : List ℕ) → HasSeen (profile_of self.old.version) self.old bytes → HasSeen (profile_of self.old.version) self.new (bytes ++ a ∷ b ∷ c ∷ d ∷ []) }
-        ensures version { self.new.version ≡ self.old.version }
-        ensures calls { self.new.calls ≡ self.old.calls }
-        ensures fed { self.new.fed ≡ self.old.fed + 4 }
-        ensures room { length self.new.entries ≡ length self.old.entries }
-        ensures cost { steps.new + self.old.fed / 4 ≡ steps.old + self.new.fed / 4 }
-    {
-        let index = (self.carry.fed() / 4) as usize;
-        self.carry.pass_word();
-        self.kept
-            .take(u32::from_le_bytes([a, b, c, d]), index, steps);
     }
 
     /// Ends the code.

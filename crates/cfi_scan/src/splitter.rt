@@ -47,6 +47,7 @@ impl Splitter {
     }
 
     /// Takes the next word, before which so many came.
+    #[inline(always)]
     pub(crate) fn take(&mut self, word: u32, index: usize)
         requires room { index < length self.old.entries.items }
         requires small { HasPlace (profile_of self.old.front) self.old.entries.items }
@@ -55,8 +56,11 @@ impl Splitter {
         ensures calls { self.new.calls ≡ self.old.calls }
         ensures room { length self.new.entries.items ≡ length self.old.entries.items }
     {
+        let here = self.front.start() + 4 * index as u64;
         if self.reader.is_new() {
             self.begin(word, index);
+        } else if self.reader.pass(&self.calls, word, here) {
+            return;
         } else if !self.reader.is_stuck() {
             self.go_on(word, index);
         }

@@ -1,7 +1,8 @@
-use Rattle.std.proofs.Common.{◌≡◌, true, sym, arith}
+use Rattle.std.proofs.Common.{◌≡◌, ◌+◌, ◌*◌, ℕ, [], true, length, refl, subst, sym, arith}
 use Rattle.rv_word.specs.MemoryMap.{profile_of}
-use Rattle.cfi_reader.specs.Reading.{is_stuck}
-use Rattle.cfi_scan.proofs.Ended.{splits_before, splits_stuck}
+use Rattle.cfi_reader.specs.Reading.{LeadsOn, is_stuck}
+use Rattle.cfi_reader.specs.declared.reader.Step.TheVariants.{More}
+use Rattle.cfi_scan.proofs.Ended.{as_ended, splits_before, splits_on, splits_stuck}
 use Rattle.cfi_scan.proofs.splitter.Splitter.take.Goals as goal
 
 pub returns-then-is_new-clause-splits : goal.returns-then-is_new-clause-splits
@@ -9,8 +10,23 @@ returns-then-is_new-clause-splits c words len s =
     c.begin.ensures.splits words len (splits_before c.args.self.now.calls (profile_of c.args.self.now.front).units_from c.args.word c.args.self.now.entries.items
     c.args.self.now.done c.args.self.now.last c.args.self.now.reader words s)
 
+pub returns-then-pass-clause-splits : goal.returns-then-pass-clause-splits
+returns-then-pass-clause-splits c words len s =
+    let k = c.args.self.now in
+    let from : ℕ = (profile_of k.front).units_from in
+    let place : c.start.result + 4 * c.args.index ≡ from + 4 * length words = omega (arith, c.start.ensures, len) in
+    splits_on k.calls from c.args.word k.entries.items k.done k.last k.reader c.pass.new.self words
+    (subst (λ (here : ℕ). LeadsOn k.calls k.reader c.args.word here (More c.pass.new.self)) place (c.if-pass.ensures.on refl))
+    (splits_before k.calls from c.args.word k.entries.items k.done k.last k.reader words s)
+
+pub returns-then-not-is_stuck-clause-splits : goal.returns-then-not-is_stuck-clause-splits
+returns-then-not-is_stuck-clause-splits c words len s =
+    c.go_on.ensures.splits words len (as_ended c.args.self.now.calls (profile_of c.args.self.now.front).units_from [] words refl refl refl (c.if-pass.ensures.same refl) s)
+
 pub returns-else-not-is_stuck-clause-splits : goal.returns-else-not-is_stuck-clause-splits
 returns-else-not-is_stuck-clause-splits c words len s =
-    let stuck : is_stuck c.args.self.now.reader ≡ true = sym c.if-not-is_stuck.ensures in
-    splits_stuck c.args.self.now.calls (profile_of c.args.self.now.front).units_from c.args.word c.args.self.now.entries.items
-    c.args.self.now.done c.args.self.now.last c.args.self.now.reader words stuck (omega (arith, c.ranges.word.fits)) s
+    let k = c.args.self.now in
+    let from : ℕ = (profile_of k.front).units_from in
+    let stuck : is_stuck c.pass.new.self ≡ true = sym c.if-not-is_stuck.ensures in
+    splits_stuck k.calls from c.args.word k.entries.items k.done k.last c.pass.new.self words stuck (omega (arith, c.ranges.word.fits))
+    (as_ended k.calls from [] words refl refl refl (c.if-pass.ensures.same refl) s)
