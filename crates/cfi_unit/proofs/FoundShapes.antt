@@ -1,13 +1,11 @@
--- The unit that is recognised is the one of the first shape of the table that the words begin as.
+-- The first shape of the table that words begin as is that of a unit which begins them.
 use Rattle.std.proofs.Common.{◌≡◌, ℕ, zero, suc, ◌+◌, ◌*◌, ◌==◌, ◌&&◌, ◌<◌, ◌^◌, ◌⊎◌, Bool, true, false, not, refl, ap, sym, subst, ◌∙◌, inl, inr, List, [], ◌∷◌, ◌++◌, length, take, drop, arith}
-use Rattle.std.specs.Prelude.{Option, Some, None, if◌then◌else◌, is_none, nat_le, option_map, replicate}
+use Rattle.std.specs.Prelude.{Some, if◌then◌else◌, is_none, nat_le, replicate}
 use Rattle.std.proofs.lemmas.Bool.{and_parts, cases_Bool, eqb-true, le-leb, or_left, or_right}
-use Rattle.std.proofs.lemmas.Bool.Decides.{nat_tests}
-use Rattle.std.proofs.lemmas.List.Elements.{All-from_recursion}
-use Rattle.std.proofs.lemmas.List.{length-replicate, length-take, take-append-drop}
+use Rattle.std.proofs.lemmas.List.{length-replicate}
 use Rattle.std.proofs.lemmas.Option.{same_Some}
 use Rattle.rv_word.proofs.Arrays.{take_all}
-use Rattle.rv_word.proofs.Cases.{cases_Option, chosen}
+use Rattle.rv_word.proofs.Cases.{chosen}
 use Rattle.rv_code.specs.Decode.{decoded}
 use Rattle.cfi_unit.specs.declared.pattern.End.{End}
 use Rattle.cfi_unit.specs.declared.pattern.End.TheVariants as E
@@ -16,21 +14,16 @@ use Rattle.cfi_unit.specs.declared.pattern.Pattern.TheVariants as P
 use Rattle.cfi_unit.specs.declared.unit.Unit as U
 use Rattle.cfi_unit.specs.declared.unit.Unit.TheVariants as V
 use Rattle.cfi_unit.specs.Members.{MOST_MEMBERS, member_of}
-use Rattle.cfi_unit.specs.Recognise.{recognised}
-use Rattle.cfi_unit.specs.UnitWords.{Begins, instr_at, is_jump, may_precede, near_offset, skip_offset, word_count, words_of}
+use Rattle.cfi_unit.specs.UnitWords.{Begins, instr_at, is_jump, may_precede, near_offset, skip_offset, word_count}
 use Rattle.cfi_unit.specs.Patterns.{matches}
 use Rattle.cfi_unit.specs.Shapes.{SHAPES, Shape, all_stores, each_stores, mask, shape, stores}
 use Rattle.cfi_unit.specs.ShapeOf.{shape_of}
-use Rattle.cfi_unit.specs.Opens.{Among, InCode, Opens, Small}
-use Rattle.cfi_unit.specs.FoundShape.{OVER_JUMP, begins_as, first_of, found_shape}
-use Rattle.cfi_unit.specs.ShapeLaw.{RecognisedFound}
-use Rattle.cfi_unit.proofs.Found.{begins_recognised}
+use Rattle.cfi_unit.specs.Opens.{Among, Opens, Small}
+use Rattle.cfi_unit.specs.FoundShape.{begins_as, first_of, found_shape}
 use Rattle.cfi_unit.proofs.Forms.{is_jump_by, is_member_by}
-use Rattle.cfi_unit.proofs.Told.{recognised_begins}
-use Rattle.cfi_unit.proofs.Listed.{each_among, listed}
+use Rattle.cfi_unit.proofs.Listed.{each_among}
 use Rattle.cfi_unit.proofs.MadeUnits.{made}
-use Rattle.cfi_unit.proofs.ShapedUnits.{counted, shape_among, unit_opens}
-use Rattle.cfi_unit.proofs.Stand.{and_both}
+use Rattle.cfi_unit.proofs.ShapedUnits.{counted}
 
 -- words begin as patterns say where the first of them are as these say
 begins_opens : (ps : List Pattern) (ws : List ℕ) (at : ℕ) → begins_as ps ws at ≡ true → Opens ps (take (length ps) ws) at []
@@ -39,14 +32,6 @@ begins_opens [] ws at e = refl
 begins_opens (p ∷ ps) [] at e = absurd (cc)
 begins_opens (p ∷ ps) (w ∷ ws) at e =
     let q = and_parts (matches p w at) (begins_as ps ws (at + 4)) e in (q.0, begins_opens ps ws (at + 4) q.1)
-
-opens_begins : (ps : List Pattern) (ws rest : List ℕ) (at : ℕ) → Opens ps ws at [] → begins_as ps (ws ++ rest) at ≡ true
-unfolding Opens
-opens_begins [] [] rest at o = refl
-opens_begins [] (w ∷ ws) rest at o = absurd o
-opens_begins (p ∷ ps) [] rest at o = absurd (cc)
-opens_begins (p ∷ ps) (w ∷ ws) rest at o =
-    and_both (matches p w at) (begins_as ps (ws ++ rest) (at + 4)) o.0 (opens_begins ps ws rest (at + 4) o.1)
 
 -- what words that begin as some patterns say do as more of them say
 begins_more : (ps qs : List Pattern) (ws : List ℕ) (at : ℕ) → begins_as ps ws at ≡ true →
@@ -70,20 +55,6 @@ first_among (r ∷ ss) ws at s e =
       | inr later ↦ let more = first_among ss ws at s later.1 in (inr more.0, more.1)
     ]
 
-first_none : (ss : List Shape) (ws : List ℕ) (at : ℕ) (s : Shape) → first_of ss ws at ≡ None → Among s ss → begins_as s.words ws at ≡ false
-unfolding Among
-first_none [] ws at s e a = absurd a
-first_none (r ∷ ss) ws at s e a =
-    elim (chosen (begins_as r.words ws at) (Some r) (first_of ss ws at) None e) [
-      | inl here ↦ absurd (cc)
-      | inr later ↦ by a later.0 later.1 (first_none ss ws at s)
-    ]
-  where
-    by : (s ≡ r) ⊎ Among s ss → begins_as r.words ws at ≡ false → first_of ss ws at ≡ None →
-        (first_of ss ws at ≡ None → Among s ss → begins_as s.words ws at ≡ false) → begins_as s.words ws at ≡ false
-    by (inl e) here later more = ap (λ (t : Shape). begins_as t.words ws at) e ∙ here
-    by (inr a) here later more = more later a
-
 first_either : (front back : List Shape) (ws : List ℕ) (at : ℕ) (s : Shape) → first_of (front ++ back) ws at ≡ Some s →
     Among s front ⊎ (first_of back ws at ≡ Some s)
 unfolding Among
@@ -106,11 +77,20 @@ no_jump (w ∷ v ∷ ws) at e f = is_jump_by (at + 4) (decoded v) ∙ next (matc
     next true false e f = refl
     next false b e f = absurd (cc)
 
+abbrev is_over : End → Bool
+is_over E.Over = true
+is_over _ = false
+
 over_first : (ws : List ℕ) (at : ℕ) → found_shape ws at ≡ Some (shape E.Over (P.Skip ∷ [])) → begins_as (P.Skip ∷ P.Jump ∷ []) ws at ≡ false
 over_first ws at e =
-    elim (chosen (begins_as (P.Skip ∷ P.Jump ∷ []) ws at) (Some OVER_JUMP) (first_of SHAPES ws at) (Some (shape E.Over (P.Skip ∷ []))) e) [
-      | inl here ↦ let ends = ap (λ (s : Shape). s.end) (same_Some OVER_JUMP (shape E.Over (P.Skip ∷ [])) here.1) in absurd (cc)
-      | inr later ↦ later.0
+    let over : Shape = shape E.Over (P.Skip ∷ []) in
+    let branch : Shape = shape E.Branch (P.Skip ∷ P.Jump ∷ []) in
+    elim (first_either (take 7 SHAPES) (drop 7 SHAPES) ws at over e) [
+      | inl front ↦ let none = each_among (λ s. not (is_over s.end)) (take 7 SHAPES) over refl front in absurd (cc)
+      | inr back ↦ elim (chosen (begins_as branch.words ws at) (Some branch) (first_of (drop 8 SHAPES) ws at) (Some over) back) [
+        | inl here ↦ let ends = ap (λ (s : Shape). s.end) (same_Some branch over here.1) in absurd (cc)
+        | inr later ↦ later.0
+      ]
     ]
 
 -- stores of which there may be more: no other follows
@@ -138,11 +118,11 @@ fewer_first (suc n) k ws at fails e =
 
 stores_first : (k : ℕ) (ws : List ℕ) (at : ℕ) → found_shape ws at ≡ Some (shape E.Stores (stores k)) → begins_as (stores (suc k)) ws at ≡ false
 stores_first k ws at e =
-    elim (first_either (OVER_JUMP ∷ take 22 SHAPES) all_stores ws at (shape E.Stores (stores k)) e) [
+    elim (first_either (take 22 SHAPES) all_stores ws at (shape E.Stores (stores k)) e) [
       | inl front ↦
-          let none = each_among (λ s. not (is_stores s.end)) (OVER_JUMP ∷ take 22 SHAPES) (shape E.Stores (stores k)) refl front in absurd (cc)
-      | inr back ↦ elim (chosen (begins_as (stores 16) ws at) (Some (shape E.Other (stores 16))) (first_of (each_stores 15) ws at) (Some (shape E.Stores (stores k))) back) [
-        | inl here ↦ let ends = ap (λ (s : Shape). s.end) (same_Some (shape E.Other (stores 16)) (shape E.Stores (stores k)) here.1) in absurd (cc)
+          let none = each_among (λ s. not (is_stores s.end)) (take 22 SHAPES) (shape E.Stores (stores k)) refl front in absurd (cc)
+      | inr back ↦ elim (chosen (begins_as (stores 16) ws at) (Some (shape E.Full (stores 16))) (first_of (each_stores 15) ws at) (Some (shape E.Stores (stores k))) back) [
+        | inl here ↦ let ends = ap (λ (s : Shape). s.end) (same_Some (shape E.Full (stores 16)) (shape E.Stores (stores k)) here.1) in absurd (cc)
         | inr later ↦ fewer_first 15 k ws at later.0 later.1
       ]
     ]
@@ -162,7 +142,7 @@ no_member (w ∷ rest) at e = is_member_by at (decoded w) ∙ ap not (alone (mat
 no_other_store : (k : ℕ) (ws : List ℕ) (at : ℕ) → found_shape ws at ≡ Some (shape E.Stores (stores k)) →
     is_none (member_of (instr_at (drop (3 + k) ws) 0)) ≡ true
 no_other_store k ws at e =
-    let starts = (first_among (OVER_JUMP ∷ SHAPES) ws at (shape E.Stores (stores k)) e).1 in
+    let starts = (first_among SHAPES ws at (shape E.Stores (stores k)) e).1 in
     let many = length-replicate k P.Member in
     let words : length (stores k) ≡ 3 + k = omega arith in
     let longer : begins_as (stores k ++ P.Member ∷ []) ws at ≡ false =
@@ -178,7 +158,7 @@ ahead (V.Near op rs1 rs2 target) ws at e =
       | inl over ↦
           let found : found_shape ws at ≡ Some (shape E.Over (P.Skip ∷ [])) =
           e ∙ ap (λ (b : Bool). Some (if b then shape E.Over (P.Skip ∷ []) else shape E.Near (P.Near ∷ []))) over in
-          let starts = (first_among (OVER_JUMP ∷ SHAPES) ws at (shape E.Over (P.Skip ∷ [])) found).1 in
+          let starts = (first_among SHAPES ws at (shape E.Over (P.Skip ∷ [])) found).1 in
           let alone = no_jump ws at starts (over_first ws at found) in
           rw (over, alone) refl
       | inr other ↦ rw other refl
@@ -188,24 +168,16 @@ ahead (V.Stores rs1 imm members) ws at e =
       | inl all ↦ or_left (nat_le MOST_MEMBERS (length members)) _ (le-leb 16 (length members) (let same = eqb-true (length members) 16 all in omega arith))
       | inr fewer ↦
           let found : found_shape ws at ≡ Some (shape E.Stores (stores (length members))) =
-          e ∙ ap (λ (b : Bool). Some (shape (if b then E.Other else E.Stores) (stores (length members)))) fewer in
+          e ∙ ap (λ (b : Bool). Some (shape (if b then E.Full else E.Stores) (stores (length members)))) fewer in
           or_right (nat_le MOST_MEMBERS (length members)) _ (no_other_store (length members) ws at found)
     ]
 ahead other ws at e = refl
 
-in_table : (s : Shape) → Among s (OVER_JUMP ∷ SHAPES) → Among s SHAPES
-unfolding Among
-in_table s (inl e) = subst (λ (t : Shape). Among t SHAPES) (sym e) (listed SHAPES 8 OVER_JUMP refl)
-in_table s (inr a) = a
-
-pub found_begins : (ws : List ℕ) (at : ℕ) (s : Shape) → found_shape ws at ≡ Some s → InCode at (length ws) → Small ws →
+pub found_begins : (ws : List ℕ) (at : ℕ) (s : Shape) → found_shape ws at ≡ Some s → Small ws →
     (u : U.Unit) × (Begins ws at u × (shape_of u at ≡ s))
-found_begins ws at s e place small =
-    let first = first_among (OVER_JUMP ∷ SHAPES) ws at s e in
-    let high = place.high in
-    let long = length-take (length s.words) ws in
-    let inside : InCode at (length (take (length s.words) ws)) = record { low = place.low; high = grind (arith, nat_tests); round = place.round } in
-    let m = made s (take (length s.words) ws) at (in_table s first.0) inside (take_all (λ (w : ℕ). w < 2 ^ 32) (length s.words) ws small)
+found_begins ws at s e small =
+    let first = first_among SHAPES ws at s e in
+    let m = made s (take (length s.words) ws) at first.0 (take_all (λ (w : ℕ). w < 2 ^ 32) (length s.words) ws small)
     (begins_opens s.words ws at first.1) in
     let count : word_count m.unit ≡ length s.words = counted m.unit at m.fits ∙ ap (λ (r : Shape). length r.words) m.shape_is in (
       m.unit,
@@ -218,27 +190,3 @@ found_begins ws at s e place small =
         m.shape_is,
       ),
     )
-
-pub none_found : (ws : List ℕ) (at : ℕ) → found_shape ws at ≡ None → (u : U.Unit) → Begins ws at u → ⊥
-unfolding Among
-none_found ws at e u b =
-    let no = first_none (OVER_JUMP ∷ SHAPES) ws at (shape_of u at) e (inr (shape_among u at b.fits)) in
-    let parts : words_of u at ++ drop (word_count u) ws ≡ ws =
-    ap (λ (p : List ℕ). p ++ drop (word_count u) ws) (sym b.words_are) ∙ take-append-drop (word_count u) ws in
-    let starts = opens_begins ((shape_of u at).words) (words_of u at) (drop (word_count u) ws) at (unit_opens u at b.fits) in
-    let begun = ap (λ (l : List ℕ). begins_as ((shape_of u at).words) l at) (sym parts) ∙ starts in
-    cc
-
-pub recognised_found : RecognisedFound
-recognised_found ws at place small = by (found_shape ws at) refl
-  where
-    by : (o : Option Shape) → found_shape ws at ≡ o → option_map (λ u. shape_of u at) (recognised ws at) ≡ o
-    by None e =
-        elim (cases_Option (recognised ws at)) [
-          | inl none ↦ rw none refl
-          | inr some ↦
-              absurd
-              (none_found ws at e some.0 (recognised_begins ws at some.0 (All-from_recursion (λ (w : ℕ). w < 2 ^ 32) ws small) some.1))
-        ]
-    by (Some s) e =
-        let (u, (begun, is)) = found_begins ws at s e place small in rw (begins_recognised ws at u begun) (ap (λ (r : Shape). Some r) is)
