@@ -1,6 +1,6 @@
--- The unit that begins a list of words has the first shape of the table that they begin as: of two shapes some word tells
+-- The unit that begins a list of words has the shape of the table that is found there: of two shapes some word tells
 -- which it is, or the longer one goes on where the other has ended.
-use Rattle.std.proofs.Common.{◌≡◌, ℕ, ◌+◌, ◌==◌, ◌&&◌, ◌||◌, Bool, true, false, not, refl, ap, sym, ◌∙◌, inl, inr, lit<, List, [], ◌∷◌, ◌++◌, length, drop}
+use Rattle.std.proofs.Common.{◌≡◌, ℕ, ◌+◌, ◌==◌, ◌&&◌, ◌||◌, Bool, true, false, not, refl, ap, sym, ◌∙◌, inl, inr, lit<, List, [], ◌∷◌, ◌++◌, drop}
 use Rattle.std.specs.Prelude.{Option, Some, None, if◌then◌else◌}
 use Rattle.std.specs.List.{list_all}
 use Rattle.std.proofs.lemmas.Bool.{and_parts, cases_Bool, eqb-true, eq-eqb, not-true, or_cases}
@@ -14,6 +14,7 @@ use Rattle.rv_code.proofs.ReadBack.{decoded-code_of}
 use Rattle.cfi_unit.specs.declared.pattern.Pattern.{Pattern}
 use Rattle.cfi_unit.specs.declared.pattern.Pattern.TheVariants as P
 use Rattle.cfi_unit.specs.declared.pattern.End.{End}
+use Rattle.cfi_unit.specs.declared.pattern.End.TheVariants as E
 use Rattle.cfi_unit.specs.declared.unit.Unit as U
 use Rattle.cfi_unit.specs.Reach.{led_to, reaches}
 use Rattle.cfi_unit.specs.UnitWords.{BAD_TARGET, Begins, is_plain, jump, jump_offset, word_count, words_of}
@@ -21,11 +22,11 @@ use Rattle.cfi_unit.specs.Patterns.{decodes_to, has_form, is_addi, matches}
 use Rattle.cfi_unit.specs.Shapes.{SHAPES, Shape}
 use Rattle.cfi_unit.specs.ShapeOf.{shape_of}
 use Rattle.cfi_unit.specs.Opens.{Among, Opens}
-use Rattle.cfi_unit.specs.FoundShape.{begins_as, continues, first_of, found_shape}
-use Rattle.cfi_unit.proofs.Further.{follows_not}
+use Rattle.cfi_unit.specs.FoundShape.{begins_as, continues, first_of, found_shape, goes_on}
+use Rattle.cfi_unit.proofs.Further.{precedes_by}
 use Rattle.cfi_unit.proofs.Jumps.{is_jump_instr}
 use Rattle.cfi_unit.proofs.Listed.{each_among}
-use Rattle.cfi_unit.proofs.ShapedUnits.{counted, shape_among, unit_opens}
+use Rattle.cfi_unit.proofs.ShapedUnits.{shape_among, unit_opens}
 use Rattle.cfi_unit.proofs.Stand.{and_both, both}
 use Rattle.cfi_unit.proofs.UnitInList.{begun_parts}
 
@@ -145,67 +146,70 @@ never_both p q w here e m n =
           cc
     ]
 
--- words that begin as a unit's shape says do not begin as another one
+-- words that begin as one shape says, and are all of it, are not all of another
 abbrev tells : List Pattern → List Pattern → End → Bool
 tells [] qs end = false
 tells (p ∷ ps) [] end = continues end p
 tells (p ∷ ps) (q ∷ qs) end = are_apart p q || tells ps qs end
 
-told_apart : (ps qs : List Pattern) (end : End) (ws : List ℕ) (at : ℕ) → tells ps qs end ≡ true → begins_as ps ws at ≡ true →
-    begins_as qs ws at ≡ true → ((p : Pattern) (here : ℕ) → continues end p ≡ true → begins_as (p ∷ []) (drop (length qs) ws) here ≡ false) → ⊥
-told_apart [] qs end ws at e one two ahead = cc
-told_apart (p ∷ ps) [] end [] at e one two ahead = cc
-told_apart (p ∷ ps) [] end (w ∷ ws) at e one two ahead =
-    let no = ahead p at e in
-    let yes = and_both (matches p w at) true (and_parts (matches p w at) (begins_as ps ws (at + 4)) one).0 refl in
-    cc
-told_apart (p ∷ ps) (q ∷ qs) end [] at e one two ahead = cc
-told_apart (p ∷ ps) (q ∷ qs) end (w ∷ ws) at e one two ahead =
-    let m = and_parts (matches p w at) (begins_as ps ws (at + 4)) one in
-    let n = and_parts (matches q w at) (begins_as qs ws (at + 4)) two in
-    elim (or_cases (are_apart p q) (tells ps qs end) e) [
-      | inl here ↦ never_both p q w at here m.0 n.0
-      | inr later ↦ told_apart ps qs end ws (at + 4) later m.1 n.1 ahead
-    ]
+pub goes : (end : End) (p : Pattern) (w : ℕ) (ws : List ℕ) (at : ℕ) → continues end p ≡ true → matches p w at ≡ true → goes_on end (w ∷ ws) at ≡ true
+goes E.Over P.Jump w ws at e m = m
+goes E.Stores P.Member w ws at e m = m
+goes end p w ws at e m = absurd (cc)
 
-abbrev tells_from : Shape → Shape → Bool
-tells_from r s = tells s.words r.words r.end
+told_apart : (ps qs : List Pattern) (one other : End) (ws : List ℕ) (at : ℕ) → tells ps qs other ≡ true → begins_as ps one ws at ≡ true →
+    begins_as qs other ws at ≡ true → ⊥
+told_apart [] qs one other ws at e b d = cc
+told_apart (p ∷ ps) [] one other [] at e b d = cc
+told_apart (p ∷ ps) [] one other (w ∷ ws) at e b d =
+    let more = goes other p w ws at e (and_parts (matches p w at) (begins_as ps one ws (at + 4)) b).0 in
+    let ends = not-true (goes_on other (w ∷ ws) at) d in
+    cc
+told_apart (p ∷ ps) (q ∷ qs) one other [] at e b d = cc
+told_apart (p ∷ ps) (q ∷ qs) one other (w ∷ ws) at e b d =
+    let m = and_parts (matches p w at) (begins_as ps one ws (at + 4)) b in
+    let n = and_parts (matches q w at) (begins_as qs other ws (at + 4)) d in
+    elim (or_cases (are_apart p q) (tells ps qs other) e) [
+      | inl here ↦ never_both p q w at here m.0 n.0
+      | inr later ↦ told_apart ps qs one other ws (at + 4) later m.1 n.1
+    ]
 
 -- each shape is told from those that come later
 abbrev all_told : List Shape → Bool
 all_told [] = true
-all_told (s ∷ ss) = list_all (λ (r : Shape). tells_from r s) ss && all_told ss
+all_told (s ∷ ss) = list_all (λ (r : Shape). tells s.words r.words r.end) ss && all_told ss
 
 table_told : all_told SHAPES ≡ true
 unfolding code_of decoded
 table_told = refl
 
--- the first that words begin as is the unit's
-first_is : (ss : List Shape) (s : Shape) (ws : List ℕ) (at : ℕ) → all_told ss ≡ true → Among s ss → begins_as s.words ws at ≡ true →
-    ((p : Pattern) (here : ℕ) → continues s.end p ≡ true → begins_as (p ∷ []) (drop (length s.words) ws) here ≡ false) → first_of ss ws at ≡ Some s
+-- so only one is that of a unit which begins some words
+first_is : (ss : List Shape) (s : Shape) (ws : List ℕ) (at : ℕ) → all_told ss ≡ true → Among s ss → begins_as s.words s.end ws at ≡ true →
+    first_of ss ws at ≡ Some s
 unfolding Among
-first_is [] s ws at all a starts ahead = absurd a
-first_is (r ∷ ss) s ws at all (inl e) starts ahead =
-    rw (ap (λ (t : Shape). begins_as t.words ws at) (sym e) ∙ starts) (ap (λ (t : Shape). Some t) (sym e))
-first_is (r ∷ ss) s ws at all (inr a) starts ahead =
-    let two = and_parts (list_all (λ (t : Shape). tells_from t r) ss) (all_told ss) all in
-    elim (cases_Bool (begins_as r.words ws at)) [
-      | inl bad ↦ absurd (told_apart r.words s.words s.end ws at (each_among (λ t. tells_from t r) ss s two.0 a) bad starts ahead)
-      | inr other ↦ rw other (first_is ss s ws at two.1 a starts ahead)
+first_is [] s ws at all a starts = absurd a
+first_is (r ∷ ss) s ws at all (inl e) starts =
+    rw (ap (λ (t : Shape). begins_as t.words t.end ws at) (sym e) ∙ starts) (ap (λ (t : Shape). Some t) (sym e))
+first_is (r ∷ ss) s ws at all (inr a) starts =
+    let two = and_parts (list_all (λ (t : Shape). tells r.words t.words t.end) ss) (all_told ss) all in
+    elim (cases_Bool (begins_as r.words r.end ws at)) [
+      | inl bad ↦ absurd (told_apart r.words s.words r.end s.end ws at (each_among (λ t. tells r.words t.words t.end) ss s two.0 a) bad starts)
+      | inr other ↦ rw other (first_is ss s ws at two.1 a starts)
     ]
 
-pub opens_begins : (ps : List Pattern) (ws rest : List ℕ) (at : ℕ) → Opens ps ws at [] → begins_as ps (ws ++ rest) at ≡ true
+opens_begins : (ps : List Pattern) (end : End) (ws rest : List ℕ) (at : ℕ) → Opens ps ws at [] → ((here : ℕ) → not (goes_on end rest here) ≡ true) →
+    begins_as ps end (ws ++ rest) at ≡ true
 unfolding Opens
-opens_begins [] [] rest at o = refl
-opens_begins [] (w ∷ ws) rest at o = absurd o
-opens_begins (p ∷ ps) [] rest at o = absurd (cc)
-opens_begins (p ∷ ps) (w ∷ ws) rest at o =
-    and_both (matches p w at) (begins_as ps (ws ++ rest) (at + 4)) o.0 (opens_begins ps ws rest (at + 4) o.1)
+opens_begins [] end [] rest at o ends = ends at
+opens_begins [] end (w ∷ ws) rest at o ends = absurd o
+opens_begins (p ∷ ps) end [] rest at o ends = absurd (cc)
+opens_begins (p ∷ ps) end (w ∷ ws) rest at o ends =
+    and_both (matches p w at) (begins_as ps end (ws ++ rest) (at + 4)) o.0 (opens_begins ps end ws rest (at + 4) o.1 ends)
 
 pub found_first : (ws : List ℕ) (at : ℕ) (u : U.Unit) → Begins ws at u → found_shape ws at ≡ Some (shape_of u at)
 found_first ws at u b =
-    let starts : begins_as ((shape_of u at).words) ws at ≡ true =
-    ap (λ (l : List ℕ). begins_as ((shape_of u at).words) l at) (sym (begun_parts ws at u b))
-    ∙ opens_begins ((shape_of u at).words) (words_of u at) (drop (word_count u) ws) at (unit_opens u at b.fits) in
-    first_is SHAPES (shape_of u at) ws at table_told (shape_among u at b.fits) starts
-    (λ p here e. ap (λ n. begins_as (p ∷ []) (drop n ws) here) (sym (counted u at b.fits)) ∙ follows_not u at here (drop (word_count u) ws) p b.fits b.ahead e)
+    let s = shape_of u at in
+    let rest = drop (word_count u) ws in
+    first_is SHAPES s ws at table_told (shape_among u at b.fits)
+    (ap (λ (l : List ℕ). begins_as s.words s.end l at) (sym (begun_parts ws at u b))
+    ∙ opens_begins s.words s.end (words_of u at) rest at (unit_opens u at b.fits) (λ here. sym (precedes_by u at rest here b.fits) ∙ b.ahead))

@@ -1,76 +1,41 @@
--- A word with which a unit goes on may not follow it: a jump a branch over the next word, a store fewer than sixteen.
-use Rattle.std.proofs.Common.{◌≡◌, ℕ, ◌≤◌, ◌==◌, ◌||◌, true, false, not, inl, inr, List, [], ◌∷◌, length, refl, sym, ◌∙◌, arith}
-use Rattle.std.specs.Prelude.{is_none, if◌then◌else◌, nat_le}
-use Rattle.std.proofs.lemmas.Bool.{and_parts, cases_Bool, eq-eqb, leb-true}
+-- What may follow a unit is what does not go on with it.
+use Rattle.std.proofs.Common.{◌≡◌, ℕ, ◌≤◌, ◌<◌, ◌||◌, false, not, inl, inr, List, [], ◌∷◌, length, refl, ap, arith}
+use Rattle.std.specs.Prelude.{is_none, nat_le}
+use Rattle.std.proofs.lemmas.Bool.{cases_eq, lt-leb, ne_eqb}
 use Rattle.rv_code.specs.Decode.{decoded}
-use Rattle.cfi_unit.specs.declared.pattern.Pattern.{Pattern}
-use Rattle.cfi_unit.specs.declared.pattern.Pattern.TheVariants as P
 use Rattle.cfi_unit.specs.declared.pattern.End.TheVariants as E
 use Rattle.cfi_unit.specs.declared.unit.Unit as U
 use Rattle.cfi_unit.specs.declared.unit.Unit.TheVariants as V
 use Rattle.cfi_unit.specs.declared.unit.SystemOp.TheVariants as S
 use Rattle.cfi_unit.specs.Members.{MOST_MEMBERS, member_of}
-use Rattle.cfi_unit.specs.UnitWords.{Fits, may_precede, near_offset, skip_offset, skips_jump}
-use Rattle.cfi_unit.specs.Patterns.{matches}
-use Rattle.cfi_unit.specs.Shapes.{shape}
+use Rattle.cfi_unit.specs.UnitWords.{Fits, instr_at, may_precede, near_offset, skip_offset, skips_jump}
 use Rattle.cfi_unit.specs.ShapeOf.{shape_of}
-use Rattle.cfi_unit.specs.FoundShape.{begins_as, continues}
+use Rattle.cfi_unit.specs.FoundShape.{goes_on}
 use Rattle.cfi_unit.proofs.Forms.{is_jump_by, is_member_by}
 
-near_goes_on : (offset here word : ℕ) (p : Pattern) → continues ((if offset == skip_offset then shape E.Over (P.Skip ∷ []) else shape E.Near (P.Near ∷ [])).end) p ≡ true →
-    matches p word here ≡ true → not (skips_jump offset (decoded word)) ≡ false
-near_goes_on offset here word P.Jump e fits =
-    elim (cases_Bool (offset == skip_offset)) [
-      | inl over ↦ rw (over, is_jump_by here (decoded word), fits) refl
-      | inr near ↦ let f : false ≡ true = rw near at e in absurd (cc)
-    ]
-near_goes_on offset here word p e fits =
-    elim (cases_Bool (offset == skip_offset)) [
-      | inl over ↦ let f : false ≡ true = rw over at e in absurd (cc)
-      | inr near ↦ let f : false ≡ true = rw near at e in absurd (cc)
-    ]
+over_ends : (rest : List ℕ) (here : ℕ) → not (skips_jump skip_offset (instr_at rest 0)) ≡ not (goes_on E.Over rest here)
+over_ends [] here = refl
+over_ends (w ∷ rest) here = ap not (is_jump_by here (decoded w))
 
-fewer : (count : ℕ) → (count == 16) ≡ false → count ≤ 16 → nat_le MOST_MEMBERS count ≡ false
-fewer count e low =
-    elim (cases_Bool (nat_le MOST_MEMBERS count)) [
-      | inl all ↦
-          let a : 16 ≤ count = leb-true 16 count all in
-          let same : count ≡ 16 = omega arith in
-          let f : true ≡ false = sym (eq-eqb count 16 same) ∙ e in
-          absurd (cc)
-      | inr less ↦ less
-    ]
+stores_end : (count : ℕ) (rest : List ℕ) (here : ℕ) → nat_le MOST_MEMBERS count ≡ false →
+    (nat_le MOST_MEMBERS count || is_none (member_of (instr_at rest 0))) ≡ not (goes_on E.Stores rest here)
+stores_end count [] here fewer = rw fewer refl
+stores_end count (w ∷ rest) here fewer = rw fewer (is_member_by here (decoded w))
 
-stores_go_on : (count here word : ℕ) (p : Pattern) → continues (if count == 16 then E.Full else E.Stores) p ≡ true → count ≤ 16 →
-    matches p word here ≡ true → (nat_le MOST_MEMBERS count || is_none (member_of (decoded word))) ≡ false
-stores_go_on count here word P.Member e low fits =
-    elim (cases_Bool (count == 16)) [
-      | inl all ↦ let f : false ≡ true = rw all at e in absurd (cc)
-      | inr less ↦ rw (fewer count less low, is_member_by here (decoded word), fits) refl
+pub precedes_by : (u : U.Unit) (at : ℕ) (rest : List ℕ) (here : ℕ) → Fits u at → may_precede u at rest ≡ not (goes_on ((shape_of u at).end) rest here)
+precedes_by (V.Near op rs1 rs2 target) at rest here f =
+    elim (cases_eq (near_offset at target) skip_offset) [
+      | inl over ↦ rw over (over_ends rest here)
+      | inr near ↦ rw (ne_eqb (near_offset at target) skip_offset near) refl
     ]
-stores_go_on count here word p e low fits =
-    elim (cases_Bool (count == 16)) [
-      | inl all ↦ let f : false ≡ true = rw all at e in absurd (cc)
-      | inr less ↦ let f : false ≡ true = rw less at e in absurd (cc)
+precedes_by (V.Stores rs1 imm members) at rest here f =
+    elim (cases_eq (length members) 16) [
+      | inl all ↦ rw all refl
+      | inr fewer ↦
+          let most : length members ≤ 16 = f.2.most in
+          let below : length members < 16 = omega arith in
+          rw (ne_eqb (length members) 16 fewer) (stores_end (length members) rest here (lt-leb 16 (length members) below))
     ]
-
-pub goes_on_with : (u : U.Unit) (at here word : ℕ) (rest : List ℕ) (p : Pattern) → Fits u at → continues ((shape_of u at).end) p ≡ true →
-    matches p word here ≡ true → may_precede u at (word ∷ rest) ≡ false
-goes_on_with (V.Near op rs1 rs2 target) at here word rest p f e fits = near_goes_on (near_offset at target) here word p e fits
-goes_on_with (V.Stores rs1 imm members) at here word rest p f e fits = stores_go_on (length members) here word p e f.2.most fits
-goes_on_with (V.System S.Ecall) at here word rest p f e fits = absurd (cc)
-goes_on_with (V.System S.Ebreak) at here word rest p f e fits = absurd (cc)
-goes_on_with u at here word rest p f e fits = absurd (cc)
-
--- so what may follow a unit does not go on with it
-pub follows_not : (u : U.Unit) (at here : ℕ) (rest : List ℕ) (p : Pattern) → Fits u at → may_precede u at rest ≡ true →
-    continues ((shape_of u at).end) p ≡ true → begins_as (p ∷ []) rest here ≡ false
-follows_not u at here [] p f ahead e = refl
-follows_not u at here (w ∷ rest) p f ahead e =
-    elim (cases_Bool (begins_as (p ∷ []) (w ∷ rest) here)) [
-      | inl more ↦
-          let no = goes_on_with u at here w rest p f e (and_parts (matches p w here) true more).0 in
-          let bad : true ≡ false = sym ahead ∙ no in
-          absurd (cc)
-      | inr other ↦ other
-    ]
+precedes_by (V.System S.Ecall) at rest here f = refl
+precedes_by (V.System S.Ebreak) at rest here f = refl
+precedes_by other at rest here f = refl
