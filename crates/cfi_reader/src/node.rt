@@ -142,7 +142,7 @@ pub(crate) fn row_at(node: u8) -> Row
         42 => more(Member, 43).or_ended(End::Stores),
         43 => more(Member, 44).or_ended(End::Stores),
         44 => more(Member, 45).or_ended(End::Stores),
-        45 => done(Member, End::Other).or_ended(End::Stores),
+        45 => done(Member, End::Full).or_ended(End::Stores),
         46 => more(Is(0x000f_1463), 47),
         47 => more(Halt(DEEP), 48),
         48 => more(Is(0x0000_0f17), 49),
@@ -178,7 +178,7 @@ pub(crate) fn row_at(node: u8) -> Row
         78 => more(Is(0xff81_8193), 79),
         79 => more(Is(0x001f_8463), 80),
         80 => more(Halt(BAD_RETURN), 81),
-        81 => done(Is(0x000f_8067), End::Other),
+        81 => done(Is(0x000f_8067), End::Return),
         _ => Row {
             pattern: Is(0),
             yes: Next::More(0),

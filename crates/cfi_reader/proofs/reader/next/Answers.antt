@@ -20,7 +20,7 @@ returns-in-More c held at reading e =
       label = l;
     }) (held ++ c.args.word ∷ []) at)
     (sym c.label_after-label.ensures)
-    (goes_more c.args.calls.now asked c.row_at-row.result c.args.word c.args.here c.len-few.ensures.most c.requires.place small c.row_at-row.ensures held at
+    (goes_more c.args.calls.now asked c.row_at-row.result c.args.word c.args.here c.len-few.ensures.most small c.row_at-row.ensures held at
     (c.asked.invariant.tries held at reading e) e c.in-More.node (sym c.if-matches.ensures) c.in-More.is))
 
 pub returns-in-Done : goal.returns-in-Done
@@ -30,7 +30,7 @@ returns-in-Done c held at reading e =
     subst (λ (d : Entry). Leads c.args.calls.now held c.args.word at (Done d))
     (sym (c.entry_by.ensures
     ∙ ap₂ (λ (n l : ℕ). entry_by c.args.calls.now c.in-Done.end n l (decoded c.args.word)) c.count_by-numbers.ensures c.label_after-label.ensures))
-    (goes_done c.args.calls.now asked c.row_at-row.result c.args.word c.args.here c.len-few.ensures.most c.requires.place small c.row_at-row.ensures held at
+    (goes_done c.args.calls.now asked c.row_at-row.result c.args.word c.args.here c.len-few.ensures.most small c.row_at-row.ensures held at
     (c.asked.invariant.tries held at reading e) e c.in-Done.end (sym c.if-matches.ensures) c.in-Done.is)
 
 pub asked-smaller : goal.asked-smaller
@@ -46,7 +46,7 @@ asked-preserved c =
     record {
       other = λ e. omega arith;
       tries = λ held at reading e.
-          goes_try c.args.calls.now asked c.row_at-row.result c.args.word c.args.here c.len-few.ensures.most c.requires.place small c.row_at-row.ensures held at
+          goes_try c.args.calls.now asked c.row_at-row.result c.args.word c.args.here c.len-few.ensures.most small c.row_at-row.ensures held at
           (c.asked.invariant.tries held at reading e) e c.in-Try.other (sym c.if-matches.ensures) c.in-Try.is;
     }
 
@@ -55,12 +55,12 @@ returns-in-Ended c held at reading e =
     let small : c.args.word < 2 ^ 32 = omega (arith, c.ranges.word.fits) in
     let asked : Reader = record { node = c.asked.node; numbers = c.args.reader.numbers; label = c.args.reader.label } in
     subst (λ (d : Entry). Leads c.args.calls.now held c.args.word at (Before d)) (sym c.open_entry.ensures)
-    (goes_before c.args.calls.now asked c.row_at-row.result c.args.word c.args.here c.len-few.ensures.most c.requires.place small c.row_at-row.ensures held at
+    (goes_before c.args.calls.now asked c.row_at-row.result c.args.word c.args.here c.len-few.ensures.most small c.row_at-row.ensures held at
     (c.asked.invariant.tries held at reading e) e c.in-Ended.end (sym c.if-matches.ensures) c.in-Ended.is)
 
 pub returns-in-Stuck : goal.returns-in-Stuck
 returns-in-Stuck c held at reading e =
     let small : c.args.word < 2 ^ 32 = omega (arith, c.ranges.word.fits) in
     let asked : Reader = record { node = c.asked.node; numbers = c.args.reader.numbers; label = c.args.reader.label } in
-    goes_stuck c.args.calls.now asked c.row_at-row.result c.args.word c.args.here c.len-few.ensures.most c.requires.place small c.row_at-row.ensures held at
+    goes_stuck c.args.calls.now asked c.row_at-row.result c.args.word c.args.here c.len-few.ensures.most small c.row_at-row.ensures held at
     (c.asked.invariant.tries held at reading e) e (sym c.if-matches.ensures) c.in-Stuck.is
