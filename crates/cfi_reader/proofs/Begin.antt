@@ -1,8 +1,7 @@
 -- The first word of a unit: what is left of the shapes that it opens, by its instruction.
-use Rattle.std.proofs.Common.{◌≡◌, ℕ, ◌^◌, ◌<◌, ◌==◌, ◌&&◌, ◌||◌, Bool, true, false, inl, inr, List, [], ◌∷◌, refl, ap, ap₂, sym, subst, ◌∙◌, arith, lit<}
+use Rattle.std.proofs.Common.{◌≡◌, ℕ, ◌^◌, ◌<◌, ◌==◌, ◌&&◌, ◌||◌, Bool, true, false, inl, inr, List, [], ◌∷◌, refl, ap, ap₂, sym, subst, ◌∙◌, lit<}
 use Rattle.std.specs.Prelude.{Some, None, if◌then◌else◌}
 use Rattle.std.proofs.lemmas.Bool.{and_parts, cases_Bool, eqb-true, eq-eqb}
-use Rattle.std.proofs.lemmas.Nat.{mod_below}
 use Rattle.std.proofs.lemmas.Option.{same_Some}
 use Rattle.rv_instr.specs.InRange.{IsInstr}
 use Rattle.rv_instr.specs.declared.instr.Instr.{Instr}
@@ -16,13 +15,14 @@ use Rattle.rv_code.proofs.Inverse.{IsWordOf, word-decoded}
 use Rattle.cfi_unit.specs.declared.pattern.Pattern.{Pattern}
 use Rattle.cfi_unit.specs.declared.pattern.Pattern.TheVariants as P
 use Rattle.cfi_unit.specs.declared.pattern.End.{End}
-use Rattle.cfi_unit.specs.Recognise.{led_to}
+use Rattle.cfi_unit.specs.Reach.{led_to}
 use Rattle.cfi_unit.specs.UnitWords.{BAD_TARGET, MINUS_EIGHT, Reaches, jump, jump_offset}
 use Rattle.cfi_unit.specs.Patterns.{decodes_to, has_form, matches}
 use Rattle.cfi_unit.specs.Shapes.{SHAPES, Shape, is, shape}
 use Rattle.cfi_unit.specs.Opens.{Among, InCode, Opens}
 use Rattle.cfi_unit.proofs.LedBack.{led_back}
-use Rattle.cfi_unit.proofs.Near.{near_reached}
+use Rattle.cfi_unit.proofs.Jumps.{is_jump_instr}
+use Rattle.cfi_reader.proofs.Halts.{halt_by, handler_reached}
 use Rattle.cfi_reader.specs.Left.{Reads, same}
 use Rattle.cfi_reader.specs.FirstStep.{opens_call, opens_return}
 use Rattle.cfi_reader.proofs.Steps.{same_is}
@@ -189,13 +189,13 @@ abbrev pub is_return : Instr → Bool
 is_return (Load op rd rs1 imm) = opens_return op rd rs1 imm
 is_return other = false
 
-halt_is : (i : Instr) (at : ℕ) → IsInstr i → at < 2 ^ 64 → is_halt i at ≡ true → i ≡ jump at BAD_TARGET
-halt_is (Jal rd imm) at range low e =
+halt_is : (i : Instr) (at : ℕ) → IsInstr i → is_halt i at ≡ true → i ≡ jump at BAD_TARGET
+halt_is (Jal rd imm) at range e =
     let two = and_parts (rd == 0) (led_to at imm == BAD_TARGET) e in
-    let back : jump_offset at (led_to at imm) ≡ imm = led_back at imm low range.1 in
+    let back : jump_offset at (led_to at imm) ≡ imm = led_back at imm range.1 in
     let field : imm ≡ jump_offset at BAD_TARGET = sym back ∙ ap (jump_offset at) (eqb-true (led_to at imm) BAD_TARGET two.1) in
     ap₂ Jal (eqb-true rd 0 two.0) field
-halt_is i at range low e = absurd (cc)
+halt_is i at range e = absurd (cc)
 
 ecall_is : (i : Instr) → is_ecall i ≡ true → i ≡ Ecall
 ecall_is Ecall e = refl
@@ -259,13 +259,6 @@ answers i at =
     ∷ has_form P.Number at i
     ∷ []
 
-bad_reached : (at : ℕ) → InCode at 1 → Reaches at BAD_TARGET
-bad_reached at place =
-    let low = place.low in
-    let high = place.high in
-    let round = place.round in
-    near_reached at BAD_TARGET (omega arith) (omega arith) (omega arith) (omega arith) (omega arith)
-
 halt_test : (at : ℕ) → Reaches at BAD_TARGET → is_halt (jump at BAD_TARGET) at ≡ true
 halt_test at r = eq-eqb (led_to at (jump_offset at BAD_TARGET)) BAD_TARGET r
 
@@ -273,10 +266,10 @@ pub agrees : (word at : ℕ) (i : Instr) → InCode at 1 → word < 2 ^ 32 → d
 unfolding Agrees
 agrees word at i place small is =
     let of : IsWordOf word i = word-decoded word i small is in
-    let high = place.high in
-    let halt : (word == code_of (jump at BAD_TARGET)) ≡ is_halt i at =
-    code_told word i (jump at BAD_TARGET) (is_halt i at) of is (lit< tt, mod_below _ (2 ^ 20) (lit< tt))
-    (halt_is i at of.in_range (omega (arith, high))) (λ e. ap (λ (k : Instr). is_halt k at) e ∙ halt_test at (bad_reached at place)) in
+    let halt : matches (P.Halt BAD_TARGET) word at ≡ is_halt i at =
+    sym (halt_by BAD_TARGET word at place refl)
+    ∙ code_told word i (jump at BAD_TARGET) (is_halt i at) of is (is_jump_instr 0 at BAD_TARGET (lit< tt))
+    (halt_is i at of.in_range) (λ e. ap (λ (k : Instr). is_halt k at) e ∙ halt_test at (handler_reached BAD_TARGET at place refl)) in
     let ecall = code_told word i Ecall (is_ecall i) of is tt (ecall_is i) (λ e. ap is_ecall e) in
     let ebreak = code_told word i Ebreak (is_ebreak i) of is tt (ebreak_is i) (λ e. ap is_ebreak e) in
     let push = code_told word i (Shift Slli 30 3 48) (is_push i) of is (lit< tt, lit< tt, lit< tt) (push_is i) (λ e. ap is_push e) in
@@ -311,7 +304,8 @@ pub none_agrees : (word at : ℕ) → InCode at 1 → decoded word ≡ None →
     Agrees FIRSTS (false ∷ false ∷ false ∷ false ∷ false ∷ false ∷ false ∷ false ∷ false ∷ false ∷ false ∷ false ∷ []) word at
 unfolding Agrees
 none_agrees word at place is =
-    let halt : (word == code_of (jump at BAD_TARGET)) ≡ false = code_none word (jump at BAD_TARGET) is (lit< tt, mod_below _ (2 ^ 20) (lit< tt)) in
+    let halt : matches (P.Halt BAD_TARGET) word at ≡ false =
+    sym (halt_by BAD_TARGET word at place refl) ∙ code_none word (jump at BAD_TARGET) is (is_jump_instr 0 at BAD_TARGET (lit< tt)) in
     let push : (word == code_of (Shift Slli 30 3 48)) ≡ false = code_none word (Shift Slli 30 3 48) is (lit< tt, lit< tt, lit< tt) in
     let return : (word == code_of (Load Ld 31 3 MINUS_EIGHT)) ≡ false = code_none word (Load Ld 31 3 MINUS_EIGHT) is (lit< tt, lit< tt, lit< tt) in (
       ap (decodes_to (has_form P.Gate at)) is,

@@ -1,13 +1,12 @@
 -- Where no word follows: what is read is a unit, or none is recognised there; and where none is read yet.
-use Rattle.std.proofs.Common.{◌≡◌, ℕ, ◌≤◌, false, List, [], ◌∷◌, length, refl, ap, sym, subst, ◌∙◌, arith}
+use Rattle.std.proofs.Common.{◌≡◌, ℕ, false, List, [], ◌∷◌, refl, ap, sym, subst, ◌∙◌, arith}
 use Rattle.std.specs.Prelude.{Some, None}
-use Rattle.rv_word.specs.MemoryMap.{CODE_START}
 use Rattle.cfi_unit.specs.declared.pattern.Pattern.{Pattern}
 use Rattle.cfi_unit.specs.declared.pattern.End.{End}
 use Rattle.cfi_unit.specs.Recognise.{recognised}
 use Rattle.cfi_unit.specs.Shapes.{SHAPES, shape}
 use Rattle.cfi_unit.specs.ShapeOf.{shape_of}
-use Rattle.cfi_unit.specs.Opens.{Among, InCode, Opens}
+use Rattle.cfi_unit.specs.Opens.{Among, Opens}
 use Rattle.cfi_reader.specs.Left.{is_alone}
 use Rattle.cfi_reader.specs.Nodes.{rest_of}
 use Rattle.cfi_reader.specs.Kept.{label_by, numbers_by, open_entry, told_by}
@@ -25,10 +24,9 @@ start_closes calls reader held at new r = ap (λ (ws : List ℕ). recognised ws 
 pub none_closes : (calls : List ℕ) (reader : Reader) (held : List ℕ) (at : ℕ) → IsReading calls reader held at → Ended (rest_of reader.node) None → recognised held at ≡ None
 none_closes calls reader held at r none = none_recognised (rest_of reader.node) held at r.reads r.least r.small none
 
-pub closes : (calls : List ℕ) (reader : Reader) (held : List ℕ) (at : ℕ) (end : End) → IsReading calls reader held at → InCode at (length held) →
-    Ended (rest_of reader.node) (Some end) → IsUnit calls (open_entry end) held at
-closes calls reader held at end r place e =
-    let w : Whole end held at = whole_unit end held at (r.reads.made (shape end []) e.0) place r.small in
+pub closes : (calls : List ℕ) (reader : Reader) (held : List ℕ) (at : ℕ) (end : End) → IsReading calls reader held at → Ended (rest_of reader.node) (Some end) → IsUnit calls (open_entry end) held at
+closes calls reader held at end r e =
+    let w : Whole end held at = whole_unit end held at (r.reads.made (shape end []) e.0) r.small in
     let m = w.made.1 in
     let more : is_alone ((shape_of m.unit at).end) ≡ false = ap is_alone w.end_is ∙ e.1 in
     record {
@@ -39,9 +37,9 @@ closes calls reader held at end r place e =
     }
 
 -- no word is read yet
-pub start_reads : (calls : List ℕ) (at : ℕ) → CODE_START ≤ at → IsReading calls START [] at
+pub start_reads : (calls : List ℕ) (at : ℕ) → IsReading calls START [] at
 unfolding Among Opens
-start_reads calls at low = record {
+start_reads calls at = record {
   reads = record {
     sound = λ s left among opens. subst (λ (ps : List Pattern). Among (shape s.end ps) SHAPES) opens among;
     made = λ r among. (r, (among, refl, refl));
@@ -52,7 +50,6 @@ start_reads calls at low = record {
     numbers_are = λ s left among opens guarded. ap (told_by calls) (sym (no_numbers s.words));
   };
   begun = λ one. refl;
-  low = low;
   small = tt;
 }
   where

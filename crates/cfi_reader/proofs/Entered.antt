@@ -67,7 +67,7 @@ pub entry_told : (u : U.Unit) (calls : List ℕ) (numbers label : ℕ) (held : L
     entry_by calls ((shape_of u at).end) numbers label (decoded word) ≡ entry_of calls u at
 unfolding words_of last
 entry_told (V.Gate own) calls numbers label held word at most f e k l = absurd (cc)
-entry_told (V.Plain instr) calls numbers label held word at most f e k l = refl
+entry_told (V.Plain instr) calls numbers label held word at most f e k l = absurd (cc)
 entry_told (V.Branch op rs1 rs2 target) calls numbers label held word at most f e k l =
     ap (with_field E.Branch) (last_field (words_of (V.Branch op rs1 rs2 target) at) held word 0 (at + 4) target (lit< tt) refl e)
 entry_told (V.Near op rs1 rs2 target) calls numbers label held word at most f e k l =
@@ -78,7 +78,7 @@ entry_told (V.Near op rs1 rs2 target) calls numbers label held word at most f e 
 entry_told (V.Jump target) calls numbers label held word at most f e k l = absurd (cc)
 entry_told V.Stop calls numbers label held word at most f e k l = absurd (cc)
 entry_told (V.System S.Ecall) calls numbers label held word at most f e k l = absurd (cc)
-entry_told (V.System S.Ebreak) calls numbers label held word at most f e k l = refl
+entry_told (V.System S.Ebreak) calls numbers label held word at most f e k l = absurd (cc)
 entry_told (V.Guarded ns) calls numbers label held word at most f e k l =
     let u : U.Unit = V.Guarded ns in
     let told : numbers ≡ told_by calls ns =

@@ -19,7 +19,7 @@ use Rattle.rv_code.proofs.Inverse.{code_of-decoded}
 use Rattle.cfi_unit.specs.declared.pattern.Pattern.TheVariants as P
 use Rattle.cfi_unit.specs.declared.pattern.End.{End}
 use Rattle.cfi_unit.specs.declared.pattern.End.TheVariants as D
-use Rattle.cfi_unit.specs.Recognise.{led_to}
+use Rattle.cfi_unit.specs.Reach.{led_to}
 use Rattle.cfi_unit.specs.UnitWords.{BAD_TARGET, is_lui, skip_offset}
 use Rattle.cfi_unit.specs.Patterns.{decodes_to, has_form, is_addi}
 use Rattle.cfi_unit.specs.Shapes.{SHAPES, Shape, shape}
@@ -81,7 +81,7 @@ leaves_gate : pick (choose FIRSTS told_gate) SHAPES ≡ shape D.Gate [] ∷ []
 unfolding code_of
 leaves_gate = refl
 
-leaves_plain : pick (choose FIRSTS told_plain) SHAPES ≡ shape D.Other [] ∷ []
+leaves_plain : pick (choose FIRSTS told_plain) SHAPES ≡ shape D.Plain [] ∷ []
 unfolding code_of
 leaves_plain = refl
 
@@ -97,7 +97,7 @@ leaves_ecall : pick (choose FIRSTS told_ecall) SHAPES ≡ shape D.Ecall [] ∷ [
 unfolding code_of
 leaves_ecall = refl
 
-leaves_ebreak : pick (choose FIRSTS told_ebreak) SHAPES ≡ shape D.Other [] ∷ []
+leaves_ebreak : pick (choose FIRSTS told_ebreak) SHAPES ≡ shape D.Ebreak [] ∷ []
 unfolding code_of
 leaves_ebreak = refl
 
@@ -160,18 +160,18 @@ module _ (calls : List ℕ) (word at : ℕ) (place : InCode at 1) (small : word 
 
   ends : (bs : List Bool) (end : End) → answers i at ≡ bs → pick (choose FIRSTS bs) SHAPES ≡ shape end [] ∷ [] → is_single end ≡ true →
       Opened calls word at (Done (first_entry end i))
-  ends bs end e p single = done_by calls word at place small i end is single (left_of bs (shape end [] ∷ []) e p)
+  ends bs end e p single = done_by calls word at small i end is single (left_of bs (shape end [] ∷ []) e p)
 
   goes : (bs : List Bool) (node : ℕ) → answers i at ≡ bs → pick (choose FIRSTS bs) SHAPES ≡ rest_of node → node ≢ 1 → has_form P.Number at i ≡ false →
       Opened calls word at (at_node node)
   goes bs node e p other number =
-      node_by calls word at place small node other 0 0 (left_of bs (rest_of node) e p)
+      node_by calls word at small node other 0 0 (left_of bs (rest_of node) e p)
       (λ fits. let f : false ≡ true = sym (ap (decodes_to (has_form P.Number at)) is ∙ number) ∙ fits in absurd (cc))
 
   counts : (bs : List Bool) (imm : ℕ) → answers i at ≡ bs → pick (choose FIRSTS bs) SHAPES ≡ rest_of 3 → word / 2 ^ 20 ≡ imm →
       Opened calls word at (More (record { node = 3; numbers = count_on calls 0 imm; label = 0 }))
   counts bs imm e p is_imm =
-      node_by calls word at place small 3 (λ one. omega arith) (count_on calls 0 imm) 0 (left_of bs (rest_of 3) e p)
+      node_by calls word at small 3 (λ one. omega arith) (count_on calls 0 imm) 0 (left_of bs (rest_of 3) e p)
       (λ fits. ap (count_on calls 0) (sym is_imm))
 
 module _ (calls : List ℕ) (word at : ℕ) (place : InCode at 1) (small : word < 2 ^ 32) where
@@ -184,7 +184,7 @@ module _ (calls : List ℕ) (word at : ℕ) (place : InCode at 1) (small : word 
             rw other
             (elim (cases_Bool (is_reserved rd)) [
               | inl reserved ↦ rw reserved (goes calls word at place small i is told_none 0 (rw (other, reserved) refl) leaves_none (λ e. omega arith) refl)
-              | inr free ↦ rw free (ends calls word at place small i is told_plain D.Other (rw (other, free) refl) leaves_plain refl)
+              | inr free ↦ rw free (ends calls word at place small i is told_plain D.Plain (rw (other, free) refl) leaves_plain refl)
             ])
       ]
 
@@ -219,7 +219,7 @@ module _ (calls : List ℕ) (word at : ℕ) (place : InCode at 1) (small : word 
             rw alone
             (elim (cases_Bool (is_reserved rd)) [
               | inl reserved ↦ rw reserved (goes calls word at place small i is told_none 0 (rw (alone, reserved) refl) leaves_none (λ e. omega arith) refl)
-              | inr free ↦ rw free (ends calls word at place small i is told_plain D.Other (rw (alone, free) refl) leaves_plain refl)
+              | inr free ↦ rw free (ends calls word at place small i is told_plain D.Plain (rw (alone, free) refl) leaves_plain refl)
             ])
       ]
 
@@ -233,7 +233,7 @@ module _ (calls : List ℕ) (word at : ℕ) (place : InCode at 1) (small : word 
             rw alone
             (elim (cases_Bool (is_reserved rd)) [
               | inl reserved ↦ rw reserved (goes calls word at place small i is told_none 0 (rw (alone, reserved) refl) leaves_none (λ e. omega arith) refl)
-              | inr free ↦ rw free (ends calls word at place small i is told_plain D.Other (rw (alone, free) refl) leaves_plain refl)
+              | inr free ↦ rw free (ends calls word at place small i is told_plain D.Plain (rw (alone, free) refl) leaves_plain refl)
             ])
       ]
 
@@ -265,15 +265,15 @@ module _ (calls : List ℕ) (word at : ℕ) (place : InCode at 1) (small : word 
       rw alone
       (elim (cases_Bool (is_reserved rd)) [
         | inl reserved ↦ rw reserved (goes calls word at place small i is told_none 0 (rw (none, alone, reserved) refl) leaves_none (λ e. omega arith) none)
-        | inr free ↦ rw free (ends calls word at place small i is told_plain D.Other (rw (none, alone, free) refl) leaves_plain refl)
+        | inr free ↦ rw free (ends calls word at place small i is told_plain D.Plain (rw (none, alone, free) refl) leaves_plain refl)
       ])
 
   other_leads : (i : Instr) (rd : ℕ) → decoded word ≡ Some i → answers i at ≡ false ∷ not (is_reserved rd) ∷ false ∷ false ∷ false ∷ false ∷ false ∷ false ∷ false ∷ false ∷ false ∷ false ∷ [] →
-      has_form P.Number at i ≡ false → Opened calls word at (if is_reserved rd then stuck else Done (first_entry D.Other i))
+      has_form P.Number at i ≡ false → Opened calls word at (if is_reserved rd then stuck else Done (first_entry D.Plain i))
   other_leads i rd is e number =
       elim (cases_Bool (is_reserved rd)) [
         | inl reserved ↦ rw reserved (goes calls word at place small i is told_none 0 (rw reserved at e) leaves_none (λ f. omega arith) number)
-        | inr free ↦ rw free (ends calls word at place small i is told_plain D.Other (rw free at e) leaves_plain refl)
+        | inr free ↦ rw free (ends calls word at place small i is told_plain D.Plain (rw free at e) leaves_plain refl)
       ]
 
   pub first_leads : (i : Instr) → decoded word ≡ Some i → Opened calls word at (first_step calls i at)
@@ -291,13 +291,13 @@ module _ (calls : List ℕ) (word at : ℕ) (place : InCode at 1) (small : word 
   first_leads (Shift op rd rs1 amount) is = shift_leads op rd rs1 amount is
   first_leads (ShiftWord op rd rs1 amount) is = other_leads (ShiftWord op rd rs1 amount) rd is refl refl
   first_leads (Register op rd rs1 rs2) is = other_leads (Register op rd rs1 rs2) rd is refl refl
-  first_leads (Fence fence) is = ends calls word at place small (Fence fence) is told_plain D.Other refl leaves_plain refl
+  first_leads (Fence fence) is = ends calls word at place small (Fence fence) is told_plain D.Plain refl leaves_plain refl
   first_leads Ecall is = ends calls word at place small Ecall is told_ecall D.Ecall refl leaves_ecall refl
-  first_leads Ebreak is = ends calls word at place small Ebreak is told_ebreak D.Other refl leaves_ebreak refl
+  first_leads Ebreak is = ends calls word at place small Ebreak is told_ebreak D.Ebreak refl leaves_ebreak refl
 
   -- a word that is no instruction
   pub none_leads : decoded word ≡ None → Opened calls word at stuck
   none_leads is =
-      node_by calls word at place small 0 (λ e. omega arith) 0 0
+      node_by calls word at small 0 (λ e. omega arith) 0 0
       (subst (λ (l : List Shape). Reads l (word ∷ []) at) leaves_none (first_reads word at told_none (none_agrees word at place is)))
       (λ fits. let f : false ≡ true = sym (ap (decodes_to (has_form P.Number at)) is) ∙ fits in absurd (cc))

@@ -1,8 +1,7 @@
 -- Where a word leads that is as a row says, and one that is not.
-use Rattle.std.proofs.Common.{◌≡◌, ℕ, ◌+◌, ◌*◌, ◌^◌, ◌<◌, ◌≤◌, ◌==◌, ◌&&◌, Bool, true, false, not, inl, inr, List, [], ◌∷◌, ◌++◌, length, refl, ap, sym, subst, ◌∙◌, arith, length-append}
+use Rattle.std.proofs.Common.{◌≡◌, ℕ, ◌+◌, ◌*◌, ◌^◌, ◌<◌, ◌≤◌, ◌==◌, ◌&&◌, Bool, true, false, not, inl, inr, List, [], ◌∷◌, ◌++◌, length, refl, ap, sym, subst, ◌∙◌, arith}
 use Rattle.std.specs.Prelude.{Option, Some, None, nat_lt}
 use Rattle.std.proofs.lemmas.Bool.{and_parts, cases_Bool, eq-eqb, eqb-true, ltb-true}
-use Rattle.rv_word.specs.MemoryMap.{CODE_START}
 use Rattle.rv_word.specs.Numbers.{MOST_NUMBERS}
 use Rattle.rv_code.specs.Decode.{decoded}
 use Rattle.cfi_unit.specs.declared.pattern.Pattern.{Pattern}
@@ -12,7 +11,7 @@ use Rattle.cfi_unit.specs.UnitWords.{may_precede}
 use Rattle.cfi_unit.specs.Patterns.{matches}
 use Rattle.cfi_unit.specs.Shapes.{SHAPES, Shape, shape}
 use Rattle.cfi_unit.specs.ShapeOf.{shape_of}
-use Rattle.cfi_unit.specs.Opens.{Among, InCode, Made, Opens, Small}
+use Rattle.cfi_unit.specs.Opens.{Among, Made, Opens, Small}
 use Rattle.cfi_reader.specs.Left.{Reads, Tries, after, go_else, goes_on, is_alone, none_ended, same, without}
 use Rattle.cfi_reader.specs.Nodes.{else_to, goes_to, is_asked, is_row_of, rest_of, same_shapes}
 use Rattle.cfi_reader.specs.Kept.{Keeps, count_by, entry_by, is_longer, label_after, open_entry}
@@ -36,19 +35,6 @@ small_push : (held : List ℕ) (word : ℕ) → Small held → word < 2 ^ 32 →
 small_push [] word small low = (low, tt)
 small_push (w ∷ held) word small low = (small.0, small_push held word small.1 low)
 
-pub in_code : (held : List ℕ) (word here at : ℕ) → InCode here 1 → here ≡ at + 4 * length held → CODE_START ≤ at → InCode at (length (held ++ word ∷ []))
-in_code held word here at place e low =
-    let n : length (held ++ word ∷ []) ≡ length held + 1 = length-append held (word ∷ []) in
-    let high = place.high in
-    let round = place.round in
-    record { low = low; high = omega (arith, n, e, high); round = omega (arith, e, round) }
-
-held_in_code : (held : List ℕ) (here at : ℕ) → InCode here 1 → here ≡ at + 4 * length held → CODE_START ≤ at → InCode at (length held)
-held_in_code held here at place e low =
-    let high = place.high in
-    let round = place.round in
-    record { low = low; high = omega (arith, e, high); round = omega (arith, e, round) }
-
 -- the unit that has ended
 pub record Whole (end : End) (ws : List ℕ) (at : ℕ) : Type 0 where
   pub made : (s : Shape) × Made s ws at
@@ -57,9 +43,9 @@ pub record Whole (end : End) (ws : List ℕ) (at : ℕ) : Type 0 where
 abbrev pub OneEnded : End → List ℕ → ℕ → Type 0
 OneEnded end ws at = (s : Shape) × (Among s SHAPES × (s.end ≡ end) × Opens s.words ws at [])
 
-pub whole_unit : (end : End) (ws : List ℕ) (at : ℕ) → OneEnded end ws at → InCode at (length ws) → Small ws → Whole end ws at
-whole_unit end ws at (s, (among, is, opens)) place small =
-    let m : Made s ws at = made s ws at among place small opens in
+pub whole_unit : (end : End) (ws : List ℕ) (at : ℕ) → OneEnded end ws at → Small ws → Whole end ws at
+whole_unit end ws at (s, (among, is, opens)) small =
+    let m : Made s ws at = made s ws at among small opens in
     record { made = (s, m); end_is = ap (λ (r : Shape). r.end) m.shape_is ∙ is }
 
 longer_alone : (end : End) → is_longer end ≡ true → is_alone end ≡ true
@@ -102,7 +88,7 @@ not_true : (b : Bool) → not b ≡ true → b ≡ false
 not_true true e = absurd (cc)
 not_true false e = refl
 
-module _ (calls : List ℕ) (reader : Reader) (row : Row) (word here : ℕ) (most : length calls ≤ MOST_NUMBERS) (place : InCode here 1) (low : word < 2 ^ 32) (table : is_row_of reader.node row ≡ true)
+module _ (calls : List ℕ) (reader : Reader) (row : Row) (word here : ℕ) (most : length calls ≤ MOST_NUMBERS) (low : word < 2 ^ 32) (table : is_row_of reader.node row ≡ true)
     (held : List ℕ) (at : ℕ) (t : IsTrying calls reader held word at) (e : here ≡ at + 4 * length held) where
   -- what is kept
   abbrev count : ℕ
@@ -137,7 +123,6 @@ module _ (calls : List ℕ) (reader : Reader) (row : Row) (word here : ℕ) (mos
             let first : (node == 1) ≡ true = eq-eqb node 1 one in
             let f : false ≡ true = sym (ap not first) ∙ test.0 in
             absurd (cc);
-        low = t.low;
         small = small_push held word t.small low;
       }
 
@@ -149,7 +134,7 @@ module _ (calls : List ℕ) (reader : Reader) (row : Row) (word here : ℕ) (mos
       let reads : Reads (shape end [] ∷ []) (held ++ word ∷ []) at =
       subst (λ (rs : List Shape). Reads rs (held ++ word ∷ []) at) (sym (shapes_are (shape end [] ∷ []) (after row.pattern (rest_of reader.node)) test.1)) (reads_on fits) in
       let w : Whole end (held ++ word ∷ []) at =
-      whole_unit end (held ++ word ∷ []) at (first_ended end (held ++ word ∷ []) at reads) (in_code held word here at place e t.low) (small_push held word t.small low) in
+      whole_unit end (held ++ word ∷ []) at (first_ended end (held ++ word ∷ []) at reads) (small_push held word t.small low) in
       let m = w.made.1 in
       let longer : is_longer ((shape_of m.unit at).end) ≡ true = ap is_longer w.end_is ∙ test.0 in (
         record {
@@ -159,7 +144,7 @@ module _ (calls : List ℕ) (reader : Reader) (row : Row) (word here : ℕ) (mos
               ∙ entry_told m.unit calls count label held word at most m.fits m.words (keeps_on fits) longer;
           words_are = sym m.words;
         },
-        λ rest. alone_precedes m.unit at rest (longer_alone ((shape_of m.unit at).end) longer),
+        λ rest. alone_precedes m.unit at rest m.fits (longer_alone ((shape_of m.unit at).end) longer),
       )
 
   tries_else : matches row.pattern word here ≡ false → Tries (without row.pattern (rest_of reader.node)) held word at
@@ -173,7 +158,6 @@ module _ (calls : List ℕ) (reader : Reader) (row : Row) (word here : ℕ) (mos
         tries = subst (λ (rs : List Shape). Tries rs held word at) (sym (shapes_are (rest_of node) (without row.pattern (rest_of reader.node)) test.1)) (tries_else fails);
         least = t.least;
         keeps = t.keeps;
-        low = t.low;
         small = t.small;
       }
 
@@ -183,7 +167,7 @@ module _ (calls : List ℕ) (reader : Reader) (row : Row) (word here : ℕ) (mos
       (ap (λ (n : _). else_to reader.node n (without row.pattern (rest_of reader.node))) (sym is) ∙ said.passes) in
       let tries : Tries (shape end [] ∷ []) held word at =
       subst (λ (rs : List Shape). Tries rs held word at) (sym (shapes_are (shape end [] ∷ []) (without row.pattern (rest_of reader.node)) test.1)) (tries_else fails) in
-      let w : Whole end held at = whole_unit end held at (try_ended end held word at tries) (held_in_code held here at place e t.low) t.small in
+      let w : Whole end held at = whole_unit end held at (try_ended end held word at tries) t.small in
       let m = w.made.1 in
       let more : is_alone ((shape_of m.unit at).end) ≡ false = ap is_alone w.end_is ∙ not_true (is_alone end) test.0 in (
         record {
@@ -213,7 +197,6 @@ module _ (calls : List ℕ) (reader : Reader) (row : Row) (word here : ℕ) (mos
         least = least_none held word at tries t.least;
         keeps = keeps_none calls reader.numbers reader.label (held ++ word ∷ []) at reads;
         begun = λ one. absurd (omega arith);
-        low = t.low;
         small = small_push held word t.small low;
       }
 
@@ -238,7 +221,6 @@ trying calls reader held word at r = record {
   tries = to_try (rest_of reader.node) held word at r.reads;
   least = r.least;
   keeps = r.keeps;
-  low = r.low;
   small = r.small;
 }
 
@@ -297,6 +279,5 @@ stuck_stays calls reader held word at stuck low r =
       least = least_none held word at tries r.least;
       keeps = keeps_none calls reader.numbers reader.label (held ++ word ∷ []) at reads;
       begun = λ one. absurd (omega arith);
-      low = r.low;
       small = small_push held word r.small low;
     }

@@ -1,4 +1,5 @@
 pub mod PlainWord
+pub mod Halts
 pub mod Steps
 pub mod Table
 pub mod Ahead

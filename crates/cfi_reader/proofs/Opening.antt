@@ -22,7 +22,7 @@ use Rattle.cfi_unit.specs.UnitWords.{Fits, gate, jump, near_offset, skip_offset,
 use Rattle.cfi_unit.specs.Patterns.{matches}
 use Rattle.cfi_unit.specs.Shapes.{SHAPES, Shape, shape}
 use Rattle.cfi_unit.specs.ShapeOf.{shape_of}
-use Rattle.cfi_unit.specs.Opens.{Among, InCode}
+use Rattle.cfi_unit.specs.Opens.{Among}
 use Rattle.cfi_unit.proofs.Counts.{some_word}
 use Rattle.cfi_reader.specs.Left.{Reads, is_alone}
 use Rattle.cfi_reader.specs.Nodes.{rest_of}
@@ -123,7 +123,8 @@ is_single D.Near = true
 is_single D.Jump = true
 is_single D.Stop = true
 is_single D.Ecall = true
-is_single D.Other = true
+is_single D.Plain = true
+is_single D.Ebreak = true
 is_single _ = false
 
 single_alone : (end : End) → is_single end ≡ true → is_alone end ≡ true
@@ -157,18 +158,15 @@ single_told (V.System S.Ebreak) calls i word at f e is l = refl
 single_told (V.Guarded ns) calls i word at f e is l = absurd (cc)
 single_told (V.Stores rs1 imm members) calls i word at f e is l =
     elim (cases_Bool (length members == 16)) [
-      | inl all ↦ rw all refl
-      | inr fewer ↦ rw fewer refl
+      | inl all ↦ let g : false ≡ true = rw all at l in absurd (cc)
+      | inr fewer ↦ let g : false ≡ true = rw fewer at l in absurd (cc)
     ]
 single_told (V.Call target) calls i word at f e is l = absurd (cc)
 single_told (V.Ijump which rs1 imm label) calls i word at f e is l = absurd (cc)
 single_told (V.Icall rs1 imm label) calls i word at f e is l = absurd (cc)
-single_told V.Return calls i word at f e is l = refl
+single_told V.Return calls i word at f e is l = absurd (cc)
 
-one_in_code : (at : ℕ) → InCode at 1 → InCode at (length {A = ℕ} (at ∷ []))
-one_in_code at place = record { low = place.low; high = place.high; round = place.round }
-
-module _ (calls : List ℕ) (word at : ℕ) (place : InCode at 1) (small : word < 2 ^ 32) where
+module _ (calls : List ℕ) (word at : ℕ) (small : word < 2 ^ 32) where
   -- at a node, of a word that is no number
   pub node_by : (node : ℕ) → node ≢ 1 → (numbers label : ℕ) → Reads (rest_of node) (word ∷ []) at →
       (matches P.Number word at ≡ true → numbers ≡ count_on calls 0 (word / 2 ^ 20)) → Opened calls word at (More (record { node = node; numbers = numbers; label = label }))
@@ -177,14 +175,13 @@ module _ (calls : List ℕ) (word at : ℕ) (place : InCode at 1) (small : word 
     least = first_least word at;
     keeps = first_keeps calls numbers label word at number;
     begun = λ one. absurd (other one);
-    low = place.low;
     small = (small, tt);
   }
 
   pub done_by : (i : Instr) (end : End) → decoded word ≡ Some i → is_single end ≡ true → Reads (shape end [] ∷ []) (word ∷ []) at →
       Opened calls word at (Done (first_entry end i))
   done_by i end is single reads =
-      let w : Whole end (word ∷ []) at = whole_unit end (word ∷ []) at (first_ended end (word ∷ []) at reads) place (small, tt) in
+      let w : Whole end (word ∷ []) at = whole_unit end (word ∷ []) at (first_ended end (word ∷ []) at reads) (small, tt) in
       let m = w.made.1 in
       let one : is_single ((shape_of m.unit at).end) ≡ true = ap is_single w.end_is ∙ single in (
         record {
@@ -193,7 +190,7 @@ module _ (calls : List ℕ) (word at : ℕ) (place : InCode at 1) (small : word 
           entry_is = ap (λ (d : End). first_entry d i) (sym w.end_is) ∙ single_told m.unit calls i word at m.fits m.words is one;
           words_are = sym m.words;
         },
-        λ rest. alone_precedes m.unit at rest (single_alone ((shape_of m.unit at).end) one),
+        λ rest. alone_precedes m.unit at rest m.fits (single_alone ((shape_of m.unit at).end) one),
       )
 
 -- a plain word is a unit

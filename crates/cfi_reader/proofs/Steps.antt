@@ -7,7 +7,8 @@ use Rattle.cfi_unit.specs.declared.pattern.End.{End}
 use Rattle.cfi_unit.specs.Patterns.{matches}
 use Rattle.cfi_unit.specs.Shapes.{Shape, shape}
 use Rattle.cfi_unit.specs.Opens.{Among, Opens}
-use Rattle.cfi_reader.specs.Left.{Reads, Tries, after, are_apart, continues, go_else, go_on, is_told, lets, lets_one, same, tells, without}
+use Rattle.cfi_unit.specs.FoundShape.{continues}
+use Rattle.cfi_reader.specs.Left.{Reads, Tries, after, are_apart, go_else, go_on, is_told, lets, lets_one, same, tells, without}
 
 -- what the tests of patterns say
 pub same_is : (p q : Pattern) → same p q ≡ true → p ≡ q

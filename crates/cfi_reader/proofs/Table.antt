@@ -60,7 +60,10 @@ end_is D.Icall D.Icall e = refl
 end_is D.Gate D.Gate e = refl
 end_is D.Ecall D.Ecall e = refl
 end_is D.Guarded D.Guarded e = refl
-end_is D.Other D.Other e = refl
+end_is D.Plain D.Plain e = refl
+end_is D.Ebreak D.Ebreak e = refl
+end_is D.Full D.Full e = refl
+end_is D.Return D.Return e = refl
 end_is a b e = absurd (cc)
 
 words_are : (a b : List Pattern) → same_words a b ≡ true → a ≡ b

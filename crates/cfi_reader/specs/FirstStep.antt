@@ -10,7 +10,7 @@ use Rattle.rv_instr.specs.declared.instr.ShiftOp.TheVariants.{Slli}
 use Rattle.rv_instr.specs.declared.instr.LoadOp.{LoadOp}
 use Rattle.rv_instr.specs.declared.instr.LoadOp.TheVariants.{Ld}
 use Rattle.cfi_unit.specs.Patterns.{is_addi}
-use Rattle.cfi_unit.specs.Recognise.{led_to}
+use Rattle.cfi_unit.specs.Reach.{led_to}
 use Rattle.cfi_unit.specs.UnitWords.{BAD_TARGET, MINUS_EIGHT, is_lui, skip_offset}
 use Rattle.cfi_reader.specs.Kept.{count_on}
 use Rattle.cfi_reader.specs.declared.entry.Entry.TheVariants as E

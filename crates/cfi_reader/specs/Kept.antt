@@ -74,7 +74,8 @@ is_longer D.Call = true
 is_longer (D.Ijump which) = true
 is_longer D.Icall = true
 is_longer D.Guarded = true
-is_longer D.Other = true
+is_longer D.Full = true
+is_longer D.Return = true
 is_longer _ = false
 
 -- the offset field of a jump

@@ -7,6 +7,7 @@ use Rattle.cfi_unit.specs.declared.pattern.End.{End}
 use Rattle.cfi_unit.specs.declared.pattern.End.TheVariants as D
 use Rattle.cfi_unit.specs.Patterns.{matches}
 use Rattle.cfi_unit.specs.Shapes.{SHAPES, Shape, shape}
+use Rattle.cfi_unit.specs.FoundShape.{continues}
 use Rattle.cfi_unit.specs.Opens.{Among, Opens}
 
 -- of the units of which all words so far are the first, these are left
@@ -69,13 +70,6 @@ is_told p (q ∷ left) = same p q || are_apart p q
 abbrev pub tells : Pattern → List Shape → Bool
 tells p [] = true
 tells p (r ∷ rs) = is_told p r.words && tells p rs
-
--- a unit of this kind that has ended goes on where the next word is as a pattern says: a branch over the next
--- word with a jump, and stores with a store
-abbrev pub continues : End → Pattern → Bool
-continues D.Over P.Jump = true
-continues D.Stores P.Member = true
-continues end p = false
 
 -- each that has ended goes on so
 abbrev pub lets_one : Pattern → End → List Pattern → Bool

@@ -1,11 +1,12 @@
 -- The nodes of the reader: what is left at each of the units that may begin with the words that are read.
-use Rattle.std.specs.Prelude.{ℕ, zero, suc, ◌-◌, ◌/◌, ◌%◌, ◌==◌, ◌&&◌, Bool, true, false, not, nat_lt, List, [], ◌∷◌, ◌++◌, map, drop, replicate, if◌then◌else◌}
+use Rattle.std.specs.Prelude.{ℕ, zero, suc, ◌-◌, ◌/◌, ◌%◌, ◌==◌, ◌&&◌, ◌||◌, Bool, true, false, not, nat_lt, List, [], ◌∷◌, ◌++◌, map, drop, replicate, if◌then◌else◌}
 use Rattle.cfi_unit.specs.declared.pattern.Pattern.{Pattern}
 use Rattle.cfi_unit.specs.declared.pattern.Pattern.TheVariants as P
 use Rattle.cfi_unit.specs.declared.pattern.End.{End}
 use Rattle.cfi_unit.specs.declared.pattern.End.TheVariants as D
 use Rattle.cfi_unit.specs.declared.target_word.TargetWord.{TargetWord}
 use Rattle.cfi_unit.specs.declared.target_word.TargetWord.TheVariants.{First, Second}
+use Rattle.cfi_unit.specs.UnitWords.{BAD_RETURN, BAD_TARGET, DEEP}
 use Rattle.cfi_unit.specs.Shapes.{SHAPES, Shape, all_stores, call, each_guarded, guarded, icall, ijump, return, shape}
 use Rattle.cfi_reader.specs.Kept.{is_longer}
 use Rattle.cfi_reader.specs.Left.{after, is_alone, lets, same, tells, without}
@@ -31,7 +32,7 @@ fewer_stores zero = []
 fewer_stores (suc n) = shape D.Stores (replicate n P.Member) ∷ fewer_stores n
 
 abbrev pub more_stores : ℕ → List Shape
-more_stores n = shape D.Other (replicate n P.Member) ∷ fewer_stores n
+more_stores n = shape D.Full (replicate n P.Member) ∷ fewer_stores n
 
 abbrev pub with_numbers : ℕ → List Shape
 with_numbers n = map (behind 1) computed ++ (map (behind 1) (each_guarded n) ++ map (behind 1) all_stores)
@@ -40,7 +41,7 @@ with_numbers n = map (behind 1) computed ++ (map (behind 1) (each_guarded n) ++ 
 abbrev pub rest_of : ℕ → List Shape
 rest_of node =
     if nat_lt node 2 then (if node == 1 then SHAPES else [])
-    else if nat_lt node 3 then shape D.Over [] ∷ shape D.Branch (P.Jump ∷ []) ∷ []
+    else if nat_lt node 3 then shape D.Branch (P.Jump ∷ []) ∷ shape D.Over [] ∷ []
     else if nat_lt node 11 then with_numbers (11 - node)
     else if nat_lt node 12 then with_numbers 0
     else if nat_lt node 13 then map (behind 1) computed
@@ -54,7 +55,7 @@ rest_of node =
     else if nat_lt node 66 then shape D.Icall (drop 12 icall) ∷ []
     else if nat_lt node 71 then shape (D.Ijump Second) (drop (node - 58) (ijump Second)) ∷ []
     else if nat_lt node 78 then shape D.Icall (drop (node - 58) icall) ∷ []
-    else if nat_lt node 82 then shape D.Other (drop (node - 77) return) ∷ []
+    else if nat_lt node 82 then shape D.Return (drop (node - 77) return) ∷ []
     else []
 
 -- the same shapes
@@ -76,7 +77,10 @@ same_end D.Icall D.Icall = true
 same_end D.Gate D.Gate = true
 same_end D.Ecall D.Ecall = true
 same_end D.Guarded D.Guarded = true
-same_end D.Other D.Other = true
+same_end D.Plain D.Plain = true
+same_end D.Ebreak D.Ebreak = true
+same_end D.Full D.Full = true
+same_end D.Return D.Return = true
 same_end _ _ = false
 
 abbrev pub same_words : List Pattern → List Pattern → Bool
@@ -104,10 +108,13 @@ else_to node (L.Try other) rests = (nat_lt node other && is_asked other) && same
 else_to node (L.Ended end) rests = not (is_alone end) && same_shapes (shape end [] ∷ []) rests
 else_to node L.Stuck rests = same_shapes [] rests
 
+abbrev pub is_handler : ℕ → Bool
+is_handler to = (to == BAD_TARGET) || ((to == BAD_RETURN) || (to == DEEP))
+
 -- a pattern that stands behind the first of a unit
 abbrev pub is_later : Pattern → Bool
 is_later (P.Is code) = true
-is_later (P.Halt to) = true
+is_later (P.Halt to) = is_handler to
 is_later P.Number = true
 is_later P.Jump = true
 is_later P.Link = true

@@ -1,6 +1,5 @@
 -- One unit that is being read, a word at a time: what is held of it, and where one word more leads.
 use Rattle.std.specs.Prelude.{◌≡◌, ℕ, ◌+◌, ◌*◌, ◌≤◌, ◌==◌, Bool, true, List, [], ◌∷◌, ◌++◌, length, Option, Some, None}
-use Rattle.rv_word.specs.MemoryMap.{CODE_START}
 use Rattle.cfi_unit.specs.declared.unit.Unit as U
 use Rattle.cfi_unit.specs.UnitWords.{Begins, Fits, may_precede, word_count, words_of}
 use Rattle.cfi_unit.specs.Opens.{Small}
@@ -42,7 +41,6 @@ pub record IsReading (calls : List ℕ) (reader : Reader) (held : List ℕ) (at 
   pub least : AtLeast held at
   pub keeps : Keeps calls reader.numbers reader.label held at
   pub begun : reader.node ≡ 1 → held ≡ []
-  pub low : CODE_START ≤ at
   pub small : Small held
 
 -- words are a unit's at an address, with this entry

@@ -1,6 +1,5 @@
 -- What is held of a unit where a word is asked for the patterns of a node. Only private contracts cite it.
-use Rattle.std.specs.Prelude.{◌≡◌, ℕ, ◌+◌, ◌*◌, ◌≤◌, true, false, List, [], length, Option, Some, None}
-use Rattle.rv_word.specs.MemoryMap.{CODE_START}
+use Rattle.std.specs.Prelude.{◌≡◌, ℕ, ◌+◌, ◌*◌, true, false, List, [], length, Option, Some, None}
 use Rattle.cfi_unit.specs.declared.pattern.End.{End}
 use Rattle.cfi_unit.specs.Shapes.{Shape, shape}
 use Rattle.cfi_unit.specs.Opens.{Among, Small}
@@ -15,7 +14,6 @@ pub record IsTrying (calls : List ℕ) (reader : Reader) (held : List ℕ) (word
   pub tries : Tries (rest_of reader.node) held word at
   pub least : AtLeast held at
   pub keeps : Keeps calls reader.numbers reader.label held at
-  pub low : CODE_START ≤ at
   pub small : Small held
 
 -- where the word leads

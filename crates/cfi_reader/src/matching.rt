@@ -2,6 +2,7 @@
 
 ghost use Rattle.std.specs.Prelude.{◌≡◌, ℕ, true};
 ghost use Rattle.rv_code.specs.Encode.{code_of};
+ghost use Rattle.cfi_unit.specs.Opens.{InCode};
 ghost use Rattle.cfi_unit.specs.Patterns.{matches};
 ghost use Rattle.cfi_unit.specs.UnitWords.{jump};
 ghost use Rattle.cfi_unit.specs.declared.pattern.Pattern.TheVariants as P;
@@ -11,10 +12,13 @@ use cfi_unit::Pattern;
 use rv_code::{decode, encode};
 use rv_instr::{Immediate, ImmediateOp, Instr, Reg, UpperOp};
 
-/// Whether a word, which stands at an address, is as a pattern says that stands behind the first of a unit.
+/// Whether a word, which stands at an address, is as a pattern says that stands behind the first of a unit. From each place
+/// in code a handler is reached, so a jump to it is told by its word.
+#[tactic(auto, using(crate::proofs::Halts::halt_by))]
 #[inline(always)]
 pub(crate) fn matches(pattern: Pattern, word: u32, here: u64) -> bool
-    requires { is_later pattern ≡ true }
+    requires later { is_later pattern ≡ true }
+    requires place { InCode here 1 }
     ensures { result ≡ matches pattern word here }
 {
     match pattern {

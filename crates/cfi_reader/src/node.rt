@@ -95,7 +95,7 @@ const ROWS: [(Pattern, Next, Else); 82] = [
     (Member, More(43), Ended(End::Stores)),
     (Member, More(44), Ended(End::Stores)),
     (Member, More(45), Ended(End::Stores)),
-    (Member, Done(End::Other), Ended(End::Stores)),
+    (Member, Done(End::Full), Ended(End::Stores)),
     (Is(0x000f_1463), More(47), Stuck),
     (Halt(DEEP), More(48), Stuck),
     (Is(0x0000_0f17), More(49), Stuck),
@@ -135,7 +135,7 @@ const ROWS: [(Pattern, Next, Else); 82] = [
     (Is(0x001f_8463), More(80), Stuck),
     // 80 to 81
     (Halt(BAD_RETURN), More(81), Stuck),
-    (Is(0x000f_8067), Done(End::Other), Stuck),
+    (Is(0x000f_8067), Done(End::Return), Stuck),
 ];
 
 /// The row of a node.

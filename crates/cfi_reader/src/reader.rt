@@ -87,7 +87,7 @@ impl Reader {
 
     /// The entry of what is read, where no word follows, if it is a unit.
     pub fn close(self) -> Option<Entry>
-        ensures { (calls held : List ℕ) (at : ℕ) → IsReading calls self held at → InCode at (length held) → Closes calls held at result }
+        ensures { (calls held : List ℕ) (at : ℕ) → IsReading calls self held at → Closes calls held at result }
     {
         if self.node == 1 {
             return None;

@@ -1,21 +1,21 @@
 -- What is known of each unit of a list where it stands holds of the whole list: all fit, and what follows
 -- each may follow it. Only a jump or a stop begins with `jal x0`, so only it may not follow a branch over
 -- one word; and none begins with a store.
-use Rattle.std.proofs.Common.{◌≡◌, ℕ, ◌+◌, ◌*◌, ◌==◌, ◌≤◌, inl, inr, Bool, true, false, List, [], ◌∷◌, ◌++◌, length, refl, sym, ap, ◌∙◌, if◌then◌else◌, arith}
-use Rattle.std.specs.Prelude.{Option, Some, None, IsTrue, nat_le, option_and_then}
+use Rattle.std.proofs.Common.{◌≡◌, ℕ, ◌+◌, ◌*◌, ◌==◌, ◌≤◌, inl, inr, Bool, true, false, List, [], ◌∷◌, ◌++◌, length, refl, sym, ap, ◌∙◌, arith}
+use Rattle.std.specs.Prelude.{Some, None, IsTrue, map, nat_le, slice_get}
 use Rattle.std.proofs.lemmas.Bool.{cases_Bool, eqb-true}
-use Rattle.std.proofs.lemmas.Option.{same_Some}
+use Rattle.std.proofs.lemmas.List.{length-map}
 use Rattle.rv_instr.specs.declared.instr.Instr.{Instr}
 use Rattle.rv_instr.specs.declared.instr.Instr.TheVariants.{Jal, Store}
-use Rattle.rv_instr.specs.declared.instr.StoreOp.{StoreOp}
-use Rattle.rv_word.proofs.Cases.{cases_Option, guarded}
+use Rattle.rv_code.specs.Encode.{code_of}
+use Rattle.rv_code.proofs.ReadBack.{decoded-code_of}
 use Rattle.cfi_unit.specs.declared.unit.Unit as U
 use Rattle.cfi_unit.specs.declared.unit.Unit.TheVariants as V
-use Rattle.cfi_unit.specs.declared.members.Member.{Member}
+use Rattle.cfi_unit.specs.declared.unit.SystemOp.TheVariants as S
 use Rattle.cfi_unit.specs.Members.{MOST_MEMBERS, member_of}
-use Rattle.cfi_unit.specs.Recognise.{if_stands, jump_or_stop, led_to, recognised, stands, unit_from}
-use Rattle.cfi_unit.specs.UnitWords.{BAD_TARGET, Fits, instr_at, is_jump, may_precede, near_offset, skip_offset, word_count, words_of}
-use Rattle.cfi_unit.proofs.Found.{found, words_counted}
+use Rattle.cfi_unit.specs.UnitWords.{Fits, instr_at, instrs_of, is_jump, is_plain, may_precede, near_offset, skip_offset, word_count, words_of}
+use Rattle.cfi_unit.proofs.UnitInList.{words_counted}
+use Rattle.cfi_rules.proofs.InRange.{AreInstrs, unit_instrs}
 use Rattle.cfi_unit.proofs.Splits.{precedes_nothing}
 use Rattle.cfi_rules.specs.Placed.{AllAhead, AllFit, code_from}
 use Rattle.cfi_rules.specs.Split.{unit_in}
@@ -33,68 +33,51 @@ is_jump_unit (V.Jump target) = true
 is_jump_unit V.Stop = true
 is_jump_unit other = false
 
-jal_is : (o : Option Instr) → is_jump o ≡ true → (imm : ℕ) × (o ≡ Some (Jal 0 imm))
-jal_is (Some (Jal rd imm)) e = (imm, ap (λ r. Some (Jal r imm)) (eqb-true rd 0 e))
-jal_is other e = absurd (cc)
+-- only a jump or a stop begins with `jal x0`, and none with a store
+plain_opens : (i : Instr) → is_plain i ≡ true → (is_jump (Some i) ≡ false) × (member_of (Some i) ≡ None)
+plain_opens (Jal rd imm) e = absurd (cc)
+plain_opens (Store op rs1 rs2 imm) e = absurd (cc)
+plain_opens other e = (refl, refl)
 
-jumps : (target : ℕ) (b : Bool) → is_jump_unit (if b then V.Stop else V.Jump target) ≡ true
-jumps target true = refl
-jumps target false = refl
+unit_opens : (v : U.Unit) (at : ℕ) → Fits v at → (i : Instr) → slice_get (instrs_of v at) 0 ≡ Some i →
+    (is_jump (Some i) ≡ is_jump_unit v) × (member_of (Some i) ≡ None)
+unit_opens (V.Plain instr) at f i e = let p = plain_opens instr f.1 in (ap is_jump (sym e) ∙ p.0, ap member_of (sym e) ∙ p.1)
+unit_opens (V.System S.Ecall) at f i e = (ap is_jump (sym e), ap member_of (sym e))
+unit_opens (V.System S.Ebreak) at f i e = (ap is_jump (sym e), ap member_of (sym e))
+unit_opens (V.Guarded []) at f i e = absurd (let some = f.0.some in let none : length {A = ℕ} [] ≡ 0 = refl in omega arith)
+unit_opens (V.Guarded (n ∷ numbers)) at f i e = (ap is_jump (sym e), ap member_of (sym e))
+unit_opens other at f i e = (ap is_jump (sym e), ap member_of (sym e))
 
--- the first of some words, whatever follows them
-first_same : (xs ys zs : List ℕ) → 1 ≤ length xs → instr_at (xs ++ ys) 0 ≡ instr_at (xs ++ zs) 0
-first_same [] ys zs some = absurd (omega arith)
-first_same (x ∷ xs) ys zs some = refl
+first_opens : (is : List Instr) (rest : List ℕ) (jumps : Bool) → 1 ≤ length is → AreInstrs is →
+    ((i : Instr) → slice_get is 0 ≡ Some i → (is_jump (Some i) ≡ jumps) × (member_of (Some i) ≡ None)) →
+    (is_jump (instr_at (map code_of is ++ rest) 0) ≡ jumps) × (member_of (instr_at (map code_of is ++ rest) 0) ≡ None)
+first_opens [] rest jumps some all known = absurd (let none : length {A = Instr} [] ≡ 0 = refl in omega arith)
+first_opens (i ∷ is) rest jumps some all known =
+    let back = decoded-code_of i all.0 in
+    let p = known i refl in
+    (ap is_jump back ∙ p.0, ap member_of back ∙ p.1)
 
-first_jump : (v : U.Unit) (at : ℕ) (rest : List ℕ) → Fits v at → is_jump (instr_at (words_of v at ++ rest) 0) ≡ true → is_jump_unit v ≡ true
-unfolding recognised
-first_jump v at rest fits jump =
+opens : (v : U.Unit) (at : ℕ) (rest : List ℕ) → Fits v at →
+    (is_jump (instr_at (words_of v at ++ rest) 0) ≡ is_jump_unit v) × (member_of (instr_at (words_of v at ++ rest) 0) ≡ None)
+unfolding words_of
+opens v at rest f =
     let some = some_word v in
-    let counted = words_counted v at in
-    let same : instr_at (words_of v at ++ rest) 0 ≡ instr_at (words_of v at ++ []) 0 =
-    first_same (words_of v at) rest [] (omega arith) in
-    let (imm, first) = jal_is (instr_at (words_of v at ++ rest) 0) jump in
-    let here : recognised (words_of v at ++ []) at ≡ Some v = found v at [] fits (precedes_nothing v at) in
-    let from : if_stands (words_of v at ++ []) at (jump_or_stop (led_to at imm)) ≡ Some v =
-    ap (λ o. option_and_then (if_stands (words_of v at ++ []) at) (option_and_then (unit_from (words_of v at ++ []) at) o)) (sym first ∙ same) ∙ here in
-    let is = guarded (stands (words_of v at ++ []) at (jump_or_stop (led_to at imm))) (Some (jump_or_stop (led_to at imm))) v from in
-    let unit : jump_or_stop (led_to at imm) ≡ v = same_Some (jump_or_stop (led_to at imm)) v is.1 in
-    sym (ap is_jump_unit unit) ∙ jumps (led_to at imm) (led_to at imm == BAD_TARGET)
-
--- no unit begins with a store, so none is of the stores before it
-store_is : (o : Option Instr) (m : Member) → member_of o ≡ Some m → (op : StoreOp) × (rs1 : ℕ) × (rs2 : ℕ) × (imm : ℕ) × (o ≡ Some (Store op rs1 rs2 imm))
-store_is (Some (Store op rs1 rs2 imm)) m e = (op, rs1, rs2, imm, refl)
-store_is other m e = absurd (cc)
-
-no_store : (v : U.Unit) (at : ℕ) (rest : List ℕ) → Fits v at → member_of (instr_at (words_of v at ++ rest) 0) ≡ None
-unfolding recognised
-no_store v at rest fits =
-    elim (cases_Option (member_of (instr_at (words_of v at ++ rest) 0))) [
-      | inl none ↦ none
-      | inr some ↦
-          let one = some_word v in
-          let counted = words_counted v at in
-          let same : instr_at (words_of v at ++ rest) 0 ≡ instr_at (words_of v at ++ []) 0 =
-          first_same (words_of v at) rest [] (omega arith) in
-          let (op, rs1, rs2, imm, first) = store_is (instr_at (words_of v at ++ rest) 0) some.0 some.1 in
-          let here : recognised (words_of v at ++ []) at ≡ Some v = found v at [] fits (precedes_nothing v at) in
-          let from : None ≡ Some v =
-          ap (λ o. option_and_then (if_stands (words_of v at ++ []) at) (option_and_then (unit_from (words_of v at ++ []) at) o)) (sym first ∙ same) ∙ here in
-          absurd (cc)
-    ]
+    let counted : length (map code_of (instrs_of v at)) ≡ word_count v = words_counted v at in
+    let all = length-map (instrs_of v at) code_of in
+    first_opens (instrs_of v at) rest (is_jump_unit v) (omega arith) (unit_instrs v at f) (unit_opens v at f)
 
 -- a unit may precede another that is no jump, or that it does not lead over
 pub precedes_unit : (u v : U.Unit) (at next : ℕ) (rest : List ℕ) → Fits v next → (IsTrue (is_jump_unit v) → IsShortSkip u at → ⊥) → IsTrue (may_precede u at (words_of v next ++ rest))
 precedes_unit (V.Near op rs1 rs2 target) v at next rest fits not_both =
     elim (cases_Bool (near_offset at target == skip_offset)) [
       | inl skips ↦ elim (cases_Bool (is_jump (instr_at (words_of v next ++ rest) 0))) [
-        | inl jump ↦ absurd (not_both (first_jump v next rest fits jump) (eqb-true (near_offset at target) skip_offset skips))
+        | inl jump ↦ absurd (not_both (sym (opens v next rest fits).0 ∙ jump) (eqb-true (near_offset at target) skip_offset skips))
         | inr other ↦ rw (skips, other) refl
       ]
       | inr far ↦ rw far refl
     ]
 precedes_unit (V.Stores rs1 imm members) v at next rest fits not_both =
-    rw (no_store v next rest fits) (elim (cases_Bool (nat_le MOST_MEMBERS (length members))) [ inl most ↦ rw most refl | inr fewer ↦ rw fewer refl ])
+    rw (opens v next rest fits).1 (elim (cases_Bool (nat_le MOST_MEMBERS (length members))) [ inl most ↦ rw most refl | inr fewer ↦ rw fewer refl ])
 precedes_unit other v at next rest fits not_both = refl
 
 -- where no branch over one word stands before a jump or a stop, what follows each unit may follow it

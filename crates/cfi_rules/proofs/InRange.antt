@@ -18,7 +18,7 @@ use Rattle.cfi_unit.specs.Guarded.{guards}
 use Rattle.cfi_unit.specs.Members.{IsMember, member_instr}
 use Rattle.cfi_unit.specs.Prologue.{call_at, closing_instrs, lone_set_up, opening_instrs, own_set_up, prologue_instrs, set_up}
 use Rattle.cfi_unit.specs.UnitWords.{BAD_TARGET, Fits, instrs_of, jump, jump_offset, push, check, past}
-use Rattle.cfi_unit.proofs.Found.{is_jump_instr}
+use Rattle.cfi_unit.proofs.Jumps.{is_jump_instr}
 
 abbrev pub AreInstrs : List Instr → Type 0
 AreInstrs instrs = AllByRecursion IsInstr instrs

@@ -10,7 +10,7 @@ use Rattle.cfi_unit.specs.Laws.{AreWords}
 use Rattle.cfi_unit.specs.Recognise.{recognised}
 use Rattle.cfi_unit.specs.UnitWords.{Begins, word_count}
 use Rattle.cfi_unit.proofs.Counts.{some_word}
-use Rattle.cfi_unit.proofs.Found.{words_counted}
+use Rattle.cfi_unit.proofs.UnitInList.{words_counted}
 use Rattle.cfi_unit.proofs.Told.{recognised_begins}
 use Rattle.cfi_rules.specs.Split.{starts}
 

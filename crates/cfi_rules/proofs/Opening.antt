@@ -13,7 +13,7 @@ use Rattle.rv_code.specs.Decode.{decoded}
 use Rattle.rv_code.specs.Encode.{code_of}
 use Rattle.rv_code.proofs.Inverse.{decoded-in_range}
 use Rattle.cfi_unit.specs.Prologue.{closing_instrs, prologue_instrs}
-use Rattle.cfi_unit.specs.Recognise.{led_to}
+use Rattle.cfi_unit.specs.Reach.{led_to}
 use Rattle.cfi_unit.specs.Stand.{Stand}
 use Rattle.cfi_unit.specs.UnitWords.{Reaches, jump_offset}
 use Rattle.cfi_unit.proofs.LedBack.{led_back}
@@ -141,9 +141,7 @@ module _ (p : Profile) (profile : IsProfile p) (image : Contents) (bytes : AreBy
 
   entry_back : jump_offset p.opening_call the_entry ≡ entry_imm.0
   entry_back =
-      let laid = laid_out p profile in
-      let call = laid.call in let end = laid.closing in let high = laid.high in
-      led_back p.opening_call entry_imm.0 (omega arith) entry_small
+      led_back p.opening_call entry_imm.0 entry_small
 
   call_stands : (i : Instr) → slice_get (prologue_instrs p the_entry) (call_word p) ≡ Some i → decoded (read 4 (loaded image) (CODE_START + 4 * call_word p)) ≡ Some i
   call_stands i e =

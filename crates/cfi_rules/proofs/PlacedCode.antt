@@ -15,10 +15,10 @@ use Rattle.rv_code.proofs.ReadBack.{decoded-code_of}
 use Rattle.cfi_graph.specs.declared.line.GraphLine.{GraphLine}
 use Rattle.cfi_unit.specs.declared.unit.Unit as U
 use Rattle.cfi_unit.specs.Prologue.{prologue_instrs}
-use Rattle.cfi_unit.specs.Recognise.{target_in}
+use Rattle.cfi_unit.specs.Reach.{target_in}
 use Rattle.cfi_unit.specs.Split.{IsSplit}
 use Rattle.cfi_unit.specs.UnitWords.{Reaches, jump_offset}
-use Rattle.cfi_unit.proofs.Found.{is_jump_instr}
+use Rattle.cfi_unit.proofs.Jumps.{is_jump_instr}
 use Rattle.cfi_rules.specs.PlacedLaws.{PlacedEntry, PlacedIsWellFormed, PlacedUnits, SplitUnits}
 use Rattle.cfi_rules.specs.Placed.{AllAhead, AllFit, code_from, placed_code}
 use Rattle.cfi_rules.specs.Rules.{Holds, fails_prologue, is_link, prologue_word_fits, prologue_words}

@@ -10,7 +10,8 @@ use Rattle.cfi_unit.specs.declared.unit.Unit as U
 use Rattle.cfi_unit.specs.Recognise.{recognised}
 use Rattle.cfi_unit.specs.Split.{IsSplit}
 use Rattle.cfi_unit.specs.UnitWords.{Begins, word_count, words_of}
-use Rattle.cfi_unit.proofs.Found.{begins, begins_recognised, words_counted}
+use Rattle.cfi_unit.proofs.Found.{begins_recognised}
+use Rattle.cfi_unit.proofs.UnitInList.{begins, words_counted}
 use Rattle.cfi_rules.specs.Placed.{AllAhead, AllFit, code_from}
 use Rattle.cfi_rules.specs.Split.{is_marked, is_start, starts, unit_at, unit_in, unit_words}
 use Rattle.cfi_unit.proofs.Counts.{some_word}

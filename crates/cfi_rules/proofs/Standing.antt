@@ -15,7 +15,7 @@ use Rattle.rv_code.proofs.ReadBack.{decoded-code_of}
 use Rattle.cfi_unit.specs.declared.unit.Unit as U
 use Rattle.cfi_unit.specs.Stand.{Stand}
 use Rattle.cfi_unit.specs.UnitWords.{instrs_of, words_of, word_count}
-use Rattle.cfi_unit.proofs.Found.{words_counted}
+use Rattle.cfi_unit.proofs.UnitInList.{words_counted}
 use Rattle.cfi_rules.specs.Split.{code_words}
 use Rattle.cfi_rules.specs.Laws.{AreBytes}
 use Rattle.cfi_rules.proofs.Bytes.{loaded_word, length-code_words}

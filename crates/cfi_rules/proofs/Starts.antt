@@ -1,8 +1,6 @@
 -- The machine starts where runs may start.
 use Rattle.std.proofs.Common.{refl}
-use Rattle.rv_word.specs.Memory.{loaded}
-use Rattle.rv_code.specs.State.{last_exit, start_hart, start_shared}
-use Rattle.cfi_rules.specs.Along.{MayStart}
+use Rattle.rv_code.specs.State.{last_exit}
 use Rattle.cfi_rules.specs.Laws.{MachineMayStart}
 
 pub machine_may_start : MachineMayStart

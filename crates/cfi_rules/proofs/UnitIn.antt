@@ -7,7 +7,7 @@ use Rattle.rv_code.specs.Encode.{code_of}
 use Rattle.cfi_unit.specs.declared.unit.Unit as U
 use Rattle.cfi_unit.specs.Prologue.{prologue_instrs}
 use Rattle.cfi_unit.specs.UnitWords.{word_count, words_of}
-use Rattle.cfi_unit.proofs.Found.{words_counted}
+use Rattle.cfi_unit.proofs.UnitInList.{words_counted}
 use Rattle.cfi_rules.specs.Placed.{code_from, placed_code}
 use Rattle.cfi_rules.specs.Split.{unit_in}
 use Rattle.cfi_unit.proofs.Counts.{some_word}

@@ -7,7 +7,8 @@ use Rattle.cfi_unit.specs.declared.unit.Unit as U
 use Rattle.cfi_unit.specs.declared.place.Place.{Place}
 use Rattle.cfi_unit.specs.declared.place.Place.TheVariants.{Handler as handler, Opening as opening, Closing as closing, Body as body}
 use Rattle.cfi_unit.specs.Prologue.{OPENING}
-use Rattle.cfi_unit.specs.Recognise.{recognised, target_in}
+use Rattle.cfi_unit.specs.Reach.{target_in}
+use Rattle.cfi_unit.specs.Recognise.{recognised}
 use Rattle.cfi_unit.specs.UnitWords.{after_unit, word_count, BAD_TARGET, BAD_RETURN, DEEP}
 
 -- the words of a list of bytes, the lowest byte first

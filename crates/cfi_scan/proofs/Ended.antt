@@ -1,13 +1,12 @@
 -- The words so far, after one word more: a unit is read further, or it ends.
-use Rattle.std.proofs.Common.{◌≡◌, ℕ, ◌+◌, ◌-◌, ◌*◌, ◌%◌, ◌<◌, ◌≤◌, ◌^◌, ◌==◌, true, inl, inr, lit≤, IsTrue, List, [], ◌∷◌, ◌++◌, length, slice_set, arith, refl, ap, ap₂, sym, subst, ◌∙◌, append_assoc, append-nil, length-append, add-zero}
+use Rattle.std.proofs.Common.{◌≡◌, ℕ, ◌+◌, ◌-◌, ◌*◌, ◌<◌, ◌≤◌, ◌^◌, true, IsTrue, List, [], ◌∷◌, ◌++◌, length, slice_set, arith, refl, ap, ap₂, sym, subst, ◌∙◌, append_assoc, append-nil, length-append, add-zero}
 use Rattle.std.specs.Prelude.{None}
-use Rattle.std.proofs.lemmas.Bool.{cases_Bool, eqb-true}
-use Rattle.rv_word.specs.MemoryMap.{CODE_START, CODE_SIZE, profile_of}
+use Rattle.std.proofs.lemmas.Bool.{eqb-true}
 use Rattle.cfi_unit.specs.declared.unit.Unit as U
-use Rattle.cfi_unit.specs.Opens.{InCode}
 use Rattle.cfi_unit.specs.UnitWords.{Fits, may_precede, word_count, words_of}
 use Rattle.cfi_unit.specs.Recognise.{recognised}
-use Rattle.cfi_unit.proofs.Found.{words_counted}
+use Rattle.cfi_unit.proofs.Splits.{precedes_nothing}
+use Rattle.cfi_unit.proofs.UnitInList.{words_counted}
 use Rattle.cfi_reader.specs.declared.entry.Entry.{Entry}
 use Rattle.cfi_reader.specs.declared.entry.Entry.TheVariants as E
 use Rattle.cfi_reader.specs.declared.first.First.TheVariants as F
@@ -17,7 +16,6 @@ use Rattle.cfi_reader.specs.declared.reader.Step.TheVariants.{More, Done, Before
 use Rattle.cfi_reader.specs.Entries.{entries_of, entry_of, inside}
 use Rattle.cfi_reader.specs.PlainWord.{IsPlainWord}
 use Rattle.cfi_reader.specs.Reading.{IsReading, IsUnit, Leads, LeadsOn, Opened, START, is_new, is_stuck}
-use Rattle.cfi_reader.proofs.Ahead.{none_follows}
 use Rattle.cfi_reader.proofs.Closed.{start_reads}
 use Rattle.cfi_reader.proofs.Followed.{stuck_stays}
 use Rattle.cfi_reader.proofs.Opening.{plain_opens}
@@ -33,7 +31,6 @@ pub record Ended (calls : List ℕ) (from : ℕ) (May : List ℕ → Type 0) (en
   pub entries_are : entries ≡ entries_of calls units from ++ inside room
   pub done_is : done ≡ width units
   pub last_is : last ≡ last_of units
-  pub low : CODE_START ≤ from + 4 * width units
 
 module _ (calls : List ℕ) (from : ℕ) (more : List ℕ) (entries : List Entry) (done last : ℕ) (reader : Reader) (words : List ℕ) (s : Splits calls from more entries done last reader words) where
   -- where the unit starts that is read
@@ -80,7 +77,6 @@ module _ (calls : List ℕ) (from : ℕ) (more : List ℕ) (entries : List Entry
             ∙ entries_set calls s.units unit from s.room fit;
         done_is = omega arith;
         last_is = s.done_is ∙ sym (last_more s.units unit);
-        low = (let low = s.reading.low in omega arith);
       }
 
 restated : (calls : List ℕ) (from : ℕ) (May Must : List ℕ → Type 0) (entries entries' : List Entry) (done done' last : ℕ) (words words' : List ℕ) →
@@ -94,7 +90,6 @@ restated calls from May Must entries entries' done done' last words words' may e
   entries_are = es ∙ e.entries_are;
   done_is = d ∙ e.done_is;
   last_is = e.last_is;
-  low = e.low;
 }
 
 module _ (calls : List ℕ) (from : ℕ) (May : List ℕ → Type 0) (entries : List Entry) (done last : ℕ) (words : List ℕ) (e : Ended calls from May entries done last words) where
@@ -109,7 +104,7 @@ module _ (calls : List ℕ) (from : ℕ) (May : List ℕ → Type 0) (entries : 
     entries_are = e.entries_are;
     done_is = e.done_is;
     last_is = e.last_is;
-    reading = start_reads calls (from + 4 * width e.units) e.low;
+    reading = start_reads calls (from + 4 * width e.units);
   }
 
   -- no word follows
@@ -236,7 +231,7 @@ pub up_whole : (calls : List ℕ) (from : ℕ) (entries : List Entry) (done last
     IsSplitUp calls from (slice_set entries done entry) (length words) done words
 up_whole calls from entries done last reader entry words room s u =
     ended_up calls from (λ tail. IsTrue (may_precede u.unit (from + 4 * width s.units) tail)) _ _ _ _
-    (whole_ended calls from entries done last reader entry words room s u) (none_follows u.unit (from + 4 * width s.units))
+    (whole_ended calls from entries done last reader entry words room s u) (precedes_nothing u.unit (from + 4 * width s.units))
 
 pub up_open : (calls : List ℕ) (from : ℕ) (entries : List Entry) (done last : ℕ) (reader : Reader) (words : List ℕ) →
     (s : Splits calls from [] entries done last reader words) → recognised s.held (from + 4 * width s.units) ≡ None → IsSplitUp calls from entries done last words
@@ -251,21 +246,6 @@ up_open calls from entries done last reader words s none = record {
   last_is = s.last_is;
   none = none;
 }
-
--- where units start
-pub units_low : (version : ℕ) → CODE_START ≤ (profile_of version).units_from
-units_low version = elim (cases_Bool (version == 1)) [ inl e ↦ rw e (lit≤ tt) | inr e ↦ rw e (lit≤ tt) ]
-
-pub units_round : (version : ℕ) → (profile_of version).units_from % 4 ≡ 0
-units_round version = elim (cases_Bool (version == 1)) [ inl e ↦ rw e refl | inr e ↦ rw e refl ]
-
--- what is held lies in code
-pub held_in_code : (calls : List ℕ) (from : ℕ) (entries : List Entry) (done last : ℕ) (reader : Reader) (words : List ℕ) → length words ≤ length entries →
-    from + 4 * length entries ≤ CODE_START + CODE_SIZE → CODE_START ≤ from → from % 4 ≡ 0 → (s : Splits calls from [] entries done last reader words) →
-    InCode (from + 4 * width s.units) (length s.held)
-held_in_code calls from entries done last reader words room high low round s =
-    let lw : length words ≡ width s.units + length s.held = words_length calls from [] entries done last reader words s in
-    record { low = omega arith; high = omega arith; round = omega arith }
 
 -- the same of equal parts
 pub as_ended : {entries entries' : List Entry} {done done' last last' : ℕ} {reader reader' : Reader} (calls : List ℕ) (from : ℕ) (next words : List ℕ) →

@@ -2,7 +2,7 @@
 use Rattle.std.proofs.Common.{◌≡◌, ℕ, ◌+◌, ◌*◌, ◌/◌, ◌%◌, ◌<◌, ◌≤◌, List, [], ◌∷◌, ◌++◌, length, min, get_or, set, take, drop, Some, None, inl, inr, refl, sym, ap, ◌∙◌, subst, arith}
 use Rattle.std.proofs.lemmas.List.{append-nil, append_assoc, length_push, length-append, take-append-le, take_more_set, take_all, nil_from_length}
 use Rattle.std.proofs.lemmas.Bool.{cases_eq, eq-eqb, ne_eqb}
-use Rattle.rv_word.specs.MemoryMap.{CODE_START, Profile, profile_of}
+use Rattle.rv_word.specs.MemoryMap.{Profile, profile_of}
 use Rattle.cfi_reader.specs.declared.entry.Entry.{Entry}
 use Rattle.cfi_scan.specs.declared.kept.Kept.{Kept}
 use Rattle.cfi_reader.specs.Reading.{START}
@@ -96,9 +96,9 @@ keeps_after most prologue words word high is =
     let two : min (length words) most ≡ most = omega arith in
     ap (λ (n : ℕ). take n prologue) (one ∙ sym two) ∙ is ∙ sym (take-append-le most words (word ∷ []) high)
 
-pub splits_none : (calls : List ℕ) (from room : ℕ) → CODE_START ≤ from → Splits calls from [] (inside room) 0 0 START []
+pub splits_none : (calls : List ℕ) (from room : ℕ) → Splits calls from [] (inside room) 0 0 START []
 unfolding spelled width last_of AllStand entries_of
-splits_none calls from room low = record {
+splits_none calls from room = record {
   units = [];
   held = [];
   room = room;
@@ -107,7 +107,7 @@ splits_none calls from room low = record {
   entries_are = refl;
   done_is = refl;
   last_is = refl;
-  reading = start_reads calls (from + 4 * 0) (omega (arith, low));
+  reading = start_reads calls (from + 4 * 0);
 }
 
 -- what is kept of words, and what a feeder shows of it

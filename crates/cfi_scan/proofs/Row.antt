@@ -4,7 +4,7 @@ use Rattle.std.proofs.lemmas.List.{set-append_right}
 use Rattle.cfi_unit.specs.declared.unit.Unit as U
 use Rattle.cfi_unit.specs.UnitWords.{Fits, after_unit, may_precede, word_count, words_of}
 use Rattle.cfi_unit.proofs.Counts.{some_word}
-use Rattle.cfi_unit.proofs.Found.{words_counted}
+use Rattle.cfi_unit.proofs.UnitInList.{words_counted}
 use Rattle.cfi_reader.specs.declared.entry.Entry.{Entry}
 use Rattle.cfi_reader.specs.declared.entry.Entry.TheVariants as E
 use Rattle.cfi_reader.specs.Entries.{entries_of, entry_of, inside}

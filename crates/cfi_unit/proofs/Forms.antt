@@ -17,7 +17,7 @@ use Rattle.rv_code.proofs.ReadBack.{decoded-code_of}
 use Rattle.cfi_unit.specs.declared.members.Member.{Member}
 use Rattle.cfi_unit.specs.declared.pattern.Pattern.TheVariants as P
 use Rattle.cfi_unit.specs.Members.{IsMember, member_instr, member_of}
-use Rattle.cfi_unit.specs.Recognise.{led_to}
+use Rattle.cfi_unit.specs.Reach.{led_to}
 use Rattle.cfi_unit.specs.UnitWords.{BAD_TARGET, Reaches, gate, is_plain, jump_offset, is_jump}
 use Rattle.cfi_unit.specs.Patterns.{decodes_to, has_form, matches}
 use Rattle.cfi_unit.proofs.LedBack.{led_back}
@@ -100,34 +100,34 @@ pub record Leads (rd w at : ℕ) : Type 0 where
   pub reaches : Reaches at target
   pub code : code_of (Jal rd (jump_offset at target)) ≡ w
 
-leads : (rd w at imm : ℕ) → at < 2 ^ 64 → imm < 2 ^ 20 → code_of (Jal rd imm) ≡ w → Leads rd w at
-leads rd w at imm low small code =
-    let back = led_back at imm low small in
+leads : (rd w at imm : ℕ) → imm < 2 ^ 20 → code_of (Jal rd imm) ≡ w → Leads rd w at
+leads rd w at imm small code =
+    let back = led_back at imm small in
     record { target = led_to at imm; reaches = ap (led_to at) back; code = ap (λ n. code_of (Jal rd n)) back ∙ code }
 
-jump_form : (w at : ℕ) (i : Instr) → at < 2 ^ 64 → has_form P.Jump at i ≡ true → IsInstr i → code_of i ≡ w → Leads 0 w at
-jump_form w at (Jal rd imm) low e r code = leads 0 w at imm low r.1 (ap (λ k. code_of (Jal k imm)) (sym (eqb-true rd 0 e)) ∙ code)
-jump_form w at other low e r code = absurd (cc)
+jump_form : (w at : ℕ) (i : Instr) → has_form P.Jump at i ≡ true → IsInstr i → code_of i ≡ w → Leads 0 w at
+jump_form w at (Jal rd imm) e r code = leads 0 w at imm r.1 (ap (λ k. code_of (Jal k imm)) (sym (eqb-true rd 0 e)) ∙ code)
+jump_form w at other e r code = absurd (cc)
 
-pub jump_hole : (w at : ℕ) → w < 2 ^ 32 → at < 2 ^ 64 → matches P.Jump w at ≡ true → Leads 0 w at
-jump_hole w at small low m = let f = formed (has_form P.Jump at) w small m in jump_form w at f.instr low f.has f.fields f.code
+pub jump_hole : (w at : ℕ) → w < 2 ^ 32 → matches P.Jump w at ≡ true → Leads 0 w at
+jump_hole w at small m = let f = formed (has_form P.Jump at) w small m in jump_form w at f.instr f.has f.fields f.code
 
-link_form : (w at : ℕ) (i : Instr) → at < 2 ^ 64 → has_form P.Link at i ≡ true → IsInstr i → code_of i ≡ w → Leads 1 w at
-link_form w at (Jal rd imm) low e r code = leads 1 w at imm low r.1 (ap (λ k. code_of (Jal k imm)) (sym (eqb-true rd 1 e)) ∙ code)
-link_form w at other low e r code = absurd (cc)
+link_form : (w at : ℕ) (i : Instr) → has_form P.Link at i ≡ true → IsInstr i → code_of i ≡ w → Leads 1 w at
+link_form w at (Jal rd imm) e r code = leads 1 w at imm r.1 (ap (λ k. code_of (Jal k imm)) (sym (eqb-true rd 1 e)) ∙ code)
+link_form w at other e r code = absurd (cc)
 
-pub link_hole : (w at : ℕ) → w < 2 ^ 32 → at < 2 ^ 64 → matches P.Link w at ≡ true → Leads 1 w at
-link_hole w at small low m = let f = formed (has_form P.Link at) w small m in link_form w at f.instr low f.has f.fields f.code
+pub link_hole : (w at : ℕ) → w < 2 ^ 32 → matches P.Link w at ≡ true → Leads 1 w at
+link_hole w at small m = let f = formed (has_form P.Link at) w small m in link_form w at f.instr f.has f.fields f.code
 
-goto_form : (w at : ℕ) (i : Instr) → at < 2 ^ 64 → has_form P.Goto at i ≡ true → IsInstr i → code_of i ≡ w → (l : Leads 0 w at) × (l.target ≢ BAD_TARGET)
+goto_form : (w at : ℕ) (i : Instr) → has_form P.Goto at i ≡ true → IsInstr i → code_of i ≡ w → (l : Leads 0 w at) × (l.target ≢ BAD_TARGET)
 unfolding leads
-goto_form w at (Jal rd imm) low e r code =
+goto_form w at (Jal rd imm) e r code =
     let p = both (rd == 0) (not (led_to at imm == BAD_TARGET)) e in
-    (leads 0 w at imm low r.1 (ap (λ k. code_of (Jal k imm)) (sym (eqb-true rd 0 p.0)) ∙ code), other_told (led_to at imm) BAD_TARGET p.1)
-goto_form w at other low e r code = absurd (cc)
+    (leads 0 w at imm r.1 (ap (λ k. code_of (Jal k imm)) (sym (eqb-true rd 0 p.0)) ∙ code), other_told (led_to at imm) BAD_TARGET p.1)
+goto_form w at other e r code = absurd (cc)
 
-pub goto_hole : (w at : ℕ) → w < 2 ^ 32 → at < 2 ^ 64 → matches P.Goto w at ≡ true → (l : Leads 0 w at) × (l.target ≢ BAD_TARGET)
-goto_hole w at small low m = let f = formed (has_form P.Goto at) w small m in goto_form w at f.instr low f.has f.fields f.code
+pub goto_hole : (w at : ℕ) → w < 2 ^ 32 → matches P.Goto w at ≡ true → (l : Leads 0 w at) × (l.target ≢ BAD_TARGET)
+goto_hole w at small m = let f = formed (has_form P.Goto at) w small m in goto_form w at f.instr f.has f.fields f.code
 
 -- an address
 pub record IsAddress (w : ℕ) : Type 0 where

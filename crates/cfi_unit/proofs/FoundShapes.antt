@@ -1,244 +1,59 @@
--- The unit that is recognised is the one of the first shape of the table that the words begin as.
-use Rattle.std.proofs.Common.{◌≡◌, ℕ, zero, suc, ◌+◌, ◌*◌, ◌==◌, ◌&&◌, ◌<◌, ◌^◌, ◌⊎◌, Bool, true, false, not, refl, ap, sym, subst, ◌∙◌, inl, inr, List, [], ◌∷◌, ◌++◌, length, take, drop, arith}
-use Rattle.std.specs.Prelude.{Option, Some, None, if◌then◌else◌, is_none, nat_le, option_map, replicate}
-use Rattle.std.proofs.lemmas.Bool.{and_parts, cases_Bool, eqb-true, le-leb, or_left, or_right}
-use Rattle.std.proofs.lemmas.Bool.Decides.{nat_tests}
-use Rattle.std.proofs.lemmas.List.Elements.{All-from_recursion}
-use Rattle.std.proofs.lemmas.List.{length-replicate, length-take, take-append-drop}
+-- The shape that is found is that of a unit which begins the words.
+use Rattle.std.proofs.Common.{◌≡◌, ℕ, ◌+◌, ◌<◌, ◌^◌, true, not, refl, ap, sym, subst, ◌∙◌, inl, inr, List, [], ◌∷◌, length, take, drop}
+use Rattle.std.specs.Prelude.{Some}
+use Rattle.std.proofs.lemmas.Bool.{and_parts}
 use Rattle.std.proofs.lemmas.Option.{same_Some}
 use Rattle.rv_word.proofs.Arrays.{take_all}
-use Rattle.rv_word.proofs.Cases.{cases_Option, chosen}
-use Rattle.rv_code.specs.Decode.{decoded}
+use Rattle.rv_word.proofs.Cases.{chosen}
 use Rattle.cfi_unit.specs.declared.pattern.End.{End}
-use Rattle.cfi_unit.specs.declared.pattern.End.TheVariants as E
 use Rattle.cfi_unit.specs.declared.pattern.Pattern.{Pattern}
-use Rattle.cfi_unit.specs.declared.pattern.Pattern.TheVariants as P
 use Rattle.cfi_unit.specs.declared.unit.Unit as U
-use Rattle.cfi_unit.specs.declared.unit.Unit.TheVariants as V
-use Rattle.cfi_unit.specs.Members.{MOST_MEMBERS, member_of}
-use Rattle.cfi_unit.specs.Recognise.{recognised}
-use Rattle.cfi_unit.specs.UnitWords.{Begins, instr_at, is_jump, may_precede, near_offset, skip_offset, word_count, words_of}
+use Rattle.cfi_unit.specs.UnitWords.{Begins, word_count}
 use Rattle.cfi_unit.specs.Patterns.{matches}
-use Rattle.cfi_unit.specs.Shapes.{SHAPES, Shape, all_stores, each_stores, mask, shape, stores}
+use Rattle.cfi_unit.specs.Shapes.{SHAPES, Shape}
 use Rattle.cfi_unit.specs.ShapeOf.{shape_of}
-use Rattle.cfi_unit.specs.Opens.{Among, InCode, Opens, Small}
-use Rattle.cfi_unit.specs.FoundShape.{OVER_JUMP, begins_as, first_of, found_shape}
-use Rattle.cfi_unit.specs.ShapeLaw.{RecognisedFound}
-use Rattle.cfi_unit.proofs.Found.{begins_recognised}
-use Rattle.cfi_unit.proofs.Forms.{is_jump_by, is_member_by}
-use Rattle.cfi_unit.proofs.Told.{recognised_begins}
-use Rattle.cfi_unit.proofs.Listed.{each_among, listed}
+use Rattle.cfi_unit.specs.Opens.{Among, Opens, Small}
+use Rattle.cfi_unit.specs.FoundShape.{begins_as, first_of, found_shape, goes_on}
+use Rattle.cfi_unit.proofs.Further.{precedes_by}
 use Rattle.cfi_unit.proofs.MadeUnits.{made}
-use Rattle.cfi_unit.proofs.ShapedUnits.{counted, shape_among, unit_opens}
-use Rattle.cfi_unit.proofs.Stand.{and_both}
+use Rattle.cfi_unit.proofs.ShapedUnits.{counted}
 
--- words begin as patterns say where the first of them are as these say
-begins_opens : (ps : List Pattern) (ws : List ℕ) (at : ℕ) → begins_as ps ws at ≡ true → Opens ps (take (length ps) ws) at []
+-- words begin as patterns say where the first of them are as these say, and no more of them
+begun : (ps : List Pattern) (end : End) (ws : List ℕ) (at : ℕ) → begins_as ps end ws at ≡ true →
+    Opens ps (take (length ps) ws) at [] × ((here : ℕ) × (not (goes_on end (drop (length ps) ws) here) ≡ true))
 unfolding Opens
-begins_opens [] ws at e = refl
-begins_opens (p ∷ ps) [] at e = absurd (cc)
-begins_opens (p ∷ ps) (w ∷ ws) at e =
-    let q = and_parts (matches p w at) (begins_as ps ws (at + 4)) e in (q.0, begins_opens ps ws (at + 4) q.1)
+begun [] end ws at e = (refl, (at, e))
+begun (p ∷ ps) end [] at e = absurd (cc)
+begun (p ∷ ps) end (w ∷ ws) at e =
+    let q = and_parts (matches p w at) (begins_as ps end ws (at + 4)) e in
+    let more = begun ps end ws (at + 4) q.1 in
+    ((q.0, more.0), more.1)
 
-opens_begins : (ps : List Pattern) (ws rest : List ℕ) (at : ℕ) → Opens ps ws at [] → begins_as ps (ws ++ rest) at ≡ true
-unfolding Opens
-opens_begins [] [] rest at o = refl
-opens_begins [] (w ∷ ws) rest at o = absurd o
-opens_begins (p ∷ ps) [] rest at o = absurd (cc)
-opens_begins (p ∷ ps) (w ∷ ws) rest at o =
-    and_both (matches p w at) (begins_as ps (ws ++ rest) (at + 4)) o.0 (opens_begins ps ws rest (at + 4) o.1)
-
--- what words that begin as some patterns say do as more of them say
-begins_more : (ps qs : List Pattern) (ws : List ℕ) (at : ℕ) → begins_as ps ws at ≡ true →
-    begins_as (ps ++ qs) ws at ≡ begins_as qs (drop (length ps) ws) (at + 4 * length ps)
-begins_more [] qs ws at e = let here : at ≡ at + 4 * 0 = omega arith in ap (begins_as qs ws) here
-begins_more (p ∷ ps) qs [] at e = absurd (cc)
-begins_more (p ∷ ps) qs (w ∷ ws) at e =
-    let q = and_parts (matches p w at) (begins_as ps ws (at + 4)) e in
-    let here : at + 4 + 4 * length ps ≡ at + 4 * suc (length ps) = omega arith in
-    ap (λ b. b && begins_as (ps ++ qs) ws (at + 4)) q.0 ∙ begins_more ps qs ws (at + 4) q.1
-    ∙ ap (begins_as qs (drop (length ps) ws)) here
-
--- the first of a list
-first_among : (ss : List Shape) (ws : List ℕ) (at : ℕ) (s : Shape) → first_of ss ws at ≡ Some s → Among s ss × (begins_as s.words ws at ≡ true)
+first_among : (ss : List Shape) (ws : List ℕ) (at : ℕ) (s : Shape) → first_of ss ws at ≡ Some s → Among s ss × (begins_as s.words s.end ws at ≡ true)
 unfolding Among
 first_among [] ws at s e = absurd (cc)
 first_among (r ∷ ss) ws at s e =
-    elim (chosen (begins_as r.words ws at) (Some r) (first_of ss ws at) (Some s) e) [
+    elim (chosen (begins_as r.words r.end ws at) (Some r) (first_of ss ws at) (Some s) e) [
       | inl here ↦
-          let same = same_Some r s here.1 in (inl (sym same), subst (λ (t : Shape). begins_as t.words ws at ≡ true) same here.0)
+          let same = same_Some r s here.1 in (inl (sym same), subst (λ (t : Shape). begins_as t.words t.end ws at ≡ true) same here.0)
       | inr later ↦ let more = first_among ss ws at s later.1 in (inr more.0, more.1)
     ]
 
-first_none : (ss : List Shape) (ws : List ℕ) (at : ℕ) (s : Shape) → first_of ss ws at ≡ None → Among s ss → begins_as s.words ws at ≡ false
-unfolding Among
-first_none [] ws at s e a = absurd a
-first_none (r ∷ ss) ws at s e a =
-    elim (chosen (begins_as r.words ws at) (Some r) (first_of ss ws at) None e) [
-      | inl here ↦ absurd (cc)
-      | inr later ↦ by a later.0 later.1 (first_none ss ws at s)
-    ]
-  where
-    by : (s ≡ r) ⊎ Among s ss → begins_as r.words ws at ≡ false → first_of ss ws at ≡ None →
-        (first_of ss ws at ≡ None → Among s ss → begins_as s.words ws at ≡ false) → begins_as s.words ws at ≡ false
-    by (inl e) here later more = ap (λ (t : Shape). begins_as t.words ws at) e ∙ here
-    by (inr a) here later more = more later a
-
-first_either : (front back : List Shape) (ws : List ℕ) (at : ℕ) (s : Shape) → first_of (front ++ back) ws at ≡ Some s →
-    Among s front ⊎ (first_of back ws at ≡ Some s)
-unfolding Among
-first_either [] back ws at s e = inr e
-first_either (r ∷ front) back ws at s e =
-    elim (chosen (begins_as r.words ws at) (Some r) (first_of (front ++ back) ws at) (Some s) e) [
-      | inl here ↦ inl (inl (sym (same_Some r s here.1)))
-      | inr later ↦ elim (first_either front back ws at s later.1) [ inl a ↦ inl (inr a) | inr b ↦ inr b ]
-    ]
-
--- a near branch over the next word: that is no jump
-no_jump : (ws : List ℕ) (at : ℕ) → begins_as (P.Skip ∷ []) ws at ≡ true → begins_as (P.Skip ∷ P.Jump ∷ []) ws at ≡ false →
-    is_jump (instr_at (drop 1 ws) 0) ≡ false
-no_jump [] at e f = absurd (cc)
-no_jump (w ∷ []) at e f = refl
-no_jump (w ∷ v ∷ ws) at e f = is_jump_by (at + 4) (decoded v) ∙ next (matches P.Skip w at) (matches P.Jump v (at + 4)) e f
-  where
-    next : (a b : Bool) → (a && true) ≡ true → (a && (b && true)) ≡ false → b ≡ false
-    next true true e f = absurd (cc)
-    next true false e f = refl
-    next false b e f = absurd (cc)
-
-over_first : (ws : List ℕ) (at : ℕ) → found_shape ws at ≡ Some (shape E.Over (P.Skip ∷ [])) → begins_as (P.Skip ∷ P.Jump ∷ []) ws at ≡ false
-over_first ws at e =
-    elim (chosen (begins_as (P.Skip ∷ P.Jump ∷ []) ws at) (Some OVER_JUMP) (first_of SHAPES ws at) (Some (shape E.Over (P.Skip ∷ []))) e) [
-      | inl here ↦ let ends = ap (λ (s : Shape). s.end) (same_Some OVER_JUMP (shape E.Over (P.Skip ∷ [])) here.1) in absurd (cc)
-      | inr later ↦ later.0
-    ]
-
--- stores of which there may be more: no other follows
-abbrev is_stores : End → Bool
-is_stores E.Stores = true
-is_stores _ = false
-
-same_stores : (n k : ℕ) → shape E.Stores (stores n) ≡ shape E.Stores (stores k) → n ≡ k
-same_stores n k e =
-    let lengths : length (stores n) ≡ length (stores k) = ap (λ (s : Shape). length s.words) e in
-    let one = length-replicate n P.Member in
-    let two = length-replicate k P.Member in
-    omega arith
-
-fewer_first : (n k : ℕ) (ws : List ℕ) (at : ℕ) → begins_as (stores (suc n)) ws at ≡ false →
-    first_of (each_stores n) ws at ≡ Some (shape E.Stores (stores k)) → begins_as (stores (suc k)) ws at ≡ false
-fewer_first zero k ws at fails e = absurd (cc)
-fewer_first (suc n) k ws at fails e =
-    elim (chosen (begins_as (stores (suc n)) ws at) (Some (shape E.Stores (stores (suc n)))) (first_of (each_stores n) ws at) (Some (shape E.Stores (stores k))) e) [
-      | inl here ↦
-          subst (λ (m : ℕ). begins_as (stores (suc m)) ws at ≡ false)
-          (same_stores (suc n) k (same_Some (shape E.Stores (stores (suc n))) (shape E.Stores (stores k)) here.1)) fails
-      | inr later ↦ fewer_first n k ws at later.0 later.1
-    ]
-
-stores_first : (k : ℕ) (ws : List ℕ) (at : ℕ) → found_shape ws at ≡ Some (shape E.Stores (stores k)) → begins_as (stores (suc k)) ws at ≡ false
-stores_first k ws at e =
-    elim (first_either (OVER_JUMP ∷ take 22 SHAPES) all_stores ws at (shape E.Stores (stores k)) e) [
-      | inl front ↦
-          let none = each_among (λ s. not (is_stores s.end)) (OVER_JUMP ∷ take 22 SHAPES) (shape E.Stores (stores k)) refl front in absurd (cc)
-      | inr back ↦ elim (chosen (begins_as (stores 16) ws at) (Some (shape E.Other (stores 16))) (first_of (each_stores 15) ws at) (Some (shape E.Stores (stores k))) back) [
-        | inl here ↦ let ends = ap (λ (s : Shape). s.end) (same_Some (shape E.Other (stores 16)) (shape E.Stores (stores k)) here.1) in absurd (cc)
-        | inr later ↦ fewer_first 15 k ws at later.0 later.1
-      ]
-    ]
-
-one_more : (k : ℕ) → replicate (suc k) P.Member ≡ replicate k P.Member ++ P.Member ∷ []
-one_more zero = refl
-one_more (suc k) = ap (λ l. P.Member ∷ l) (one_more k)
-
-no_member : (rest : List ℕ) (at : ℕ) → begins_as (P.Member ∷ []) rest at ≡ false → is_none (member_of (instr_at rest 0)) ≡ true
-no_member [] at e = refl
-no_member (w ∷ rest) at e = is_member_by at (decoded w) ∙ ap not (alone (matches P.Member w at) e)
-  where
-    alone : (b : Bool) → (b && true) ≡ false → b ≡ false
-    alone true e = absurd (cc)
-    alone false e = refl
-
-no_other_store : (k : ℕ) (ws : List ℕ) (at : ℕ) → found_shape ws at ≡ Some (shape E.Stores (stores k)) →
-    is_none (member_of (instr_at (drop (3 + k) ws) 0)) ≡ true
-no_other_store k ws at e =
-    let starts = (first_among (OVER_JUMP ∷ SHAPES) ws at (shape E.Stores (stores k)) e).1 in
-    let many = length-replicate k P.Member in
-    let words : length (stores k) ≡ 3 + k = omega arith in
-    let longer : begins_as (stores k ++ P.Member ∷ []) ws at ≡ false =
-    ap (λ l. begins_as (mask ++ l) ws at) (sym (one_more k)) ∙ stores_first k ws at e in
-    let behind : begins_as (P.Member ∷ []) (drop (length (stores k)) ws) (at + 4 * length (stores k)) ≡ false =
-    sym (begins_more (stores k) (P.Member ∷ []) ws at starts) ∙ longer in
-    ap (λ n. is_none (member_of (instr_at (drop n ws) 0))) (sym words) ∙ no_member (drop (length (stores k)) ws) (at + 4 * length (stores k)) behind
-
--- so the words that follow may
-ahead : (u : U.Unit) (ws : List ℕ) (at : ℕ) → found_shape ws at ≡ Some (shape_of u at) → may_precede u at (drop (word_count u) ws) ≡ true
-ahead (V.Near op rs1 rs2 target) ws at e =
-    elim (cases_Bool (near_offset at target == skip_offset)) [
-      | inl over ↦
-          let found : found_shape ws at ≡ Some (shape E.Over (P.Skip ∷ [])) =
-          e ∙ ap (λ (b : Bool). Some (if b then shape E.Over (P.Skip ∷ []) else shape E.Near (P.Near ∷ []))) over in
-          let starts = (first_among (OVER_JUMP ∷ SHAPES) ws at (shape E.Over (P.Skip ∷ [])) found).1 in
-          let alone = no_jump ws at starts (over_first ws at found) in
-          rw (over, alone) refl
-      | inr other ↦ rw other refl
-    ]
-ahead (V.Stores rs1 imm members) ws at e =
-    elim (cases_Bool (length members == 16)) [
-      | inl all ↦ or_left (nat_le MOST_MEMBERS (length members)) _ (le-leb 16 (length members) (let same = eqb-true (length members) 16 all in omega arith))
-      | inr fewer ↦
-          let found : found_shape ws at ≡ Some (shape E.Stores (stores (length members))) =
-          e ∙ ap (λ (b : Bool). Some (shape (if b then E.Other else E.Stores) (stores (length members)))) fewer in
-          or_right (nat_le MOST_MEMBERS (length members)) _ (no_other_store (length members) ws at found)
-    ]
-ahead other ws at e = refl
-
-in_table : (s : Shape) → Among s (OVER_JUMP ∷ SHAPES) → Among s SHAPES
-unfolding Among
-in_table s (inl e) = subst (λ (t : Shape). Among t SHAPES) (sym e) (listed SHAPES 8 OVER_JUMP refl)
-in_table s (inr a) = a
-
-pub found_begins : (ws : List ℕ) (at : ℕ) (s : Shape) → found_shape ws at ≡ Some s → InCode at (length ws) → Small ws →
-    (u : U.Unit) × (Begins ws at u × (shape_of u at ≡ s))
-found_begins ws at s e place small =
-    let first = first_among (OVER_JUMP ∷ SHAPES) ws at s e in
-    let high = place.high in
-    let long = length-take (length s.words) ws in
-    let inside : InCode at (length (take (length s.words) ws)) = record { low = place.low; high = grind (arith, nat_tests); round = place.round } in
-    let m = made s (take (length s.words) ws) at (in_table s first.0) inside (take_all (λ (w : ℕ). w < 2 ^ 32) (length s.words) ws small)
-    (begins_opens s.words ws at first.1) in
+pub found_begins : (ws : List ℕ) (at : ℕ) (s : Shape) → found_shape ws at ≡ Some s → Small ws → (u : U.Unit) × (Begins ws at u × (shape_of u at ≡ s))
+found_begins ws at s e small =
+    let first = first_among SHAPES ws at s e in
+    let (opens, (here, ends)) = begun s.words s.end ws at first.1 in
+    let m = made s (take (length s.words) ws) at first.0 (take_all (λ (w : ℕ). w < 2 ^ 32) (length s.words) ws small) opens in
     let count : word_count m.unit ≡ length s.words = counted m.unit at m.fits ∙ ap (λ (r : Shape). length r.words) m.shape_is in (
       m.unit,
       (
         record {
           fits = m.fits;
           words_are = ap (λ (n : ℕ). take n ws) count ∙ sym m.words;
-          ahead = ahead m.unit ws at (e ∙ ap (λ (r : Shape). Some r) (sym m.shape_is));
+          ahead = precedes_by m.unit at (drop (word_count m.unit) ws) here m.fits
+              ∙ ap (λ (r : Shape). not (goes_on r.end (drop (word_count m.unit) ws) here)) m.shape_is
+              ∙ ap (λ (n : ℕ). not (goes_on s.end (drop n ws) here)) count ∙ ends;
         },
         m.shape_is,
       ),
     )
-
-pub none_found : (ws : List ℕ) (at : ℕ) → found_shape ws at ≡ None → (u : U.Unit) → Begins ws at u → ⊥
-unfolding Among
-none_found ws at e u b =
-    let no = first_none (OVER_JUMP ∷ SHAPES) ws at (shape_of u at) e (inr (shape_among u at b.fits)) in
-    let parts : words_of u at ++ drop (word_count u) ws ≡ ws =
-    ap (λ (p : List ℕ). p ++ drop (word_count u) ws) (sym b.words_are) ∙ take-append-drop (word_count u) ws in
-    let starts = opens_begins ((shape_of u at).words) (words_of u at) (drop (word_count u) ws) at (unit_opens u at b.fits) in
-    let begun = ap (λ (l : List ℕ). begins_as ((shape_of u at).words) l at) (sym parts) ∙ starts in
-    cc
-
-pub recognised_found : RecognisedFound
-recognised_found ws at place small = by (found_shape ws at) refl
-  where
-    by : (o : Option Shape) → found_shape ws at ≡ o → option_map (λ u. shape_of u at) (recognised ws at) ≡ o
-    by None e =
-        elim (cases_Option (recognised ws at)) [
-          | inl none ↦ rw none refl
-          | inr some ↦
-              absurd
-              (none_found ws at e some.0 (recognised_begins ws at some.0 (All-from_recursion (λ (w : ℕ). w < 2 ^ 32) ws small) some.1))
-        ]
-    by (Some s) e =
-        let (u, (begun, is)) = found_begins ws at s e place small in rw (begins_recognised ws at u begun) (ap (λ (r : Shape). Some r) is)

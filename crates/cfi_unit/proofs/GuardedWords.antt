@@ -1,12 +1,10 @@
 -- The words of a system call behind tests of its number: they are read back as the numbers tested.
-use Rattle.std.proofs.Common.{◌≡◌, ℕ, zero, suc, ◌+◌, ◌-◌, ◌*◌, ◌<◌, ◌≤◌, ◌^◌, ◌⊎◌, refl, ap, sym, subst, ◌∙◌, lit<, List, [], ◌∷◌, ◌++◌, length, map, take, drop, inl, inr, arith, ◌%◌, ◌==◌, true, false}
+use Rattle.std.proofs.Common.{◌≡◌, ℕ, zero, suc, ◌+◌, ◌-◌, ◌*◌, ◌<◌, ◌≤◌, ◌^◌, ◌⊎◌, refl, ap, sym, ◌∙◌, lit<, List, [], ◌∷◌, ◌++◌, length, map, take, drop, inl, inr, arith, ◌%◌, ◌==◌, true, false}
 use Rattle.std.specs.Prelude.{Option, Some, None, nat_lt, slice_get}
 use Rattle.std.specs.List.{AllByRecursion}
 use Rattle.std.proofs.lemmas.Bool.{cases_Bool, lt-ltb, or_parts}
-use Rattle.std.proofs.lemmas.Bool.Decides.{nat_tests}
 use Rattle.std.proofs.lemmas.Nat.{mod_below}
 use Rattle.std.proofs.lemmas.List.{append-nil, append_assoc, length-append, length-map, map-append}
-use Rattle.rv_word.proofs.Cases.{cases_Option, chosen}
 use Rattle.rv_word.specs.Bits.{wrap}
 use Rattle.rv_word.specs.Numbers.{IsNumber, is_listed}
 use Rattle.rv_instr.specs.InRange.{IsInstr}
@@ -66,37 +64,6 @@ numbers_back (suc most) (n ∷ ns) rest eight all few ends =
 pub jump_ends : (rd imm : ℕ) (o : Option Instr) → number_of (Some (Jal rd imm)) o ≡ None
 jump_ends rd imm (Some (Branch op a b field)) = refl
 jump_ends rd imm other = refl
-
--- what is read are numbers, and no more than asked for
-loaded_small : (o : Option Instr) (n : ℕ) → loaded_by o ≡ Some n → IsNumber n
-loaded_small (Some (Immediate op rd rs1 field)) n e =
-    elim (chosen (nat_lt field 2048) (Some field) None (Some n) e) [
-      | inl is ↦ let same : field ≡ n = (let given = is.1 in cc) in let below = is.0 in subst IsNumber same (grind (arith, nat_tests))
-      | inr not ↦ let bad = not.1 in absurd (cc)
-    ]
-loaded_small other n e = cc
-
-number_small : (first second : Option Instr) (n : ℕ) → number_of first second ≡ Some n → IsNumber n
-number_small first (Some (Branch op a b field)) n e = loaded_small first n e
-number_small first other n e = cc
-
-pub numbers_small : (most : ℕ) (ws : List ℕ) → AllByRecursion IsNumber (numbers_in most ws)
-unfolding numbers_in
-numbers_small zero ws = tt
-numbers_small (suc most) ws =
-    elim (cases_Option (number_of (instr_at ws 0) (instr_at ws 1))) [
-      | inl none ↦ rw none tt
-      | inr some ↦ rw some.1 (number_small (instr_at ws 0) (instr_at ws 1) some.0 some.1, numbers_small most (drop 2 ws))
-    ]
-
-pub numbers_few : (most : ℕ) (ws : List ℕ) → length (numbers_in most ws) ≤ most
-unfolding numbers_in
-numbers_few zero ws = omega arith
-numbers_few (suc most) ws =
-    elim (cases_Option (number_of (instr_at ws 0) (instr_at ws 1))) [
-      | inl none ↦ rw none (omega arith)
-      | inr some ↦ let fewer = numbers_few most (drop 2 ws) in rw some.1 (omega arith)
-    ]
 
 -- number k of some, and the tests of it
 pub load_at : (ns : List ℕ) (k : ℕ) → AllByRecursion IsNumber ns → k < length ns →

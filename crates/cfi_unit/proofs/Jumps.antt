@@ -1,5 +1,8 @@
 -- Where direct jumps and near branches lead.
-use Rattle.std.proofs.Common.{◌≡◌, ℕ, ◌+◌, ◌*◌, ap, ◌∙◌}
+use Rattle.std.proofs.Common.{◌≡◌, ℕ, ◌+◌, ◌*◌, ◌^◌, ◌<◌, ap, ◌∙◌, lit<}
+use Rattle.std.proofs.lemmas.Nat.{mod_below}
+use Rattle.rv_instr.specs.InRange.{IsInstr}
+use Rattle.rv_instr.specs.declared.instr.Instr.TheVariants.{Jal}
 use Rattle.rv_word.specs.Bits.{wrap}
 use Rattle.rv_code.specs.Step.{offset}
 use Rattle.cfi_unit.specs.UnitWords.{jump_offset, near_offset, IsNear, Reaches}
@@ -9,3 +12,7 @@ jump_leads pc at to e reach = ap (λ a. wrap (a + offset 21 (jump_offset at to *
 
 pub near_leads : (pc at to : ℕ) → pc ≡ at → IsNear at to → wrap (pc + offset 13 (near_offset at to * 2)) ≡ to
 near_leads pc at to e near = ap (λ a. wrap (a + offset 13 (near_offset at to * 2))) e ∙ near
+
+-- the fields of a jump are in range
+pub is_jump_instr : (rd from to : ℕ) → rd < 32 → IsInstr (Jal rd (jump_offset from to))
+is_jump_instr rd from to low = (low, mod_below _ (2 ^ 20) (lit< tt))

@@ -3,8 +3,13 @@ pub mod MemberWords
 pub mod GuardedWords
 pub mod Counts
 pub mod Flows
+pub mod UnitInList
+pub mod Further
+pub mod Apart
+pub mod FieldsRead
 pub mod Found
 pub mod Told
+pub mod KindsTried
 pub mod Splits
 pub mod LedBack
 pub mod Near

@@ -1,9 +1,8 @@
 -- Words that are as a shape of the table says are the words of a unit with that shape.
 use Rattle.std.proofs.lemmas.Bool.{ne_eqb}
-use Rattle.std.proofs.Common.{◌≡◌, ◌≢◌, ℕ, zero, suc, ◌+◌, ◌*◌, ◌%◌, ◌==◌, ◌<◌, ◌≤◌, ◌^◌, true, refl, ap, sym, subst, ◌∙◌, lit<, lit≤, inl, inr, List, [], ◌∷◌, ◌++◌, length, map, arith}
+use Rattle.std.proofs.Common.{◌≡◌, ◌≢◌, ℕ, zero, suc, ◌+◌, ◌*◌, ◌==◌, ◌<◌, ◌≤◌, true, refl, ap, sym, subst, ◌∙◌, inl, inr, List, [], ◌∷◌, ◌++◌, length, map, arith}
 use Rattle.std.specs.Prelude.{drop, if◌then◌else◌, replicate, take}
 use Rattle.std.specs.List.{AllByRecursion}
-use Rattle.rv_word.specs.MemoryMap.{CODE_START, CODE_SIZE}
 use Rattle.rv_word.specs.Numbers.{IsNumber}
 use Rattle.rv_instr.specs.declared.instr.Instr.TheVariants.{Upper, Branch, Ecall, Ebreak}
 use Rattle.rv_instr.specs.declared.instr.UpperOp.TheVariants.{Lui}
@@ -18,24 +17,18 @@ use Rattle.cfi_unit.specs.declared.unit.Unit as U
 use Rattle.cfi_unit.specs.declared.unit.Unit.TheVariants as V
 use Rattle.cfi_unit.specs.declared.unit.SystemOp.TheVariants as S
 use Rattle.cfi_unit.specs.Members.{IsMember}
-use Rattle.cfi_unit.specs.Recognise.{near_to}
-use Rattle.cfi_unit.specs.UnitWords.{BAD_TARGET, BAD_RETURN, CheckFits, DEEP, Fits, Reaches, jump, skip_offset}
+use Rattle.cfi_unit.specs.Reach.{near_to, reaches}
+use Rattle.cfi_unit.specs.UnitWords.{BAD_TARGET, BAD_RETURN, DEEP, Fits, jump, skip_offset}
 use Rattle.cfi_unit.specs.Patterns.{matches}
 use Rattle.cfi_unit.specs.Shapes.{SHAPES, Shape, all_stores, call, each_guarded, guarded, icall, ijump, is, return, shape, stores}
 use Rattle.cfi_unit.specs.ShapeOf.{shape_of}
-use Rattle.cfi_unit.specs.Opens.{Among, InCode, Made, Opens, Small}
+use Rattle.cfi_unit.specs.Opens.{Among, Made, Opens, Small}
 use Rattle.cfi_unit.proofs.Forms.{IsBranch, address_hole, gate_hole, goto_hole, jump_hole, label_hole, link_hole, member_hole, near_hole, number_hole, plain_hole, skip_hole}
-use Rattle.cfi_unit.proofs.Holes.{Fill, filled, holes_in, opened_length}
+use Rattle.cfi_unit.proofs.Holes.{Fill, filled, holes_in}
 use Rattle.cfi_unit.proofs.LedBack.{near_back}
 use Rattle.cfi_unit.proofs.Listed.{among_either, guarded_of, stores_of}
-use Rattle.cfi_unit.proofs.Near.{near_reached}
+use Rattle.cfi_unit.proofs.Stand.{told}
 use Rattle.cfi_unit.proofs.UnitHoles.{holes_of, load_word, member_word, unit_filled}
-
--- a jump from code reaches a handler
-halt_reached : (from to : ℕ) → CODE_START ≤ from → from < CODE_START + CODE_SIZE → from % 4 ≡ 0 → to % 2 ≡ 0 → CODE_START ≤ to →
-    to < CODE_START + 16 → Reaches from to
-halt_reached from to low high round even above below =
-    near_reached from to (omega arith) (omega arith) (omega arith) (omega arith) (omega arith)
 
 -- the unit with these words in the holes
 record Holds (s : Shape) (hs : List ℕ) (at : ℕ) : Type 0 where
@@ -45,57 +38,55 @@ record Holds (s : Shape) (hs : List ℕ) (at : ℕ) : Type 0 where
   pub shape_is : shape_of unit at ≡ s
 
 By : Shape → ℕ → Type 0
-By s at = InCode at (length s.words) → (hs : List ℕ) → Small hs → Fill s.words at 0 hs → Holds s hs at
+By s at = (hs : List ℕ) → Small hs → Fill s.words at 0 hs → Holds s hs at
 
 gate_by : (at : ℕ) → By (shape E.Gate (P.Gate ∷ [])) at
 unfolding By
-gate_by at place [] s f = absurd f
-gate_by at place (h ∷ []) s f =
+gate_by at [] s f = absurd f
+gate_by at (h ∷ []) s f =
     let (label, (low, is)) = gate_hole h (at + 0) s.0 f.0 in
     record { unit = V.Gate label; fits = low; holes = ap (λ w. w ∷ []) is; shape_is = refl }
-gate_by at place (h ∷ g ∷ hs) s f = absurd f.1
+gate_by at (h ∷ g ∷ hs) s f = absurd f.1
 
-plain_by : (at : ℕ) → By (shape E.Other (P.Plain ∷ [])) at
+plain_by : (at : ℕ) → By (shape E.Plain (P.Plain ∷ [])) at
 unfolding By
-plain_by at place [] s f = absurd f
-plain_by at place (h ∷ []) s f =
+plain_by at [] s f = absurd f
+plain_by at (h ∷ []) s f =
     let (instr, (fields, (plain, is))) = plain_hole h (at + 0) s.0 f.0 in
     record { unit = V.Plain instr; fits = (fields, plain); holes = ap (λ w. w ∷ []) is; shape_is = refl }
-plain_by at place (h ∷ g ∷ hs) s f = absurd f.1
+plain_by at (h ∷ g ∷ hs) s f = absurd f.1
 
 stop_by : (at : ℕ) → By (shape E.Stop (P.Halt BAD_TARGET ∷ [])) at
 unfolding By
-stop_by at place [] s f =
-    let low = place.low in
-    let high = place.high in
-    record { unit = V.Stop; fits = halt_reached at BAD_TARGET low (omega arith) place.round refl (lit≤ tt) (lit< tt); holes = refl; shape_is = refl }
-stop_by at place (h ∷ hs) s f = absurd f
+stop_by at [] s f =
+    let e : at + 0 ≡ at = omega arith in
+    record { unit = V.Stop; fits = told at BAD_TARGET (subst (λ (a : ℕ). reaches a BAD_TARGET ≡ true) e f.0); holes = refl; shape_is = refl }
+stop_by at (h ∷ hs) s f = absurd f.1
 
 jump_by : (at : ℕ) → By (shape E.Jump (P.Goto ∷ [])) at
 unfolding By
-jump_by at place [] s f = absurd f
-jump_by at place (h ∷ []) s f =
-    let high = place.high in
+jump_by at [] s f = absurd f
+jump_by at (h ∷ []) s f =
     let e : at + 0 ≡ at = omega arith in
-    let (jumps, other) = goto_hole h at s.0 (omega arith) (subst (λ (a : ℕ). matches P.Goto h a ≡ true) e f.0) in
+    let (jumps, other) = goto_hole h at s.0 (subst (λ (a : ℕ). matches P.Goto h a ≡ true) e f.0) in
     record { unit = V.Jump jumps.target; fits = (other, jumps.reaches); holes = ap (λ w. w ∷ []) jumps.code; shape_is = refl }
-jump_by at place (h ∷ g ∷ hs) s f = absurd f.1
+jump_by at (h ∷ g ∷ hs) s f = absurd f.1
 
 ecall_by : (at : ℕ) → By (shape E.Ecall (is Ecall ∷ [])) at
 unfolding By
-ecall_by at place [] s f = record { unit = V.System S.Ecall; fits = tt; holes = refl; shape_is = refl }
-ecall_by at place (h ∷ hs) s f = absurd f
+ecall_by at [] s f = record { unit = V.System S.Ecall; fits = tt; holes = refl; shape_is = refl }
+ecall_by at (h ∷ hs) s f = absurd f
 
-ebreak_by : (at : ℕ) → By (shape E.Other (is Ebreak ∷ [])) at
+ebreak_by : (at : ℕ) → By (shape E.Ebreak (is Ebreak ∷ [])) at
 unfolding By
-ebreak_by at place [] s f = record { unit = V.System S.Ebreak; fits = tt; holes = refl; shape_is = refl }
-ebreak_by at place (h ∷ hs) s f = absurd f
+ebreak_by at [] s f = record { unit = V.System S.Ebreak; fits = tt; holes = refl; shape_is = refl }
+ebreak_by at (h ∷ hs) s f = absurd f
 
 -- a near branch
-branches : (h at : ℕ) (b : IsBranch h) → at < 2 ^ 64 → (s : Shape) →
+branches : (h at : ℕ) (b : IsBranch h) (s : Shape) →
     (if b.imm == skip_offset then shape E.Over (P.Skip ∷ []) else shape E.Near (P.Near ∷ [])) ≡ s → Holds s (h ∷ []) at
-branches h at b low s e =
-    let back = near_back at b.imm low b.fields.2 in
+branches h at b s e =
+    let back = near_back at b.imm b.fields.2 in
     record {
       unit = V.Near b.op b.rs1 b.rs2 (near_to at b.imm);
       fits = (b.fields.0, b.fields.1, ap (near_to at) back);
@@ -105,155 +96,123 @@ branches h at b low s e =
 
 near_by : (at : ℕ) → By (shape E.Near (P.Near ∷ [])) at
 unfolding By
-near_by at place [] s f = absurd f
-near_by at place (h ∷ []) s f =
-    let high = place.high in
+near_by at [] s f = absurd f
+near_by at (h ∷ []) s f =
     let (b, other) = near_hole h (at + 0) s.0 f.0 in
-    branches h at b (omega arith) (shape E.Near (P.Near ∷ [])) (rw other refl)
-near_by at place (h ∷ g ∷ hs) s f = absurd f.1
+    branches h at b (shape E.Near (P.Near ∷ [])) (rw other refl)
+near_by at (h ∷ g ∷ hs) s f = absurd f.1
 
 over_by : (at : ℕ) → By (shape E.Over (P.Skip ∷ [])) at
 unfolding By
-over_by at place [] s f = absurd f
-over_by at place (h ∷ []) s f =
-    let high = place.high in
+over_by at [] s f = absurd f
+over_by at (h ∷ []) s f =
     let (b, same) = skip_hole h (at + 0) s.0 f.0 in
-    branches h at b (omega arith) (shape E.Over (P.Skip ∷ [])) (rw same refl)
-over_by at place (h ∷ g ∷ hs) s f = absurd f.1
+    branches h at b (shape E.Over (P.Skip ∷ [])) (rw same refl)
+over_by at (h ∷ g ∷ hs) s f = absurd f.1
 
 branch_by : (at : ℕ) → By (shape E.Branch (P.Skip ∷ P.Jump ∷ [])) at
 unfolding By
-branch_by at place [] s f = absurd f
-branch_by at place (h ∷ []) s f = absurd f.1
-branch_by at place (h ∷ g ∷ []) s f =
-    let high = place.high in
+branch_by at [] s f = absurd f
+branch_by at (h ∷ []) s f = absurd f.1
+branch_by at (h ∷ g ∷ []) s f =
     let (b, same) = skip_hole h (at + 0) s.0 f.0 in
-    let jumps = jump_hole g (at + 4) s.1.0 (omega arith) f.1.0 in
+    let jumps = jump_hole g (at + 4) s.1.0 f.1.0 in
     record {
       unit = V.Branch b.op b.rs1 b.rs2 jumps.target;
       fits = (b.fields.0, b.fields.1, jumps.reaches);
       holes = ap (λ w. w ∷ code_of (jump (at + 4) jumps.target) ∷ []) (ap (λ n. code_of (Branch b.op b.rs1 b.rs2 n)) (sym same) ∙ b.code) ∙ ap (λ w. h ∷ w ∷ []) jumps.code;
       shape_is = refl;
     }
-branch_by at place (h ∷ g ∷ k ∷ hs) s f = absurd f.1.1
+branch_by at (h ∷ g ∷ k ∷ hs) s f = absurd f.1.1
 
 call_by : (at : ℕ) → By (shape E.Call call) at
 unfolding By
-call_by at place [] s f = absurd f
-call_by at place (h ∷ []) s f =
-    let low = place.low in
-    let high = place.high in
-    let round = place.round in
-    let links = link_hole h (at + 28) s.0 (omega arith) f.0 in
+call_by at [] s f = absurd f.1
+call_by at (h ∷ []) s f =
+    let links = link_hole h (at + 28) s.0 f.1.0 in
     record {
       unit = V.Call links.target;
-      fits = (halt_reached (at + 8) DEEP (omega arith) (omega arith) (omega arith) refl (lit≤ tt) (lit< tt), links.reaches);
+      fits = (told (at + 8) DEEP f.0, links.reaches);
       holes = ap (λ w. w ∷ []) links.code;
       shape_is = refl;
     }
-call_by at place (h ∷ g ∷ hs) s f = absurd f.1
-
--- a check, whose first word is an address and whose ninth a label
-check_fits : (at rs1 imm label : ℕ) → CODE_START ≤ at → at + 48 ≤ CODE_START + CODE_SIZE → at % 4 ≡ 0 → rs1 < 32 → imm < 2 ^ 12 → label < 2 ^ 20 →
-    CheckFits at rs1 imm label
-check_fits at rs1 imm label low high round r i l = (
-  r,
-  i,
-  l,
-  halt_reached (at + 24) BAD_TARGET (omega arith) (omega arith) (omega arith) refl (lit≤ tt) (lit< tt),
-  halt_reached (at + 44) BAD_TARGET (omega arith) (omega arith) (omega arith) refl (lit≤ tt) (lit< tt),
-)
+call_by at (h ∷ g ∷ hs) s f = absurd f.1.1
 
 ijump_by : (which : TargetWord) (at : ℕ) → By (shape (E.Ijump which) (ijump which)) at
 unfolding By
-ijump_by which at place [] s f = absurd f
-ijump_by which at place (h ∷ []) s f = absurd f.1
-ijump_by which at place (h ∷ g ∷ []) s f =
-    let high = place.high in
+ijump_by which at [] s f = absurd f
+ijump_by which at (h ∷ []) s f = absurd f.1.1
+ijump_by which at (h ∷ g ∷ []) s f =
     let a = address_hole h (at + 0) s.0 f.0 in
-    let (label, (low, is)) = label_hole g (at + 32) s.1.0 f.1.0 in
+    let (label, (low, is)) = label_hole g (at + 32) s.1.0 f.1.1.0 in
     record {
       unit = V.Ijump which a.rs1 a.imm label;
-      fits = check_fits at a.rs1 a.imm label place.low (omega arith) place.round a.register a.field low;
+      fits = (a.register, a.field, low, told (at + 24) BAD_TARGET f.1.0, told (at + 44) BAD_TARGET f.1.1.1.0);
       holes = ap (λ w. w ∷ code_of (Upper Lui 4 label) ∷ []) a.code ∙ ap (λ w. h ∷ w ∷ []) is;
       shape_is = refl;
     }
-ijump_by which at place (h ∷ g ∷ k ∷ hs) s f = absurd f.1.1
+ijump_by which at (h ∷ g ∷ k ∷ hs) s f = absurd f.1.1.1.1
 
 icall_by : (at : ℕ) → By (shape E.Icall icall) at
 unfolding By
-icall_by at place [] s f = absurd f
-icall_by at place (h ∷ []) s f = absurd f.1
-icall_by at place (h ∷ g ∷ []) s f =
-    let above = place.low in
-    let high = place.high in
-    let round = place.round in
+icall_by at [] s f = absurd f
+icall_by at (h ∷ []) s f = absurd f.1.1
+icall_by at (h ∷ g ∷ []) s f =
     let a = address_hole h (at + 0) s.0 f.0 in
-    let (label, (low, is)) = label_hole g (at + 32) s.1.0 f.1.0 in
+    let (label, (low, is)) = label_hole g (at + 32) s.1.0 f.1.1.0 in
     record {
       unit = V.Icall a.rs1 a.imm label;
       fits = (
-        check_fits at a.rs1 a.imm label place.low (omega arith) place.round a.register a.field low,
-        halt_reached (at + 56) DEEP (omega arith) (omega arith) (omega arith) refl (lit≤ tt) (lit< tt),
+        (a.register, a.field, low, told (at + 24) BAD_TARGET f.1.0, told (at + 44) BAD_TARGET f.1.1.1.0),
+        told (at + 56) DEEP f.1.1.1.1.0,
       );
       holes = ap (λ w. w ∷ code_of (Upper Lui 4 label) ∷ []) a.code ∙ ap (λ w. h ∷ w ∷ []) is;
       shape_is = refl;
     }
-icall_by at place (h ∷ g ∷ k ∷ hs) s f = absurd f.1.1
+icall_by at (h ∷ g ∷ k ∷ hs) s f = absurd f.1.1.1.1.1
 
-return_by : (at : ℕ) → By (shape E.Other return) at
+return_by : (at : ℕ) → By (shape E.Return return) at
 unfolding By
-return_by at place [] s f =
-    let low = place.low in
-    let high = place.high in
-    let round = place.round in
-    record {
-      unit = V.Return;
-      fits = halt_reached (at + 12) BAD_RETURN (omega arith) (omega arith) (omega arith) refl (lit≤ tt) (lit< tt);
-      holes = refl;
-      shape_is = refl;
-    }
-return_by at place (h ∷ hs) s f = absurd f
+return_by at [] s f = record { unit = V.Return; fits = told (at + 12) BAD_RETURN f.0; holes = refl; shape_is = refl }
+return_by at (h ∷ hs) s f = absurd f.1
 
 -- the tests of so many numbers
-record Tests (n : ℕ) (hs : List ℕ) : Type 0 where
+record Tests (n at k : ℕ) (hs : List ℕ) : Type 0 where
   pub numbers : List ℕ
   pub count : length numbers ≡ n
   pub each : AllByRecursion IsNumber numbers
+  pub halts : reaches (at + (k + 8 * n)) BAD_TARGET ≡ true
   pub holes : map load_word numbers ≡ hs
 
-tests_in : (n at k : ℕ) (hs : List ℕ) → Small hs → Fill (guarded n) at k hs → Tests n hs
-tests_in zero at k [] s f = record { numbers = []; count = refl; each = tt; holes = refl }
-tests_in zero at k (h ∷ hs) s f = absurd f
+tests_in : (n at k : ℕ) (hs : List ℕ) → Small hs → Fill (guarded n) at k hs → Tests n at k hs
+tests_in zero at k [] s f =
+    let e : at + k ≡ at + (k + 8 * 0) = omega arith in
+    record { numbers = []; count = refl; each = tt; halts = subst (λ (a : ℕ). reaches a BAD_TARGET ≡ true) e f.0; holes = refl }
+tests_in zero at k (h ∷ hs) s f = absurd f.1
 tests_in (suc n) at k [] s f = absurd f
 tests_in (suc n) at k (h ∷ hs) s f =
     let (number, (low, is)) = number_hole h (at + k) s.0 f.0 in
     let more = tests_in n at (k + 4 + 4) hs s.1 f.1 in
+    let e : at + (k + 4 + 4 + 8 * n) ≡ at + (k + 8 * suc n) = omega arith in
     record {
       numbers = number ∷ more.numbers;
       count = ap (λ m. suc m) more.count;
       each = (low, more.each);
+      halts = subst (λ (a : ℕ). reaches a BAD_TARGET ≡ true) e more.halts;
       holes = ap (λ w. w ∷ map load_word more.numbers) is ∙ ap (λ l. h ∷ l) more.holes;
     }
 
-tests_length : (n : ℕ) → length (guarded n) ≡ 2 + 2 * n
-tests_length zero = refl
-tests_length (suc n) = let more = tests_length n in omega arith
-
 guarded_by : (n at : ℕ) → 0 < n → n ≤ 8 → By (shape E.Guarded (guarded n)) at
 unfolding By
-guarded_by n at some most place hs s f =
-    let above = place.low in
-    let high = place.high in
-    let round = place.round in
-    let many = tests_length n in
+guarded_by n at some most hs s f =
     let t = tests_in n at 0 hs s f in
     let count = t.count in
+    let e : at + (0 + 8 * n) ≡ at + 8 * length t.numbers = omega arith in
     record {
       unit = V.Guarded t.numbers;
       fits = (
         record { some = omega arith; most = omega arith; each = t.each },
-        halt_reached (at + 8 * length t.numbers) BAD_TARGET (omega arith) (omega arith) (omega arith) refl (lit≤ tt) (lit< tt),
+        told (at + 8 * length t.numbers) BAD_TARGET (subst (λ (a : ℕ). reaches a BAD_TARGET ≡ true) e t.halts),
       );
       holes = t.holes;
       shape_is = ap (λ m. shape E.Guarded (guarded m)) t.count;
@@ -280,10 +239,10 @@ stores_in (suc n) at k (h ∷ hs) s f =
       holes = ap (λ w. w ∷ map member_word more.members) is ∙ ap (λ l. h ∷ l) more.holes;
     }
 
-stores_by : (n at : ℕ) → 0 < n → n ≤ 16 → By (shape (if n == 16 then E.Other else E.Stores) (stores n)) at
+stores_by : (n at : ℕ) → 0 < n → n ≤ 16 → By (shape (if n == 16 then E.Full else E.Stores) (stores n)) at
 unfolding By
-stores_by n at some most place [] s f = absurd f
-stores_by n at some most place (h ∷ hs) s f =
+stores_by n at some most [] s f = absurd f
+stores_by n at some most (h ∷ hs) s f =
     let a = address_hole h (at + 0) s.0 f.0 in
     let t = stores_in n at 12 hs s.1 f.1 in
     let count = t.count in
@@ -291,14 +250,14 @@ stores_by n at some most place (h ∷ hs) s f =
       unit = V.Stores a.rs1 a.imm t.members;
       fits = (a.register, a.field, record { some = omega arith; most = omega arith; each = t.each });
       holes = ap (λ w. w ∷ map member_word t.members) a.code ∙ ap (λ l. h ∷ l) t.holes;
-      shape_is = ap (λ m. shape (if m == 16 then E.Other else E.Stores) (stores m)) t.count;
+      shape_is = ap (λ m. shape (if m == 16 then E.Full else E.Stores) (stores m)) t.count;
     }
 
 -- each shape of the table
 fewer_by : (k at : ℕ) → suc k ≤ 15 → By (shape E.Stores (stores (suc k))) at
 fewer_by k at few =
     let fewer : suc k ≢ 16 = λ e. omega arith in
-    subst (λ (end : End). By (shape end (stores (suc k))) at) (ap (λ b. if b then E.Other else E.Stores) (ne_eqb (suc k) 16 fewer))
+    subst (λ (end : End). By (shape end (stores (suc k))) at) (ap (λ b. if b then E.Full else E.Stores) (ne_eqb (suc k) 16 fewer))
     (stores_by (suc k) at (omega arith) (omega arith))
 
 module _ (s : Shape) (at : ℕ) where
@@ -307,14 +266,14 @@ module _ (s : Shape) (at : ℕ) where
 
   stored_by : Among s all_stores → By s at
   unfolding Among
-  stored_by (inl e) = same_by (shape E.Other (stores 16)) e (stores_by 16 at (omega arith) (omega arith))
+  stored_by (inl e) = same_by (shape E.Full (stores 16)) e (stores_by 16 at (omega arith) (omega arith))
   stored_by (inr a) = let (k, (few, e)) = stores_of s 15 a in same_by (shape E.Stores (stores (suc k))) e (fewer_by k at few)
 
   -- the shapes of which there is one each, in the order of the table
   longer_by : Among s (drop 7 (take 14 SHAPES)) → By s at
   unfolding Among
-  longer_by (inl e) = same_by _ e (over_by at)
-  longer_by (inr (inl e)) = same_by _ e (branch_by at)
+  longer_by (inl e) = same_by _ e (branch_by at)
+  longer_by (inr (inl e)) = same_by _ e (over_by at)
   longer_by (inr (inr (inl e))) = same_by _ e (call_by at)
   longer_by (inr (inr (inr (inl e)))) = same_by _ e (ijump_by First at)
   longer_by (inr (inr (inr (inr (inl e))))) = same_by _ e (ijump_by Second at)
@@ -343,12 +302,12 @@ module _ (s : Shape) (at : ℕ) where
     ]
   ]
 
-pub made : (s : Shape) (ws : List ℕ) (at : ℕ) → Among s SHAPES → InCode at (length ws) → Small ws → Opens s.words ws at [] → Made s ws at
+pub made : (s : Shape) (ws : List ℕ) (at : ℕ) → Among s SHAPES → Small ws → Opens s.words ws at [] → Made s ws at
 unfolding By
-made s ws at among place small opens =
+made s ws at among small opens =
     let e : at ≡ at + 0 = omega arith in
     let f = holes_in s.words ws at 0 small (subst (λ (a : ℕ). Opens s.words ws a []) e opens) in
-    let h = by_shape s at among (subst (λ (n : ℕ). InCode at n) (opened_length s.words ws at opens) place) f.holes f.small f.fill in
+    let h = by_shape s at among f.holes f.small f.fill in
     record {
       unit = h.unit;
       fits = h.fits;

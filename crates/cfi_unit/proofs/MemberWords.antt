@@ -1,19 +1,12 @@
 -- The words of stores behind a mask: they are read back as these stores.
-use Rattle.std.proofs.Common.{◌≡◌, ℕ, zero, suc, ◌+◌, ◌-◌, ◌==◌, ◌&&◌, ◌<◌, ◌≤◌, ◌^◌, ◌⊎◌, refl, ap, sym, subst, ◌∙◌, lit<, true, false, List, [], ◌∷◌, ◌++◌, length, map, take, drop, inl, inr, arith}
-use Rattle.std.specs.Prelude.{Option, Some, None, nat_lt, slice_get}
-use Rattle.std.specs.List.{All, AllByRecursion}
+use Rattle.std.proofs.Common.{◌≡◌, ℕ, zero, suc, ◌+◌, ◌-◌, ◌<◌, ◌≤◌, ◌⊎◌, refl, ap, sym, ◌∙◌, lit<, List, [], ◌∷◌, ◌++◌, length, map, take, drop, inl, inr, arith}
+use Rattle.std.specs.Prelude.{Some, None, slice_get}
+use Rattle.std.specs.List.{AllByRecursion}
 use Rattle.std.proofs.lemmas.Bool.{lt-ltb}
-use Rattle.std.proofs.lemmas.Bool.Decides.{nat_tests}
-use Rattle.std.proofs.lemmas.List.{append-nil, length-map, length-take}
-use Rattle.std.proofs.lemmas.List.Elements.{All-head, All-tail}
-use Rattle.rv_word.proofs.Cases.{cases_Option, chosen}
-use Rattle.rv_instr.specs.InRange.{IsInstr}
-use Rattle.rv_instr.specs.declared.instr.Instr.{Instr}
-use Rattle.rv_instr.specs.declared.instr.Instr.TheVariants.{Store}
+use Rattle.std.proofs.lemmas.List.{append-nil, length-map}
 use Rattle.rv_code.specs.Decode.{decoded}
 use Rattle.rv_code.specs.Encode.{code_of}
 use Rattle.rv_code.proofs.ReadBack.{decoded-code_of}
-use Rattle.rv_code.proofs.Inverse.{decoded-in_range}
 use Rattle.cfi_unit.specs.declared.members.Member.{Member}
 use Rattle.cfi_unit.specs.Members.{IsMember, member_instr, member_of, members_in, with_member}
 use Rattle.cfi_unit.specs.UnitWords.{instr_at}
@@ -44,48 +37,6 @@ members_back (suc n) (m ∷ ms) rest all few ends =
     fewer : (suc n ≤ suc (length ms)) ⊎ (member_of (instr_at rest 0) ≡ None) → (n ≤ length ms) ⊎ (member_of (instr_at rest 0) ≡ None)
     fewer (inl most) = inl (omega arith)
     fewer (inr none) = inr none
-
--- a member that is read is in range
-given : (m n : Member) → Some m ≡ Some n → IsMember m → IsMember n
-given m n e is = let same : m ≡ n = cc in subst (λ (x : Member). IsMember x) same is
-
-member_in_range : (o : Option Instr) (m : Member) → ((i : Instr) → o ≡ Some i → IsInstr i) → member_of o ≡ Some m → IsMember m
-member_in_range (Some (Store op rs1 rs2 imm)) m known e =
-    let range : IsInstr (Store op rs1 rs2 imm) = known (Store op rs1 rs2 imm) refl in
-    elim (chosen ((rs1 == 31) && nat_lt imm 2048) (Some (record { op = op; value = rs2; distance = imm })) None (Some m) e) [
-      | inl is ↦
-          let below : imm < 2048 = and_below (rs1 == 31) imm is.0 in
-          given (record { op = op; value = rs2; distance = imm }) m is.1 (range.1, omega arith)
-      | inr not ↦ let bad = not.1 in absurd (cc)
-    ]
-  where
-    and_below : (b : _) (imm : ℕ) → (b && nat_lt imm 2048) ≡ true → imm < 2048
-    and_below true imm e = grind (arith, nat_tests)
-    and_below false imm e = absurd (cc)
-member_in_range other m known e = cc
-
-pub members_in_range : (ws : List ℕ) → All (λ w. w < 2 ^ 32) ws → AllByRecursion IsMember (members_in ws)
-members_in_range [] words = tt
-members_in_range (w ∷ ws) words =
-    elim (cases_Option (member_of (decoded w))) [
-      | inl none ↦ rw none tt
-      | inr some ↦
-          let small : w < 2 ^ 32 = All-head (λ (w : ℕ). w < 2 ^ 32) w ws words in
-          let fine : IsMember some.0 = member_in_range (decoded w) some.0 (λ i is. decoded-in_range w i small is) some.1 in
-          rw some.1 (fine, members_in_range ws (All-tail (λ (w : ℕ). w < 2 ^ 32) w ws words))
-    ]
-
--- no more members than words
-pub members_few : (ws : List ℕ) → length (members_in ws) ≤ length ws
-members_few [] = omega arith
-members_few (w ∷ ws) =
-    elim (cases_Option (member_of (decoded w))) [
-      | inl none ↦ rw none (omega arith)
-      | inr some ↦ let fewer = members_few ws in rw some.1 (omega arith)
-    ]
-
-pub members_most : (n : ℕ) (ws : List ℕ) → length (members_in (take n ws)) ≤ n
-members_most n ws = let few = members_few (take n ws) in let all = length-take n ws in grind (arith, nat_tests)
 
 -- the loop over words: the next one is a member, or is none
 pub members_next : (n k : ℕ) (ws : List ℕ) (m : Member) → member_of (instr_at ws k) ≡ Some m →

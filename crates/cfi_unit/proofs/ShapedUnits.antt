@@ -1,5 +1,5 @@
 -- The words of a unit that fits are as its shape says, and its shape is one of the table.
-use Rattle.std.proofs.Common.{◌≡◌, ℕ, zero, suc, ◌+◌, ◌==◌, ◌<◌, ◌≤◌, ◌^◌, true, not, refl, ap, sym, subst, ◌∙◌, lit<, inl, inr, List, [], ◌∷◌, ◌++◌, length, map, arith}
+use Rattle.std.proofs.Common.{◌≡◌, ℕ, zero, suc, ◌+◌, ◌*◌, ◌==◌, ◌<◌, ◌≤◌, ◌^◌, true, not, refl, ap, sym, subst, ◌∙◌, lit<, inl, inr, List, [], ◌∷◌, ◌++◌, length, map, arith}
 use Rattle.std.specs.Prelude.{if◌then◌else◌, replicate, take, ◌≢◌}
 use Rattle.std.specs.List.{AllByRecursion}
 use Rattle.std.proofs.lemmas.Bool.{cases_Bool, cases_eq, lt-ltb, ne_eqb}
@@ -18,25 +18,31 @@ use Rattle.cfi_unit.specs.declared.unit.Unit as U
 use Rattle.cfi_unit.specs.declared.unit.Unit.TheVariants as V
 use Rattle.cfi_unit.specs.declared.unit.SystemOp.TheVariants as S
 use Rattle.cfi_unit.specs.Members.{IsMember, member_instr}
-use Rattle.cfi_unit.specs.UnitWords.{BAD_TARGET, Fits, Reaches, gate, jump, jump_offset, near_offset, skip_offset, word_count, words_of}
+use Rattle.cfi_unit.specs.Reach.{reaches}
+use Rattle.cfi_unit.specs.UnitWords.{BAD_RETURN, BAD_TARGET, DEEP, Fits, Reaches, gate, jump, jump_offset, near_offset, skip_offset, word_count, words_of}
 use Rattle.cfi_unit.specs.Patterns.{has_form, matches}
 use Rattle.cfi_unit.specs.Shapes.{SHAPES, all_stores, each_guarded, each_stores, guarded, shape, stores}
 use Rattle.cfi_unit.specs.ShapeOf.{shape_of}
 use Rattle.cfi_unit.specs.Opens.{Among, Opens}
 use Rattle.cfi_unit.proofs.Forms.{passes}
-use Rattle.cfi_unit.proofs.Found.{is_jump_instr, words_counted}
 use Rattle.cfi_unit.proofs.GuardedWords.{is_load}
+use Rattle.cfi_unit.proofs.Jumps.{is_jump_instr}
+use Rattle.cfi_unit.proofs.Stand.{tested}
+use Rattle.cfi_unit.proofs.UnitInList.{words_counted}
 use Rattle.cfi_unit.proofs.Holes.{Fill, filled_opens, opened_length}
 use Rattle.cfi_unit.proofs.Listed.{among_back, among_front, guarded_listed, listed, stores_listed}
 use Rattle.cfi_unit.proofs.UnitHoles.{holes_of, load_word, member_word, unit_filled}
 
 -- the two families
-guards_fill : (ns : List ℕ) (at k : ℕ) → AllByRecursion IsNumber ns → Fill (guarded (length ns)) at k (map load_word ns)
-guards_fill [] at k all = tt
-guards_fill (n ∷ ns) at k all = (
-  passes (has_form P.Number (at + k)) (Immediate Addi 31 0 n) (is_load n all.0) (lt-ltb n 2048 all.0),
-  guards_fill ns at (k + 4 + 4) all.1,
-)
+guards_fill : (ns : List ℕ) (at k : ℕ) → AllByRecursion IsNumber ns → reaches (at + (k + 8 * length ns)) BAD_TARGET ≡ true →
+    Fill (guarded (length ns)) at k (map load_word ns)
+guards_fill [] at k all halts =
+    let e : at + (k + 8 * 0) ≡ at + k = omega arith in (subst (λ (a : ℕ). reaches a BAD_TARGET ≡ true) e halts, tt)
+guards_fill (n ∷ ns) at k all halts =
+    let e : at + (k + 8 * suc (length ns)) ≡ at + (k + 4 + 4 + 8 * length ns) = omega arith in (
+      passes (has_form P.Number (at + k)) (Immediate Addi 31 0 n) (is_load n all.0) (lt-ltb n 2048 all.0),
+      guards_fill ns at (k + 4 + 4) all.1 (subst (λ (a : ℕ). reaches a BAD_TARGET ≡ true) e halts),
+    )
 
 members_fill : (ms : List Member) (at k : ℕ) → AllByRecursion IsMember ms → Fill (replicate (length ms) P.Member) at k (map member_word ms)
 members_fill [] at k all = tt
@@ -74,15 +80,30 @@ unit_fill (V.Jump target) at f =
           (passes (has_form P.Goto at) (jump at target) (is_jump_instr 0 at target (lit< tt)) (goes at target f.0 f.1)),
       tt,
     )
+unit_fill V.Stop at f =
+    let e : at ≡ at + 0 = omega arith in (subst (λ (a : ℕ). reaches a BAD_TARGET ≡ true) e (tested at BAD_TARGET f), tt)
 unit_fill (V.System S.Ecall) at f = tt
 unit_fill (V.System S.Ebreak) at f = tt
-unit_fill (V.Guarded numbers) at f = guards_fill numbers at 0 f.0.each
+unit_fill (V.Guarded numbers) at f =
+    let e : at + 8 * length numbers ≡ at + (0 + 8 * length numbers) = omega arith in
+    guards_fill numbers at 0 f.0.each (subst (λ (a : ℕ). reaches a BAD_TARGET ≡ true) e (tested (at + 8 * length numbers) BAD_TARGET f.1))
 unit_fill (V.Stores rs1 imm members) at f = (address (at + 0) rs1 imm f.0 f.1, members_fill members at 12 f.2.each)
-unit_fill (V.Call target) at f =
-    (passes (has_form P.Link (at + 28)) (Jal 1 (jump_offset (at + 28) target)) (is_jump_instr 1 (at + 28) target (lit< tt)) refl, tt)
-unit_fill (V.Ijump which rs1 imm label) at f = (address (at + 0) rs1 imm f.0 f.1, (labelled (at + 32) label f.2, tt))
-unit_fill (V.Icall rs1 imm label) at f = (address (at + 0) rs1 imm f.0.0 f.0.1, (labelled (at + 32) label f.0.2, tt))
-unit_fill other at f = tt
+unit_fill (V.Call target) at f = (
+  tested (at + 8) DEEP f.0,
+  (passes (has_form P.Link (at + 28)) (Jal 1 (jump_offset (at + 28) target)) (is_jump_instr 1 (at + 28) target (lit< tt)) refl, tt),
+)
+unit_fill (V.Ijump which rs1 imm label) at f = (
+  address (at + 0) rs1 imm f.0 f.1,
+  (tested (at + 24) BAD_TARGET f.3, (labelled (at + 32) label f.2, (tested (at + 44) BAD_TARGET f.4, tt))),
+)
+unit_fill (V.Icall rs1 imm label) at f = (
+  address (at + 0) rs1 imm f.0.0 f.0.1,
+  (
+    tested (at + 24) BAD_TARGET f.0.3,
+    (labelled (at + 32) label f.0.2, (tested (at + 44) BAD_TARGET f.0.4, (tested (at + 56) DEEP f.1, tt))),
+  ),
+)
+unit_fill V.Return at f = (tested (at + 12) BAD_RETURN f, tt)
 
 pub unit_opens : (u : U.Unit) (at : ℕ) → Fits u at → Opens ((shape_of u at).words) (words_of u at) at []
 unit_opens u at f =
@@ -98,13 +119,13 @@ guarded_among (suc n) some most =
     among_back (shape E.Guarded (guarded (suc n))) (take 14 SHAPES) (each_guarded 8 ++ all_stores)
     (among_front (shape E.Guarded (guarded (suc n))) (each_guarded 8) all_stores (guarded_listed n 8 most))
 
-pub stores_among : (n : ℕ) → 0 < n → n ≤ 16 → Among (shape (if n == 16 then E.Other else E.Stores) (stores n)) SHAPES
+pub stores_among : (n : ℕ) → 0 < n → n ≤ 16 → Among (shape (if n == 16 then E.Full else E.Stores) (stores n)) SHAPES
 stores_among zero some most = absurd (omega arith)
 stores_among (suc n) some most =
     elim (cases_eq (suc n) 16) [
       | inl all ↦
-          subst (λ (m : ℕ). Among (shape (if m == 16 then E.Other else E.Stores) (stores m)) SHAPES) (sym all)
-          (listed SHAPES 22 (shape E.Other (stores 16)) refl)
+          subst (λ (m : ℕ). Among (shape (if m == 16 then E.Full else E.Stores) (stores m)) SHAPES) (sym all)
+          (listed SHAPES 22 (shape E.Full (stores 16)) refl)
       | inr fewer ↦
           rw (ne_eqb (suc n) 16 fewer)
           (among_back (shape E.Stores (stores (suc n))) (take 23 SHAPES) (each_stores 15) (stores_listed n 15 (omega arith)))
@@ -113,10 +134,10 @@ stores_among (suc n) some most =
 pub shape_among : (u : U.Unit) (at : ℕ) → Fits u at → Among (shape_of u at) SHAPES
 shape_among (V.Gate label) at f = listed SHAPES 0 _ refl
 shape_among (V.Plain instr) at f = listed SHAPES 1 _ refl
-shape_among (V.Branch op rs1 rs2 target) at f = listed SHAPES 8 _ refl
+shape_among (V.Branch op rs1 rs2 target) at f = listed SHAPES 7 _ refl
 shape_among (V.Near op rs1 rs2 target) at f =
     elim (cases_Bool (near_offset at target == skip_offset)) [
-      | inl over ↦ rw over (listed SHAPES 7 (shape E.Over (P.Skip ∷ [])) refl)
+      | inl over ↦ rw over (listed SHAPES 8 (shape E.Over (P.Skip ∷ [])) refl)
       | inr other ↦ rw other (listed SHAPES 6 (shape E.Near (P.Near ∷ [])) refl)
     ]
 shape_among (V.Jump target) at f = listed SHAPES 3 _ refl

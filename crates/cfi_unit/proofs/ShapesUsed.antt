@@ -51,18 +51,18 @@ fillers : (n : ℕ) → AllByRecursion IsMember (replicate n FILLER)
 fillers zero = tt
 fillers (suc n) = ((lit< tt, lit< tt), fillers n)
 
-stores_used : (s : Shape) (n : ℕ) → 0 < n → n ≤ 16 → s ≡ shape (if n == 16 then E.Other else E.Stores) (stores n) → Used s
+stores_used : (s : Shape) (n : ℕ) → 0 < n → n ≤ 16 → s ≡ shape (if n == 16 then E.Full else E.Stores) (stores n) → Used s
 stores_used s n some most e =
     let many = length-replicate n FILLER in
-    used s (shape (if n == 16 then E.Other else E.Stores) (stores n)) e (V.Stores 0 0 (replicate n FILLER))
+    used s (shape (if n == 16 then E.Full else E.Stores) (stores n)) e (V.Stores 0 0 (replicate n FILLER))
     (lit< tt, lit< tt, record { some = omega arith; most = omega arith; each = fillers n })
-    (ap (λ m. shape (if m == 16 then E.Other else E.Stores) (stores m)) many)
+    (ap (λ m. shape (if m == 16 then E.Full else E.Stores) (stores m)) many)
 
 module _ (s : Shape) where
   longer_used : Among s (drop 7 (take 14 SHAPES)) → Used s
   unfolding Among
-  longer_used (inl e) = used s _ e (V.Near Beq 0 0 (HERE + 8)) (lit< tt, lit< tt, refl) refl
-  longer_used (inr (inl e)) = used s _ e (V.Branch Beq 0 0 HERE) (lit< tt, lit< tt, refl) refl
+  longer_used (inl e) = used s _ e (V.Branch Beq 0 0 HERE) (lit< tt, lit< tt, refl) refl
+  longer_used (inr (inl e)) = used s _ e (V.Near Beq 0 0 (HERE + 8)) (lit< tt, lit< tt, refl) refl
   longer_used (inr (inr (inl e))) = used s _ e (V.Call HERE) (refl, refl) refl
   longer_used (inr (inr (inr (inl e)))) = used s _ e (V.Ijump First 0 0 0) (lit< tt, lit< tt, lit< tt, refl, refl) refl
   longer_used (inr (inr (inr (inr (inl e))))) = used s _ e (V.Ijump Second 0 0 0) (lit< tt, lit< tt, lit< tt, refl, refl) refl
@@ -88,7 +88,7 @@ module _ (s : Shape) where
       let (k, (few, e)) = stores_of s 15 a in
       let fewer : suc k ≢ 16 = λ e. omega arith in
       stores_used s (suc k) (omega arith) (omega arith)
-      (e ∙ ap (λ b. shape (if b then E.Other else E.Stores) (stores (suc k))) (sym (ne_eqb (suc k) 16 fewer)))
+      (e ∙ ap (λ b. shape (if b then E.Full else E.Stores) (stores (suc k))) (sym (ne_eqb (suc k) 16 fewer)))
 
   each_used : Among s SHAPES → Used s
   each_used a = elim (among_either s (take 14 SHAPES) (each_guarded 8 ++ all_stores) a) [

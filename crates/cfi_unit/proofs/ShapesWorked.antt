@@ -4,13 +4,9 @@ use Rattle.std.proofs.Common.{ℕ, refl, List, [], ◌∷◌}
 use Rattle.std.specs.Prelude.{◌≡◌, Some}
 use Rattle.rv_code.specs.Encode.{code_of}
 use Rattle.rv_code.specs.Decode.{decoded}
-use Rattle.cfi_unit.specs.declared.pattern.Pattern.TheVariants as P
-use Rattle.cfi_unit.specs.declared.pattern.End.TheVariants as E
 use Rattle.cfi_unit.specs.declared.unit.Unit.TheVariants as V
-use Rattle.cfi_unit.specs.UnitWords.{BAD_TARGET, words_of}
 use Rattle.cfi_unit.specs.Recognise.{recognised}
-use Rattle.cfi_unit.specs.FoundShape.{found_shape}
-use Rattle.cfi_unit.specs.Shapes.{return, shape, stores}
+use Rattle.cfi_unit.specs.Shapes.{return, stores}
 use Rattle.cfi_unit.specs.Opens.{Opens}
 
 -- ld x31,-8(x3); addi x3,x3,-8; beq x31,x1,+8; jal x0,BAD_RETURN; jalr x0,0(x31)
@@ -36,7 +32,7 @@ stores_row : Opens (stores 2) (0x00050f93 ∷ 0x024f9f93 ∷ 0x024fdf93 ∷ 0x00
 unfolding Opens code_of decoded
 stores_row = (refl, (refl, (refl, (refl, (refl, refl)))))
 
--- outside of code a jump may be taken for a stop: jal x0,0 at 0 has the offset field of a jump to the handler, which it does not reach
-outside : (recognised (0x0000006f ∷ []) 0 ≡ Some (V.Jump 0)) × (found_shape (0x0000006f ∷ []) 0 ≡ Some (shape E.Stop (P.Halt BAD_TARGET ∷ [])))
-unfolding recognised words_of code_of decoded
-outside = (refl, refl)
+-- jal x0,0 at 0 has the offset field of a jump to the handler, which it does not reach from there: it is no stop
+outside : recognised (0x0000006f ∷ []) 0 ≡ Some (V.Jump 0)
+unfolding recognised code_of decoded
+outside = refl

@@ -5,7 +5,8 @@ use Rattle.std.proofs.lemmas.Bool.{cases_Bool, eq-eqb, eqb-true, lt-ltb, ltb-tru
 use Rattle.cfi_unit.specs.declared.unit.Unit as U
 use Rattle.cfi_unit.specs.declared.unit.Unit.TheVariants as V
 use Rattle.cfi_unit.specs.UnitWords.{BAD_TARGET, BAD_RETURN, DEEP, Fits, IsNear, Reaches, jump_offset, near_offset}
-use Rattle.cfi_unit.specs.Recognise.{led_to, near_to, reaches, is_near, check_reaches, can_stand}
+use Rattle.cfi_unit.specs.Reach.{led_to, near_to, reaches, is_near}
+use Rattle.cfi_unit.specs.CanStand.{check_reaches, can_stand}
 use Rattle.cfi_unit.specs.InRange.{IsInRange}
 
 pub both : (a b : Bool) → (a && b) ≡ true → (a ≡ true) × (b ≡ true)

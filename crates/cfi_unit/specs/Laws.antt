@@ -13,7 +13,8 @@ use Rattle.cfi_unit.specs.declared.unit.Unit as U
 use Rattle.cfi_unit.specs.declared.unit.Unit.TheVariants as V
 use Rattle.cfi_unit.specs.Members.{MOST_MEMBERS}
 use Rattle.cfi_unit.specs.UnitWords.{Begins, Fits, IsNear, Reaches, instr_at, may_precede, near_offset, skip_offset, skips_jump, words_of}
-use Rattle.cfi_unit.specs.Recognise.{near_to, recognised}
+use Rattle.cfi_unit.specs.Reach.{near_to}
+use Rattle.cfi_unit.specs.Recognise.{recognised}
 use Rattle.cfi_unit.specs.Split.{IsSplit}
 use Rattle.cfi_unit.specs.Place.{Place}
 use Rattle.cfi_unit.specs.Shadow.{MOST_PENDING}

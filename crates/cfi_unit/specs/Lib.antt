@@ -2,12 +2,15 @@ pub mod Members
 pub mod Guarded
 pub mod UnitWords
 pub mod InRange
-pub mod Recognise
+pub mod Reach
+pub mod CanStand
 pub mod Patterns
 pub mod Shapes
 pub mod ShapeOf
 pub mod Opens
 pub mod FoundShape
+pub mod Recognise
+pub mod NoneBegins
 pub mod ShapeLaw
 pub mod Split
 pub mod Laws

@@ -1,4 +1,4 @@
--- What a word of a unit may be: one word, a jump to one address, or an instruction of a form with holes.
+-- What a word of a unit may be: one word, a jump that reaches one address, or an instruction of a form with holes.
 use Rattle.std.specs.Prelude.{ℕ, ◌==◌, ◌&&◌, Bool, true, false, not, nat_lt, Option, Some, None}
 use Rattle.rv_instr.specs.declared.instr.Instr.{Instr}
 use Rattle.rv_instr.specs.declared.instr.Instr.TheVariants.{Upper, Jal, Branch, Store, Immediate}
@@ -8,7 +8,7 @@ use Rattle.rv_code.specs.Decode.{decoded}
 use Rattle.rv_code.specs.Encode.{code_of}
 use Rattle.cfi_unit.specs.declared.pattern.Pattern.{Pattern}
 use Rattle.cfi_unit.specs.declared.pattern.Pattern.TheVariants as P
-use Rattle.cfi_unit.specs.Recognise.{led_to}
+use Rattle.cfi_unit.specs.Reach.{led_to, reaches}
 use Rattle.cfi_unit.specs.UnitWords.{BAD_TARGET, is_lui, is_plain, jump, skip_offset}
 
 abbrev pub is_addi : ImmediateOp → Bool
@@ -37,5 +37,5 @@ decodes_to test (Some instr) = test instr
 -- a word is as a pattern says, at an address
 abbrev pub matches : Pattern → ℕ → ℕ → Bool
 matches (P.Is code) word here = word == code
-matches (P.Halt to) word here = word == code_of (jump here to)
+matches (P.Halt to) word here = reaches here to && (word == code_of (jump here to))
 matches other word here = decodes_to (has_form other here) (decoded word)

@@ -11,18 +11,18 @@ use Rattle.cfi_unit.specs.Shapes.{Shape, call, guarded, icall, ijump, is, return
 
 abbrev pub shape_of : U.Unit → ℕ → Shape
 shape_of (V.Gate label) at = shape E.Gate (P.Gate ∷ [])
-shape_of (V.Plain instr) at = shape E.Other (P.Plain ∷ [])
+shape_of (V.Plain instr) at = shape E.Plain (P.Plain ∷ [])
 shape_of (V.Branch op rs1 rs2 target) at = shape E.Branch (P.Skip ∷ P.Jump ∷ [])
 shape_of (V.Near op rs1 rs2 target) at =
     if near_offset at target == skip_offset then shape E.Over (P.Skip ∷ []) else shape E.Near (P.Near ∷ [])
 shape_of (V.Jump target) at = shape E.Jump (P.Goto ∷ [])
 shape_of V.Stop at = shape E.Stop (P.Halt BAD_TARGET ∷ [])
 shape_of (V.System S.Ecall) at = shape E.Ecall (is Ecall ∷ [])
-shape_of (V.System S.Ebreak) at = shape E.Other (is Ebreak ∷ [])
+shape_of (V.System S.Ebreak) at = shape E.Ebreak (is Ebreak ∷ [])
 shape_of (V.Guarded numbers) at = shape E.Guarded (guarded (length numbers))
 shape_of (V.Stores rs1 imm members) at =
-    shape (if length members == 16 then E.Other else E.Stores) (stores (length members))
+    shape (if length members == 16 then E.Full else E.Stores) (stores (length members))
 shape_of (V.Call target) at = shape E.Call call
 shape_of (V.Ijump which rs1 imm label) at = shape (E.Ijump which) (ijump which)
 shape_of (V.Icall rs1 imm label) at = shape E.Icall icall
-shape_of V.Return at = shape E.Other return
+shape_of V.Return at = shape E.Return return

@@ -96,27 +96,27 @@ each_stores zero = []
 each_stores (suc n) = shape E.Stores (stores (suc n)) ∷ each_stores n
 
 abbrev pub all_stores : List Shape
-all_stores = shape E.Other (stores 16) ∷ each_stores 15
+all_stores = shape E.Full (stores 16) ∷ each_stores 15
 
 abbrev pub each_guarded : ℕ → List Shape
 each_guarded zero = []
 each_guarded (suc n) = shape E.Guarded (guarded (suc n)) ∷ each_guarded n
 
--- all units
+-- all units, a longer one before those that it begins as
 abbrev pub SHAPES : List Shape
 SHAPES =
     shape E.Gate (P.Gate ∷ [])
-    ∷ shape E.Other (P.Plain ∷ [])
+    ∷ shape E.Plain (P.Plain ∷ [])
     ∷ shape E.Stop (P.Halt BAD_TARGET ∷ [])
     ∷ shape E.Jump (P.Goto ∷ [])
     ∷ shape E.Ecall (is Ecall ∷ [])
-    ∷ shape E.Other (is Ebreak ∷ [])
+    ∷ shape E.Ebreak (is Ebreak ∷ [])
     ∷ shape E.Near (P.Near ∷ [])
-    ∷ shape E.Over (P.Skip ∷ [])
     ∷ shape E.Branch (P.Skip ∷ P.Jump ∷ [])
+    ∷ shape E.Over (P.Skip ∷ [])
     ∷ shape E.Call call
     ∷ shape (E.Ijump First) (ijump First)
     ∷ shape (E.Ijump Second) (ijump Second)
     ∷ shape E.Icall icall
-    ∷ shape E.Other return
+    ∷ shape E.Return return
     ∷ (each_guarded 8 ++ all_stores)

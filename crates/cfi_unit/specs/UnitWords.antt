@@ -40,7 +40,7 @@ DEEP = handlers.DEEP
 
 -- the offset field of a jump from one address to another: it counts in multiples of two bytes
 abbrev pub jump_offset : ℕ → ℕ → ℕ
-jump_offset from to = wrap (to + (2 ^ 64 - from)) / 2 % 2 ^ 20
+jump_offset from to = wrap (to + (2 ^ 64 - wrap from)) / 2 % 2 ^ 20
 
 -- a jump from one address reaches another: its offset, as the hart reads it, leads there
 abbrev pub Reaches : ℕ → ℕ → Type 0
@@ -48,7 +48,7 @@ Reaches from to = wrap (from + offset 21 (jump_offset from to * 2)) ≡ to
 
 -- the same of a branch, whose field has 12 bits
 abbrev pub near_offset : ℕ → ℕ → ℕ
-near_offset from to = wrap (to + (2 ^ 64 - from)) / 2 % 2 ^ 12
+near_offset from to = wrap (to + (2 ^ 64 - wrap from)) / 2 % 2 ^ 12
 
 abbrev pub IsNear : ℕ → ℕ → Type 0
 IsNear from to = wrap (from + offset 13 (near_offset from to * 2)) ≡ to

@@ -2,7 +2,8 @@
 
 ghost use Rattle.std.specs.Prelude.{◌≡◌, ◌+◌, ◌*◌, ◌<◌, ◌↔◌, ◌++◌, IfOk, IsTrue, List, Some, length, ℕ};
 ghost use Rattle.rv_word.specs.MemoryMap.{CODE_START, CODE_SIZE};
-ghost use Rattle.cfi_unit.specs.Recognise.{can_stand, check_reaches, recognised};
+ghost use Rattle.cfi_unit.specs.CanStand.{can_stand, check_reaches};
+ghost use Rattle.cfi_unit.specs.Recognise.{recognised};
 ghost use Rattle.cfi_unit.specs.UnitWords.{Fits, is_plain, may_precede, word_count, words_of};
 ghost use Rattle.cfi_unit.specs.declared.unit.Unit.TheVariants as V;
 
@@ -27,7 +28,7 @@ pub fn emit(alloc: Global, unit: &Unit, at: u64) -> Result<Vec<u32>, NoMemory>
 }
 
 /// How many bytes a unit has.
-#[tactic(auto, using(crate::proofs::Found::words_counted))]
+#[tactic(auto, using(crate::proofs::UnitInList::words_counted))]
 pub fn size(unit: &Unit) -> u32
     ensures value { result ≡ 4 * word_count unit.now }
     ensures words { (at : ℕ) → result ≡ 4 * length (words_of unit.now at) }

@@ -1,7 +1,7 @@
 //! Offsets of jumps and branches: where they lead and what they reach.
 
 ghost use Rattle.std.specs.Prelude.{◌≡◌};
-ghost use Rattle.cfi_unit.specs.Recognise.{is_near, led_to, near_to, reaches};
+ghost use Rattle.cfi_unit.specs.Reach.{is_near, led_to, near_to, reaches};
 ghost use Rattle.cfi_unit.specs.UnitWords.{jump, jump_offset, near_offset};
 
 use rv_instr::{Immediate, Instr, Reg};

@@ -10,7 +10,7 @@ pub use members::{MOST_MEMBERS, Member, Members};
 pub use pattern::{End, Pattern};
 pub use place::Place;
 pub use recogniser::recognise;
-pub use shape_law::{recognised_found, shapes_apart, shapes_made, shapes_used, units_shaped};
+pub use shape_law::{shapes_apart, shapes_made, shapes_used, units_shaped};
 pub use step_law::{registers_stay, unit_events, unit_law};
 pub use target_word::TargetWord;
 pub use unit::{SystemOp, Unit};

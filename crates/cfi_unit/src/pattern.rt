@@ -7,7 +7,7 @@ use crate::target_word::TargetWord;
 pub enum Pattern {
     /// One word.
     Is(u32),
-    /// A jump to a handler.
+    /// A jump that reaches a handler.
     Halt(u64),
     /// A gate: `lui x0`.
     Gate,
@@ -54,12 +54,18 @@ pub enum End {
     Icall,
     /// A gate.
     Gate,
+    /// A plain instruction.
+    Plain,
     /// A system call.
     Ecall,
+    /// A break.
+    Ebreak,
     /// A system call behind tests of its number.
     Guarded,
     /// Stores of which there may be more.
     Stores,
-    /// Any other: a plain instruction, a break, a return, sixteen stores.
-    Other,
+    /// As many stores as there may be.
+    Full,
+    /// A return.
+    Return,
 }

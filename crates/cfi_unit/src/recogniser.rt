@@ -1,39 +1,59 @@
 //! The unit that begins a list of words.
 
-ghost use Rattle.std.specs.Prelude.{◌≡◌, ◌+◌, ◌<◌, ◌≤◌, ◌||◌, None, Some, drop, if◌then◌else◌, is_none, nat_le, nat_lt, option_map, take, IfSome, IsNone};
+ghost use Rattle.std.specs.Prelude.{◌≡◌, ◌↔◌, ◌+◌, ◌<◌, ◌≤◌, ◌||◌, None, Some, drop, if◌then◌else◌, is_none, nat_le, nat_lt, option_map, take, IfSome, IsNone, IsTrue};
+ghost use Rattle.std.specs.List.{All};
 ghost use Rattle.rv_word.specs.MemoryMap.{CODE_START, CODE_SIZE};
-ghost use Rattle.cfi_unit.specs.Recognise.{
-  address_unit,
-  branch_unit,
-  computed_unit,
-  jump_or_stop,
-  label_in,
-  loaded_by,
-  number_of,
-  numbers_in,
-  read_by,
-  read_in,
-  recognised,
-  target_in,
-  transfer_unit,
-  unit_from,
-  upper_unit,
-};
 ghost use Rattle.rv_word.specs.Numbers.{IsNumber, MOST_NUMBERS};
 ghost use Rattle.cfi_unit.specs.Members.{MOST_MEMBERS, member_of, members_in};
 ghost use Rattle.cfi_unit.specs.UnitWords.{Begins, instr_at, is_jump, may_precede, skips_jump, word_count};
+ghost use Rattle.cfi_unit.specs.Reach.{target_in};
+ghost use Rattle.cfi_unit.specs.Recognise.{
+  address_in,
+  branch_in,
+  label_in,
+  loaded_by,
+  near_in,
+  number_of,
+  numbers_in,
+  recognised,
+  stores_in,
+  transfer_in,
+  unit_of,
+};
+ghost use Rattle.cfi_unit.specs.NoneBegins.{NoneBegins};
 ghost use Rattle.cfi_unit.specs.declared.unit.Unit as U;
 
-use crate::emission::{count, may_stand};
-use crate::handlers::BAD_TARGET;
+use crate::emission::{count, fits};
 use crate::jump::{led, led_near, near_between};
 use crate::members::{MOST_MEMBERS, Member, Members};
+use crate::pattern::End;
 use crate::target_word::TargetWord;
 use crate::template::unit_code;
 use crate::unit::{SystemOp, Unit};
 use rv_code::decode;
-use rv_instr::{BranchOp, Immediate, Instr, Reg, StoreOp, UpperOp};
+use rv_instr::{Immediate, Instr, Reg, StoreOp};
 use rv_word::Numbers;
+
+/// The kinds of units.
+const KINDS: [End; 17] = [
+    End::Gate,
+    End::Plain,
+    End::Stop,
+    End::Jump,
+    End::Ecall,
+    End::Ebreak,
+    End::Near,
+    End::Branch,
+    End::Over,
+    End::Call,
+    End::Ijump(TargetWord::First),
+    End::Ijump(TargetWord::Second),
+    End::Icall,
+    End::Return,
+    End::Guarded,
+    End::Full,
+    End::Stores,
+];
 
 /// The unit that begins a list of words at an address, and how many words it has. A branch is read with
 /// the word after it, so a list that ends before the code does may give another unit at its end.
@@ -50,19 +70,51 @@ pub fn recognise(words: &[u32], at: u64) -> Option<(Unit, u32)>
 }
 
 /// The unit that begins the list.
-#[tactic(auto, unfolding(crate::specs::Recognise::recognised))]
 fn first_unit(words: &[u32], at: u64) -> Option<Unit>
     requires { at < CODE_START + CODE_SIZE }
     ensures { result ≡ recognised words.now at }
 {
-    let unit = candidate(words, at, instr(words, 0)?)?;
-    if may_stand(&unit, at)
-        && words.starts_with(unit_code(&unit, at).as_slice())
-        && is_kept(&unit, at, words)
-    {
+    unit_of_kinds(&KINDS, words, at)
+}
+
+/// The unit of one of some kinds that begins the list.
+fn unit_of_kinds(kinds: &[End], words: &[u32], at: u64) -> Option<Unit>
+    requires { at < CODE_START + CODE_SIZE }
+    ensures found { IfSome result (λ unit. recognised words.now at ≡ Some unit) }
+    ensures none { IsNone result → All (λ end. NoneBegins end words.now at) kinds.now }
+{
+    for end in kinds {
+        if let Some(unit) = unit_of_kind(*end, words, at) {
+            return Some(unit);
+        }
+    }
+    None
+}
+
+/// The unit of a kind that begins the list.
+fn unit_of_kind(end: End, words: &[u32], at: u64) -> Option<Unit>
+    requires { at < CODE_START + CODE_SIZE }
+    ensures found { IfSome result (λ unit. recognised words.now at ≡ Some unit) }
+    ensures none { IsNone result → NoneBegins end words.now at }
+{
+    let unit = read(end, words, at)?;
+    if begins(&unit, words, at) {
         Some(unit)
     } else {
         None
+    }
+}
+
+/// Whether a unit begins the list.
+fn begins(unit: &Unit, words: &[u32], at: u64) -> bool
+    requires { at < CODE_START + CODE_SIZE }
+    ensures { IsTrue result ↔ Begins words.now at unit.now }
+{
+    if fits(unit, at) {
+        let code = unit_code(unit, at);
+        words.starts_with(code.as_slice()) && is_kept(unit, at, words)
+    } else {
+        false
     }
 }
 
@@ -73,46 +125,37 @@ fn instr(words: &[u32], index: usize) -> Option<Instr>
     decode(*words.get(index)?)
 }
 
-/// The only unit that may begin with an instruction: its fields are read from the words in which
-/// it would keep them.
-fn candidate(words: &[u32], at: u64, first: Instr) -> Option<Unit>
+/// A unit of a kind, its fields read from the words in which it would keep them.
+fn read(end: End, words: &[u32], at: u64) -> Option<Unit>
     requires { at < CODE_START + CODE_SIZE }
-    ensures { result ≡ unit_from words.now at first }
+    ensures { result ≡ unit_of end words.now at }
 {
-    match first {
-        Instr::Upper(op, rd, imm) => Some(upper(op, rd, imm)),
-        Instr::Jal(_, field) => Some(jump_unit(led(at, field))),
-        Instr::Branch(op, rs1, rs2, field) => branch(at, op, rs1, rs2, field, instr(words, 1)),
-        Instr::Immediate(op, rd, rs1, imm) => {
-            if rd.number() == 31 {
-                addressed(words, rs1, imm)
-            } else {
-                Some(Unit::Plain(Instr::Immediate(op, rd, rs1, imm)))
-            }
+    match end {
+        End::Gate => Some(Unit::Gate(label(instr(words, 0))?)),
+        End::Plain => Some(Unit::Plain(instr(words, 0)?)),
+        End::Stop => Some(Unit::Stop),
+        End::Jump => Some(Unit::Jump(target(at, instr(words, 0))?)),
+        End::Ecall => Some(Unit::System(SystemOp::Ecall)),
+        End::Ebreak => Some(Unit::System(SystemOp::Ebreak)),
+        End::Near | End::Over => near(at, instr(words, 0)),
+        End::Branch => branch(instr(words, 0), target(at + 4, instr(words, 1))?),
+        End::Call => Some(Unit::Call(target(at + 28, instr(words, 7))?)),
+        End::Ijump(which) => {
+            let (rs1, imm, label) = transfer(words)?;
+            Some(Unit::Ijump(which, rs1, imm, label))
         }
-        Instr::Shift(op, rd, rs1, amount) => {
-            if rd.number() == 30 {
-                Some(Unit::Call(target(at + 28, instr(words, 7))?))
-            } else {
-                Some(Unit::Plain(Instr::Shift(op, rd, rs1, amount)))
-            }
+        End::Icall => {
+            let (rs1, imm, label) = transfer(words)?;
+            Some(Unit::Icall(rs1, imm, label))
         }
-        Instr::Load(op, rd, rs1, imm) => {
-            if rd.number() == 31 {
-                Some(Unit::Return)
-            } else {
-                Some(Unit::Plain(Instr::Load(op, rd, rs1, imm)))
-            }
-        }
-        Instr::Ecall => Some(Unit::System(SystemOp::Ecall)),
-        Instr::Ebreak => Some(Unit::System(SystemOp::Ebreak)),
-        Instr::ShiftWord(..) | Instr::Register(..) | Instr::Fence(_) => Some(Unit::Plain(first)),
-        Instr::Jalr(..) | Instr::Store(..) => None,
+        End::Return => Some(Unit::Return),
+        End::Guarded => Some(Unit::Guarded(numbers_tested(words))),
+        End::Stores | End::Full => stores(words),
     }
 }
 
 /// Whether the words after a unit that begins the list leave it that unit.
-#[tactic(auto, using(crate::proofs::Found::next_instr))]
+#[tactic(auto, using(crate::proofs::UnitInList::next_instr))]
 fn is_kept(unit: &Unit, at: u64, words: &[u32]) -> bool
     ensures { result ≡ may_precede unit.now at (drop (word_count unit.now) words.now) }
 {
@@ -124,7 +167,7 @@ fn is_kept(unit: &Unit, at: u64, words: &[u32]) -> bool
 }
 
 /// Whether no more stores belong to so many that begin the list behind their mask.
-#[tactic(auto, using(crate::proofs::Found::next_instr))]
+#[tactic(auto, using(crate::proofs::UnitInList::next_instr))]
 fn is_whole(count: usize, words: &[u32]) -> bool
     requires { count ≤ MOST_MEMBERS }
     ensures { result ≡ (nat_le MOST_MEMBERS count || is_none (member_of (instr_at (drop (3 + count) words.now) 0))) }
@@ -150,49 +193,50 @@ fn is_jump(instr: Option<Instr>) -> bool
     }
 }
 
-/// The unit of a branch, which goes over the jump that is the next instruction, or stands alone.
-fn branch(
-    at: u64,
-    op: BranchOp,
-    rs1: Reg,
-    rs2: Reg,
-    field: Immediate<12>,
-    next: Option<Instr>,
-) -> Option<Unit>
-    requires { at < CODE_START + CODE_SIZE }
-    ensures { result ≡ branch_unit at op rs1 rs2 field next }
+/// A branch that stands alone.
+fn near(at: u64, branch: Option<Instr>) -> Option<Unit>
+    ensures { result ≡ near_in at branch }
 {
-    if skips(field, next) {
-        Some(Unit::Branch(op, rs1, rs2, target(at + 4, next)?))
-    } else {
-        Some(Unit::Near(op, rs1, rs2, led_near(at, field)))
+    match branch? {
+        Instr::Branch(op, rs1, rs2, field) => Some(Unit::Near(op, rs1, rs2, led_near(at, field))),
+        _ => None,
     }
 }
 
-/// The unit of a `lui` or `auipc`: a gate where it writes x0.
-fn upper(op: UpperOp, rd: Reg, imm: Immediate<20>) -> Unit
-    ensures { result ≡ upper_unit op rd imm }
+/// A branch over a jump.
+fn branch(branch: Option<Instr>, target: u64) -> Option<Unit>
+    ensures { result ≡ branch_in branch target }
 {
-    match op {
-        UpperOp::Lui => {
-            if rd.number() == 0 {
-                Unit::Gate(imm)
-            } else {
-                Unit::Plain(Instr::Upper(UpperOp::Lui, rd, imm))
-            }
-        }
-        UpperOp::Auipc => Unit::Plain(Instr::Upper(UpperOp::Auipc, rd, imm)),
+    match branch? {
+        Instr::Branch(op, rs1, rs2, _) => Some(Unit::Branch(op, rs1, rs2, target)),
+        _ => None,
     }
 }
 
-/// The unit of a jump to a target.
-fn jump_unit(target: u64) -> Unit
-    ensures { result ≡ jump_or_stop target }
+/// The register, the offset and the label of a computed transfer.
+fn transfer(words: &[u32]) -> Option<(Reg, Immediate<12>, Immediate<20>)>
+    ensures { result ≡ transfer_in words.now }
 {
-    if target == BAD_TARGET {
-        Unit::Stop
-    } else {
-        Unit::Jump(target)
+    let label = label(instr(words, 8))?;
+    let (rs1, imm) = address(instr(words, 0))?;
+    Some((rs1, imm, label))
+}
+
+/// Stores behind a mask.
+fn stores(words: &[u32]) -> Option<Unit>
+    ensures { result ≡ stores_in words.now }
+{
+    let (rs1, imm) = address(instr(words, 0))?;
+    Some(Unit::Stores(rs1, imm, members_behind(words)))
+}
+
+/// The register and the offset of an address.
+fn address(addi: Option<Instr>) -> Option<(Reg, Immediate<12>)>
+    ensures { result ≡ address_in addi }
+{
+    match addi? {
+        Instr::Immediate(_, _, rs1, imm) => Some((rs1, imm)),
+        _ => None,
     }
 }
 
@@ -204,26 +248,6 @@ fn target(at: u64, jump: Option<Instr>) -> Option<u64>
         Instr::Jal(_, field) => Some(led(at, field)),
         _ => None,
     }
-}
-
-/// A unit that begins by putting an address or a number into x31.
-fn addressed(words: &[u32], rs1: Reg, imm: Immediate<12>) -> Option<Unit>
-    ensures { result ≡ address_unit words.now rs1 imm (instr_at words.now 1) }
-{
-    match instr(words, 1) {
-        Some(Instr::Shift(..)) => Some(Unit::Stores(rs1, imm, members_behind(words))),
-        Some(Instr::Branch(..)) => Some(Unit::Guarded(numbers_tested(words))),
-        _ => transferred(words, rs1, imm),
-    }
-}
-
-/// A computed transfer, by the label that its check compares with.
-fn transferred(words: &[u32], rs1: Reg, imm: Immediate<12>) -> Option<Unit>
-    ensures { result ≡ transfer_unit words.now rs1 imm }
-{
-    let label = label(instr(words, 8))?;
-    let which = read_word(instr(words, 7));
-    Some(computed(rs1, imm, instr(words, 12), which, label))
 }
 
 /// The stores behind a mask that begins the list: as many as follow, up to sixteen.
@@ -320,45 +344,5 @@ fn label(lui: Option<Instr>) -> Option<Immediate<20>>
     match lui? {
         Instr::Upper(_, _, imm) => Some(imm),
         _ => None,
-    }
-}
-
-/// Which word of its destination a check reads, by its load.
-fn read_word(load: Option<Instr>) -> TargetWord
-    ensures { result ≡ read_in load }
-{
-    let Some(load) = load else {
-        return TargetWord::First;
-    };
-    match load {
-        Instr::Load(_, _, _, offset) => word_at(offset),
-        _ => TargetWord::First,
-    }
-}
-
-/// Which word of its destination a load reads by its offset.
-fn word_at(offset: Immediate<12>) -> TargetWord
-    ensures { result ≡ read_by offset }
-{
-    if offset.bits() == 0 {
-        TargetWord::First
-    } else {
-        TargetWord::Second
-    }
-}
-
-/// A computed transfer, by the word after its check: a jump's is `jalr`.
-fn computed(
-    rs1: Reg,
-    imm: Immediate<12>,
-    after: Option<Instr>,
-    which: TargetWord,
-    label: Immediate<20>,
-) -> Unit
-    ensures { result ≡ computed_unit rs1 imm after which label }
-{
-    match after {
-        Some(Instr::Jalr(..)) => Unit::Ijump(which, rs1, imm, label),
-        _ => Unit::Icall(rs1, imm, label),
     }
 }

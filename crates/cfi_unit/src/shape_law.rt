@@ -1,18 +1,18 @@
 //! The table of shapes says what the units are. Each function states one law; nothing is computed.
-ghost use Rattle.cfi_unit.specs.ShapeLaw.{RecognisedFound, ShapesApart, ShapesMade, ShapesUsed, UnitsShaped};
+ghost use Rattle.cfi_unit.specs.ShapeLaw.{ShapesApart, ShapesMade, ShapesUsed, UnitsShaped};
 
 /// The words of a unit that fits are as its shape says, which is one of the table and as long as the unit.
 pub fn units_shaped()
     ensures { UnitsShaped }
 {}
 
-/// Words in code that are as a shape of the table says are those of a unit with this shape.
+/// Words that are as a shape of the table says are those of a unit with this shape.
 #[tactic(auto, using(crate::proofs::MadeUnits::made))]
 pub fn shapes_made()
     ensures { ShapesMade }
 {}
 
-/// No words in code are as two shapes of the table say.
+/// No words are as two shapes of the table say.
 #[tactic(auto, using(crate::proofs::ShapesApart::apart))]
 pub fn shapes_apart()
     ensures { ShapesApart }
@@ -21,10 +21,4 @@ pub fn shapes_apart()
 /// Each shape of the table is one of a unit.
 pub fn shapes_used()
     ensures { ShapesUsed }
-{}
-
-/// The unit that is recognised in code is one of the first shape of the table that the words begin as.
-#[tactic(auto, using(crate::proofs::FoundShapes::recognised_found))]
-pub fn recognised_found()
-    ensures { RecognisedFound }
 {}

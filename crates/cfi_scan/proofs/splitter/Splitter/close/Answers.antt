@@ -1,27 +1,19 @@
 use Rattle.std.proofs.Common.{ℕ, ◌+◌, ◌*◌, ◌≤◌, length, sym, ◌∙◌, arith}
 use Rattle.rv_word.specs.MemoryMap.{profile_of}
-use Rattle.cfi_unit.specs.Opens.{InCode}
 use Rattle.cfi_scan.specs.Stream.{width}
-use Rattle.cfi_scan.proofs.Ended.{as_split_up, held_in_code, units_low, units_round, up_open, up_whole}
+use Rattle.cfi_scan.proofs.Ended.{as_split_up, up_open, up_whole}
 use Rattle.cfi_scan.proofs.splitter.Splitter.close.Goals as goal
 
 pub returns-in-Some-clause-splits : goal.returns-in-Some-clause-splits
 returns-in-Some-clause-splits c words len within s =
     let from : ℕ = (profile_of c.args.self.now.front).units_from in
     let room : length words ≤ length c.args.self.now.entries.items = omega (arith, len, within) in
-    let place : InCode (from + 4 * width s.units) (length s.held) =
-    held_in_code c.args.self.now.calls from c.args.self.now.entries.items c.args.self.now.done c.args.self.now.last c.args.self.now.reader words room
-    c.requires.small (units_low c.args.self.now.front) (units_round c.args.self.now.front) s in
     as_split_up c.args.self.now.calls from words c.end.ensures.entries (c.end.ensures.done ∙ sym len) c.end.ensures.last
     (up_whole c.args.self.now.calls from c.args.self.now.entries.items c.args.self.now.done c.args.self.now.last c.args.self.now.reader c.in-Some.entry words room s
-    (c.in-Some.ensures c.args.self.now.calls s.held (from + 4 * width s.units) s.reading place))
+    (c.in-Some.ensures c.args.self.now.calls s.held (from + 4 * width s.units) s.reading))
 
 pub returns-in-None-clause-splits : goal.returns-in-None-clause-splits
 returns-in-None-clause-splits c words len within s =
     let from : ℕ = (profile_of c.args.self.now.front).units_from in
-    let room : length words ≤ length c.args.self.now.entries.items = omega (arith, len, within) in
-    let place : InCode (from + 4 * width s.units) (length s.held) =
-    held_in_code c.args.self.now.calls from c.args.self.now.entries.items c.args.self.now.done c.args.self.now.last c.args.self.now.reader words room
-    c.requires.small (units_low c.args.self.now.front) (units_round c.args.self.now.front) s in
     up_open c.args.self.now.calls from c.args.self.now.entries.items c.args.self.now.done c.args.self.now.last c.args.self.now.reader words s
-    (c.in-None.ensures c.args.self.now.calls s.held (from + 4 * width s.units) s.reading place)
+    (c.in-None.ensures c.args.self.now.calls s.held (from + 4 * width s.units) s.reading)
