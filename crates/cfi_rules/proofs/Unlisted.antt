@@ -44,7 +44,7 @@ module _ (p : Profile) (calls : List ℕ) where
       )
 
   -- some undisturbed steps run
-  unfoldable pub all_run : ℕ → Hart → Shared → Bool
+  unfoldable all_run : ℕ → Hart → Shared → Bool
   all_run zero h s = true
   all_run (suc k) h s = is_ran (step p h s).turn && all_run k (step p h s).hart (step p h s).shared
 
