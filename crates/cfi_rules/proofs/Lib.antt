@@ -6,6 +6,7 @@ pub mod InRange
 pub mod Standing
 pub mod Opening
 pub mod Places
+pub mod LineOrder
 pub mod Served
 pub mod RuleFacts
 pub mod Labels

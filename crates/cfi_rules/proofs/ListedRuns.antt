@@ -33,7 +33,7 @@ use Rattle.cfi_rules.proofs.OnRan.{on_ran}
 use Rattle.cfi_rules.proofs.Safety.{well_formed_safe}
 
 -- a unit that is admitted with a list calls with its numbers alone
-act_listed : (calls : List ℕ) (test : Test) (act : Act) (h : Hart) → act_may_call (Some calls) test act ≡ true → ActMayCall act test h → is_listed (h.regs 17) calls ≡ true
+pub act_listed : (calls : List ℕ) (test : Test) (act : Act) (h : Hart) → act_may_call (Some calls) test act ≡ true → ActMayCall act test h → is_listed (h.regs 17) calls ≡ true
 act_listed calls (F.listed numbers) F.calls h admitted may = subst (λ (ns : List ℕ). is_listed (h.regs 17) ns ≡ true) (same_list numbers calls admitted) may
 act_listed calls test F.calls h admitted may = absurd may
 act_listed calls test (F.system S.Ecall) h admitted may = absurd (cc)
@@ -43,7 +43,7 @@ act_listed calls test other h admitted may = absurd may
 module _ (p : Profile) (profile : IsProfile p) (image : Contents) (graph : GraphParts) (bytes : AreBytes image) (formed : IsWellFormed p image graph)
     (calls : List ℕ) (list_is : calls_in graph.lines ≡ Some calls) where
   -- each unit is admitted with the list
-  admitted : (a : ℕ) (unit : U.Unit) → unit_at p (code_words image.code) a ≡ Some unit → may_call (Some calls) unit ≡ true
+  pub admitted : (a : ℕ) (unit : U.Unit) → unit_at p (code_words image.code) a ≡ Some unit → may_call (Some calls) unit ≡ true
   admitted a unit is =
       let rule = (or_parts _ (holds_of (unit_at p (code_words image.code) a) (λ (u : U.Unit). not (admitted_in graph u))) (formed.rules R.Unit a)).1 in
       let here : not (admitted_in graph unit) ≡ false = sym (ap (λ o. holds_of o (λ (u : U.Unit). not (admitted_in graph u))) is) ∙ rule in

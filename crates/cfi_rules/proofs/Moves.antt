@@ -113,7 +113,7 @@ module _ (p : Profile) (profile : IsProfile p) (image : Contents) (graph : Graph
       subst (λ (l : List ℕ). InBody l) (sym e) (record { sites = (start, inside.sites); most = omega arith })
 
   -- the newest site is where a return goes
-  to_site : (site v : ℕ) (pending newer : List ℕ) → InBody (site ∷ pending) → newer ≡ pending → v ≡ site → Settled v newer
+  pub to_site : (site v : ℕ) (pending newer : List ℕ) → InBody (site ∷ pending) → newer ≡ pending → v ≡ site → Settled v newer
   to_site site v [] newer inside same e =
       let layout = laid_out p profile in
       let last = inside.sites in
@@ -122,7 +122,7 @@ module _ (p : Profile) (profile : IsProfile p) (image : Contents) (graph : Graph
       let most = inside.most in
       to_start site v newer inside.sites.0 e (same_body (other ∷ more) newer same (record { sites = inside.sites.1; most = omega arith }))
 
-  class_parts : (kind : SiteKind) (which : TargetWord) (label v : ℕ) → InClass graph.lines kind which label v →
+  pub class_parts : (kind : SiteKind) (which : TargetWord) (label v : ℕ) → InClass graph.lines kind which label v →
       (ts : List ℕ) × (targets_for graph.lines kind which label ≡ Some ts) × (is_among v ts ≡ true)
   class_parts kind which label v inside =
       elim (cases_Option (targets_for graph.lines kind which label)) [
@@ -131,12 +131,12 @@ module _ (p : Profile) (profile : IsProfile p) (image : Contents) (graph : Graph
       ]
 
   -- at a target of a class a unit starts, and the class's gate is the word that bears its label
-  record Target (which : TargetWord) (label v : ℕ) : Type 0 where
-    unit : U.Unit
-    here : UnitHere p W v unit
-    gate : UnitHere p W (v + past which) (V.Gate label)
+  pub record Target (which : TargetWord) (label v : ℕ) : Type 0 where
+    pub unit : U.Unit
+    pub here : UnitHere p W v unit
+    pub gate : UnitHere p W (v + past which) (V.Gate label)
 
-  target_stands : (kind : SiteKind) (which : TargetWord) (label v : ℕ) → InClass graph.lines kind which label v → Target which label v
+  pub target_stands : (kind : SiteKind) (which : TargetWord) (label v : ℕ) → InClass graph.lines kind which label v → Target which label v
   target_stands kind which label v inside =
       let (ts, class, among) = class_parts kind which label v inside in
       let borne = target_bears p image graph formed kind which v label ts class among in
@@ -176,7 +176,7 @@ module _ (p : Profile) (profile : IsProfile p) (image : Contents) (graph : Graph
       some_target (t ∷ ts) e = refl
 
   -- the label of a check is a class's, so where it is borne is a target
-  labelled : (kind : SiteKind) (which : TargetWord) (label v a : ℕ) (place : Place) → label < 2 ^ 20 → place_at p W a ≡ Some place → site_of place ≡ Some (asks kind which label) →
+  pub labelled : (kind : SiteKind) (which : TargetWord) (label v a : ℕ) (place : Place) → label < 2 ^ 20 → place_at p W a ≡ Some place → site_of place ≡ Some (asks kind which label) →
       HasLabel (loaded image) which label v → InClass graph.lines kind which label v
   labelled kind which label v a place low here site has =
       let c = site_class p image graph formed a place (asks kind which label) here site in

@@ -119,7 +119,7 @@ module _ (p : Profile) (profile : IsProfile p) (image : Contents) (graph : Graph
   first_call closing pending stage = tt
   first_call (body unit) pending stage = returns_to pending stage.sites
 
-  most_pending : (place : Place) (pending : List ℕ) → Stage p profile image graph bytes formed place pending → length pending ≤ MOST_PENDING
+  pub most_pending : (place : Place) (pending : List ℕ) → Stage p profile image graph bytes formed place pending → length pending ≤ MOST_PENDING
   most_pending handler pending stage = stage
   most_pending (opening entry) pending stage = let none = ap length stage in omega arith
   most_pending closing pending stage = let none = ap length stage in omega arith

@@ -21,7 +21,7 @@ use Rattle.cfi_unit.proofs.Check.{AfterCheck, check_inside, check_done, check_ha
 use Rattle.cfi_unit.proofs.Push.{AfterPush, push_inside, push_done, push_halts, push_law}
 
 -- the jump to x31 clears its lowest bit, which is 0
-arrives : {image : Memory} {which : TargetWord} {label : ℕ} (h : Hart) (v : ℕ) → h.regs 31 ≡ v → HasLabel image which label v → address h 31 0 / 2 * 2 ≡ v
+pub arrives : {image : Memory} {which : TargetWord} {label : ℕ} (h : Hart) (v : ℕ) → h.regs 31 ≡ v → HasLabel image which label v → address h 31 0 / 2 * 2 ≡ v
 arrives h v is legal = let round = legal.round in let high = legal.high in omega arith
 
 module _ (p : Profile) (part : ℕ) (image base : Memory) (rs1 imm label at : ℕ) (pending : List ℕ) (r : Registers) where

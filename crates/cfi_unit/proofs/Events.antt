@@ -65,7 +65,7 @@ module _ (h : Hart) (s : Shared) where
       (λ is. record { event = event_of h [] 0; added = refl; number = refl }) (λ rest. answers_add _ _ _ refl)))
 
 -- no other instruction adds one
-quiet : (p : Profile) (i : Instr) (h : Hart) (s : Shared) → is_sought false i ≡ false → (exec p i h s).shared.events ≡ s.events
+pub quiet : (p : Profile) (i : Instr) (h : Hart) (s : Shared) → is_sought false i ≡ false → (exec p i h s).shared.events ≡ s.events
 quiet p (Upper Lui rd imm) h s none = refl
 quiet p (Upper Auipc rd imm) h s none = refl
 quiet p (Jal rd imm) h s none = refl
@@ -123,14 +123,14 @@ module _ (p : Profile) (part : ℕ) (image : Memory) (at : ℕ) (pending : List 
   unit_may (V.Stores rs1 imm members) fits i is = none_there (V.Stores rs1 imm members) (members_lack false members) is
   unit_may other fits i is = none_there other refl is
 
-  place_may : (place : Place) → MayStand p place at pending → InPlace p part image place at pending r h m →
+  pub place_may : (place : Place) → MayStand p place at pending → InPlace p part image place at pending r h m →
       slice_get (place_instrs p place at) k ≡ Some Ecall → MayCall place at h
   place_may handler may i is = absurd (nowhere false handler_instrs k Ecall refl refl is)
   place_may (opening entry) may i is = absurd (nowhere false (opening_instrs p entry) k Ecall refl (opening_lacks false p may.0 entry) is)
   place_may closing may i is = let word = closing_call k is in closing_may i (omega arith)
   place_may (body unit) may i is = unit_may unit may.0 i is
 
-cases_call : (i : Instr) → (i ≡ Ecall) ⊎ (is_sought false i ≡ false)
+pub cases_call : (i : Instr) → (i ≡ Ecall) ⊎ (is_sought false i ≡ false)
 cases_call Ecall = inl refl
 cases_call (Upper Lui zero imm) = inr refl
 cases_call (Upper Lui (suc rd) imm) = inr refl

@@ -1,5 +1,4 @@
 pub mod WordList
-pub mod LineOrder
 pub mod InUnits
 pub mod Targets
 pub mod IsPlace

@@ -23,7 +23,7 @@ use Rattle.cfi_rules.specs.Rules.{Holds, fails_prologue, is_call_to, is_edge_to,
 use Rattle.cfi_rules.specs.declared.asks.Asks.{Asks}
 use Rattle.cfi_rules.specs.declared.reject.Rule.{Rule}
 use Rattle.cfi_rules.specs.declared.reject.Rule.TheVariants as R
-use Rattle.cfi_verify.proofs.LineOrder.{line_at-with, pair_below, with_key, without_key}
+use Rattle.cfi_rules.proofs.LineOrder.{line_at-with, pair_below, with_key, without_key}
 use Rattle.cfi_verify.proofs.Spots.{line_in, none_anywhere}
 use Rattle.cfi_verify.proofs.Told.{entry_is, fails_told}
 

@@ -1,7 +1,7 @@
 use Rattle.std.proofs.Common.{◌∙◌, ap, sym}
 use Rattle.std.specs.Prelude.{option_and_then}
 use Rattle.cfi_graph.specs.Graph.{class_in}
-use Rattle.cfi_verify.proofs.LineOrder.{class_with-with}
+use Rattle.cfi_rules.proofs.LineOrder.{class_with-with}
 use Rattle.cfi_verify.proofs.lines.found_class.Goals as goal
 
 pub returns-in_err-line_with : goal.returns-in_err-line_with

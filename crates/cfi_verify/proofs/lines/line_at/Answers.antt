@@ -1,5 +1,5 @@
 use Rattle.std.proofs.Common.{◌∙◌, sym}
-use Rattle.cfi_verify.proofs.LineOrder.{line_at-with}
+use Rattle.cfi_rules.proofs.LineOrder.{line_at-with}
 use Rattle.cfi_verify.proofs.lines.line_at.Goals as goal
 
 pub returns : goal.returns

@@ -1,6 +1,6 @@
 use Rattle.std.proofs.Common.{◌≡◌, ◌≤◌, true, false, arith, sym}
 use Rattle.cfi_graph.specs.Graph.{key_below, key_of}
-use Rattle.cfi_verify.proofs.LineOrder.{after_middle, before_middle, same_unless, with_key, without_key}
+use Rattle.cfi_rules.proofs.LineOrder.{after_middle, before_middle, same_unless, with_key, without_key}
 use Rattle.cfi_verify.proofs.lines.line_with.Goals as goal
 
 pub loop-low-preserved-then-is_below : goal.loop-low-preserved-then-is_below

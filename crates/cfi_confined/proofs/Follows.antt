@@ -1,0 +1,107 @@
+-- What follows from confinement alone: with a list of system calls a run makes no others, and code stays the
+-- image's.
+use Rattle.std.proofs.Common.{◌≡◌, ℕ, ◌≤◌, inl, inr, List, [], ◌∷◌, length, refl, sym, ap, subst, ◌∙◌, Option, Some, None, arith}
+use Rattle.std.proofs.lemmas.Bool.{cond_both}
+use Rattle.rv_word.specs.Image.{Contents}
+use Rattle.rv_word.specs.MemoryMap.{Profile}
+use Rattle.rv_word.specs.Memory.{loaded}
+use Rattle.rv_word.specs.Numbers.{is_listed}
+use Rattle.rv_instr.specs.declared.instr.Instr.{Instr}
+use Rattle.rv_instr.specs.declared.instr.Instr.TheVariants.{Ecall}
+use Rattle.rv_code.specs.Run.{HartStep, RunAfter, disturbed, next_or_stop, run, stepped}
+use Rattle.rv_code.specs.State.{After, Hart, Harts, Shared, last_exit, with_hart}
+use Rattle.rv_code.specs.Step.{can_fetch, exec, exec_decoded, step, step_unless_ended, stops}
+use Rattle.rv_code.specs.declared.turn.Turn.{Turn}
+use Rattle.rv_code.specs.declared.turn.Turn.TheVariants.{Ran, FetchFault}
+use Rattle.rv_code.proofs.Changes.{changed_above}
+use Rattle.cfi_graph.specs.Graph.{GraphParts, calls_in}
+use Rattle.cfi_unit.specs.Context.{IsCodeOf}
+use Rattle.cfi_unit.specs.Shadow.{MOST_PENDING}
+use Rattle.cfi_unit.proofs.Events.{call_adds, cases_call, quiet}
+use Rattle.cfi_rules.specs.Along.{AreStepsOf, OnRan}
+use Rattle.cfi_rules.specs.Listed.{AddsListed, IsListedCall, ListedAlong}
+use Rattle.cfi_rules.proofs.OnRan.{on_ran}
+use Rattle.cfi_confined.specs.Confined.{ConfinedAlong, IsAllowed, MayEcall, Moves, Pending, fetched, with_pending}
+use Rattle.cfi_confined.specs.Laws.{ConfinedIsListed, ConfinedKeepsCode}
+
+module _ (p : Profile) (graph : GraphParts) (calls : List ℕ) (list_is : calls_in graph.lines ≡ Some calls) (h : Hart) (s : Shared) where
+  -- what a step leaves
+  abbrev Adds : After → Type 0
+  Adds a = AddsListed p calls h.pc s.events a.shared.events
+
+  instr_adds : (i : Instr) → MayEcall p graph (Some i) h.pc (h.regs 17) → Adds (exec p i h s)
+  instr_adds i may = elim (cases_call i) [
+    | inl call ↦
+        let one = call_adds h s in
+        let its : MayEcall p graph (Some Ecall) h.pc (h.regs 17) = subst (λ (j : Instr). MayEcall p graph (Some j) h.pc (h.regs 17)) call may in
+        let listed : IsListedCall p calls h.pc one.event =
+        elim its [
+          | inl past ↦ inl (ap (λ n. is_listed n calls) one.number ∙ subst (λ (o : Option (List ℕ)). IsAllowed o (h.regs 17)) list_is past.1)
+          | inr last ↦ inr (last.0, one.number ∙ last.1)
+        ] in
+        subst (λ (j : Instr). Adds (exec p j h s)) (sym call) (inr (one.event, one.added, listed))
+    | inr other ↦ inl (quiet p i h s other)
+  ]
+
+  decoded_adds : (o : Option Instr) → MayEcall p graph o h.pc (h.regs 17) → Adds (exec_decoded p o h s)
+  decoded_adds None may = inl refl
+  decoded_adds (Some i) may = instr_adds i may
+
+  ended_adds : (o : Option ℕ) → MayEcall p graph (fetched s.memory h.pc) h.pc (h.regs 17) → Adds (step_unless_ended p o h s)
+  ended_adds None may =
+      cond_both (can_fetch h.pc) (exec_decoded p (fetched s.memory h.pc) h s) (stops h s (FetchFault h.pc)) Adds (λ can. decoded_adds (fetched s.memory h.pc) may) (λ cannot. inl refl)
+  ended_adds (Some status) may = inl refl
+
+  step_adds : MayEcall p graph (fetched s.memory h.pc) h.pc (h.regs 17) → Adds (step p h s)
+  unfolding step
+  step_adds may = ended_adds (last_exit s.events) may
+
+module _ (p : Profile) (graph : GraphParts) where
+  -- what is owed after a step of hart `k` that ran
+  abbrev Onward : Pending → Harts → Shared → ℕ → List HartStep → After → Type 0
+  Onward pending hs s k rest a =
+      (newer : List ℕ) × (length newer ≤ MOST_PENDING) × Moves p graph (fetched s.memory) (fetched s.memory (hs k).pc) (hs k).pc (pending k) a.hart.pc newer
+      × ConfinedAlong p graph (with_pending pending k newer) (with_hart hs k a.hart) a.shared rest
+
+  listed_along : (calls : List ℕ) → calls_in graph.lines ≡ Some calls → (steps : List HartStep) (pending : Pending) (hs : Harts) (s : Shared) →
+      ConfinedAlong p graph pending hs s steps → ListedAlong p calls hs s steps
+  listed_along calls list_is [] pending hs s c = tt
+  listed_along calls list_is (t ∷ rest) pending hs s c =
+      let now = disturbed s t.changes in
+      let h = hs t.hart in
+      let a = step p h now in (
+        step_adds p graph calls list_is h now c.1,
+        on_ran a.turn (Onward pending hs now t.hart rest a) (Unit {0}) (ListedAlong p calls (with_hart hs t.hart a.hart) a.shared rest) (Unit {0})
+            (λ on. listed_along calls list_is rest (with_pending pending t.hart on.0) (with_hart hs t.hart a.hart) a.shared on.3) (λ none. none) c.3,
+      )
+
+  -- a run that a step stopped is where the step left it
+  stopped_or_on : (C : RunAfter → Type 0) (turn : Turn) (now later : RunAfter) (X : Type 0) → C now → (X → C later) → OnRan turn X (Unit {0}) → C (next_or_stop turn now later)
+  stopped_or_on C Ran now later X here there on = there on
+  stopped_or_on C other now later X here there on = here
+
+  module _ (image : Contents) (count : ℕ) where
+    abbrev KeepsCode : RunAfter → Type 0
+    KeepsCode after = IsCodeOf (loaded image) after.shared.memory
+
+    code_kept : (steps : List HartStep) → AreStepsOf count steps → (pending : Pending) (hs : Harts) (s : Shared) → IsCodeOf (loaded image) s.memory →
+        ConfinedAlong p graph pending hs s steps → KeepsCode (run p hs s steps)
+    unfolding run
+    code_kept [] low pending hs s code c = code
+    code_kept (t ∷ rest) low pending hs s code c =
+        let now = disturbed s t.changes in
+        let h = hs t.hart in
+        let a = step p h now in
+        let after = stepped p hs s t in
+        let still : IsCodeOf (loaded image) a.shared.memory =
+        λ k from to. c.2 k (omega arith) (inl (omega arith)) ∙ changed_above s.memory t.changes low.0.changes k (omega arith) ∙ code k from to in
+        stopped_or_on KeepsCode after.turn after (run p after.harts after.shared rest) (Onward pending hs now t.hart rest a) still
+        (λ on. code_kept rest low.1 (with_pending pending t.hart on.0) (with_hart hs t.hart a.hart) a.shared still on.3) c.3
+
+pub confined_listed : ConfinedIsListed
+confined_listed p image graph calls list_is confined count may harts s start steps low =
+    listed_along p graph calls list_is steps (λ k. []) harts s (confined count may harts s start steps low)
+
+pub confined_keeps : ConfinedKeepsCode
+confined_keeps p image graph count harts s steps confined may start low =
+    code_kept p graph image count steps low (λ k. []) harts s start.code (confined count may harts s start steps low)

@@ -1,0 +1,188 @@
+-- Lines that the rules give: each transfer of a well-formed image has its line, and no site line stands
+-- shortly before a unit.
+use Rattle.std.proofs.Common.{◌≡◌, ℕ, suc, ◌+◌, ◌<◌, ◌⊎◌, inl, inr, true, List, [], ◌∷◌, refl, sym, ap, subst, ◌∙◌, Option, Some, arith}
+use Rattle.std.specs.Prelude.{◌==◌, ◌&&◌, not, is_some, option_and_then}
+use Rattle.std.specs.List.{Contains}
+use Rattle.std.proofs.lemmas.Bool.{and_parts, cases_eq, eqb-true, ne_eqb, or_parts, false≢true}
+use Rattle.std.proofs.lemmas.Option.{none-some, same_Some, slice_get-get_or}
+use Rattle.rv_word.specs.Image.{Contents}
+use Rattle.rv_word.specs.MemoryMap.{IsProfile, Profile}
+use Rattle.rv_word.proofs.Cases.{cases_Option, chosen}
+use Rattle.rv_word.proofs.Versions.{laid_out}
+use Rattle.cfi_graph.specs.declared.line.GraphLine.{GraphLine}
+use Rattle.cfi_graph.specs.declared.line.GraphLine.TheVariants.{Class, CallClass, JumpClass, Site, Edge, Call}
+use Rattle.cfi_graph.specs.declared.line.Key.TheVariants.{Address}
+use Rattle.cfi_graph.specs.declared.line.SiteKind.{SiteKind}
+use Rattle.cfi_graph.specs.declared.line.SiteKind.TheVariants as K
+use Rattle.cfi_graph.specs.declared.line.Sort.{Sort}
+use Rattle.cfi_graph.specs.declared.line.Sort.TheVariants.{Both, Calls as CallsOnly, Jumps}
+use Rattle.cfi_graph.specs.Graph.{ClassLine, GraphParts, IsGraph, class_in, line_of_class}
+use Rattle.cfi_unit.specs.declared.place.Place.{Place}
+use Rattle.cfi_unit.specs.declared.place.Place.TheVariants.{Body as body}
+use Rattle.cfi_unit.specs.declared.target_word.TargetWord.{TargetWord}
+use Rattle.cfi_unit.specs.declared.unit.Unit as U
+use Rattle.cfi_unit.specs.declared.unit.Unit.TheVariants as V
+use Rattle.cfi_unit.specs.UnitWords.{word_count}
+use Rattle.cfi_rules.specs.Laws.{AreBytes}
+use Rattle.cfi_rules.specs.Lines.{class_with, holds_of, is_among, line_at, or_class, serves, stands_at, targets_for}
+use Rattle.cfi_rules.specs.Rules.{IsWellFormed, call_of, edge_of, is_call_to, is_edge_to, is_lone_site, is_site_with, same_kind, site_of}
+use Rattle.cfi_rules.specs.Split.{code_words, place_at}
+use Rattle.cfi_rules.specs.Walk.{InClass}
+use Rattle.cfi_rules.specs.declared.asks.Asks.{Asks}
+use Rattle.cfi_rules.specs.declared.reject.Rule.TheVariants as R
+use Rattle.cfi_rules.proofs.Find.{UnitHere, no_unit}
+use Rattle.cfi_rules.proofs.LineOrder.{line_at-with, with_key}
+use Rattle.cfi_rules.proofs.Moves.{class_parts}
+use Rattle.cfi_rules.proofs.Places.{place_facts}
+use Rattle.cfi_rules.proofs.RuleFacts.{not_false}
+use Rattle.cfi_rules.proofs.Served.{served}
+use Rattle.cfi_confined.specs.Confined.{IsSiteTo, NoSite, class_line}
+
+abbrev ListedAs : List GraphLine → ℕ → GraphLine → Type 0
+ListedAs lines a line = Contains lines line × (stands_at a line ≡ true)
+
+pub later : {A : Type 0} (x y : A) (xs : List A) → Contains xs x → Contains (y ∷ xs) x
+later x y xs (k, below, is) = (suc k, omega arith, is)
+
+-- what is found by its address, or by its label, is one of the lines
+line_found : (lines : List GraphLine) (a : ℕ) (line : GraphLine) → line_at lines a ≡ Some line → ListedAs lines a line
+unfolding line_at
+line_found [] a line e = absurd (none-some line e)
+line_found (x ∷ xs) a line e =
+    elim (chosen (stands_at a x) (Some x) (line_at xs a) (Some line) e) [
+      | inl found ↦ subst (λ (y : GraphLine). ListedAs (x ∷ xs) a y) (same_Some x line found.1) ((0, omega arith, refl), found.0)
+      | inr more ↦ let there = line_found xs a line more.1 in (later line x xs there.0, there.1)
+    ]
+
+abbrev line_of : ClassLine → GraphLine
+line_of class = line_of_class class.sort class.label class.targets
+
+line_is : (line : GraphLine) (class : ClassLine) → class_in line ≡ Some class → line_of class ≡ line
+line_is (Class label targets) class e = ap line_of (sym (same_Some _ class e))
+line_is (CallClass label targets) class e = ap line_of (sym (same_Some _ class e))
+line_is (JumpClass label targets) class e = ap line_of (sym (same_Some _ class e))
+line_is other class e = absurd (none-some class e)
+
+class_found : (lines : List GraphLine) (l : ℕ) (class : ClassLine) → class_with lines l ≡ Some class → Contains lines (line_of class) × (class.label ≡ l)
+unfolding class_with
+class_found [] l class e = absurd (none-some class e)
+class_found (x ∷ xs) l class e =
+    elim (cases_Option (class_in x)) [
+      | inl none ↦ let there = class_found xs l class (sym (ap (λ o. or_class l o (class_with xs l)) none) ∙ e) in (later (line_of class) x xs there.0, there.1)
+      | inr (c, some) ↦ elim (chosen (c.label == l) (Some c) (class_with xs l) (Some class) (sym (ap (λ o. or_class l o (class_with xs l)) some) ∙ e)) [
+        | inl found ↦
+            let same = same_Some c class found.1 in (
+              subst (λ (y : GraphLine). Contains (x ∷ xs) y) (sym (line_is x class (some ∙ ap Some same))) (0, omega arith, refl),
+              ap (λ (y : ClassLine). y.label) (sym same) ∙ eqb-true c.label l found.0,
+            )
+        | inr more ↦ let there = class_found xs l class more.1 in (later (line_of class) x xs there.0, there.1)
+      ]
+    ]
+
+among_is : (v : ℕ) (ts : List ℕ) → is_among v ts ≡ true → Contains ts v
+among_is v [] e = absurd (false≢true e)
+among_is v (t ∷ ts) e =
+    elim (cases_eq t v) [
+      | inl same ↦ subst (λ (x : ℕ). Contains (t ∷ ts) x) same (0, omega arith, refl)
+      | inr other ↦ later v t ts (among_is v ts (rw (ne_eqb t v other) at e))
+    ]
+
+-- lines of their sorts
+edge_is : (o : Option GraphLine) (t : ℕ) → is_edge_to o t ≡ true → (from : ℕ) × (o ≡ Some (Edge from t))
+edge_is (Some (Edge from to)) t e = (from, ap (λ x. Some (Edge from x)) (eqb-true to t e))
+edge_is other t e = absurd (cc)
+
+call_is : (o : Option GraphLine) (t : ℕ) → is_call_to o t ≡ true → (from : ℕ) × (o ≡ Some (Call from t))
+call_is (Some (Call from to)) t e = (from, ap (λ x. Some (Call from x)) (eqb-true to t e))
+call_is other t e = absurd (cc)
+
+kinds_same : (k l : SiteKind) → same_kind k l ≡ true → k ≡ l
+kinds_same K.Call K.Call e = refl
+kinds_same K.Jump K.Jump e = refl
+kinds_same K.Call K.Jump e = absurd (cc)
+kinds_same K.Jump K.Call e = absurd (cc)
+
+site_is : (o : Option GraphLine) (asked : Asks) → is_site_with o asked ≡ true → (a : ℕ) × (o ≡ Some (Site a asked.kind asked.label))
+site_is (Some (Site a kind label)) asked e =
+    let parts = and_parts (same_kind kind asked.kind) (label == asked.label) e in
+    (a, ap (λ k. Some (Site a k label)) (kinds_same kind asked.kind parts.0) ∙ ap (λ l. Some (Site a asked.kind l)) (eqb-true label asked.label parts.1))
+site_is other asked e = absurd (cc)
+
+-- the line of a class that serves a transfer
+serving_line : (lines : List GraphLine) (sort : Sort) (kind : SiteKind) (which : TargetWord) (label : ℕ) (ts : List ℕ) → serves sort kind which ≡ true →
+    Contains lines (line_of_class sort label ts) → Contains lines (Class label ts) ⊎ Contains lines (class_line kind label ts)
+serving_line lines Both kind which label ts e there = inl there
+serving_line lines CallsOnly K.Call which label ts e there = inr there
+serving_line lines CallsOnly K.Jump which label ts e there = absurd (cc)
+serving_line lines Jumps K.Jump which label ts e there = inr there
+serving_line lines Jumps K.Call which label ts e there = absurd (cc)
+
+-- the unit of a computed transfer has more than twelve words
+long_site : (place : Place) → is_some (site_of place) ≡ true → (u : U.Unit) × (place ≡ body u) × (12 < word_count u)
+long_site (body (V.Ijump which rs1 imm label)) e = (V.Ijump which rs1 imm label, refl, omega arith)
+long_site (body (V.Icall rs1 imm label)) e = (V.Icall rs1 imm label, refl, omega arith)
+long_site (body other) e = absurd (cc)
+long_site other e = absurd (cc)
+
+module _ (p : Profile) (profile : IsProfile p) (image : Contents) (graph : GraphParts) (bytes : AreBytes image) (formed : IsWellFormed p image graph) where
+  abbrev W : List ℕ
+  W = code_words image.code
+
+  module _ (a : ℕ) (place : Place) (here : place_at p W a ≡ Some place) where
+    pub edge_listed : (t : ℕ) → edge_of place ≡ Some t → Contains graph.lines (Edge a t)
+    edge_listed t edge =
+        let rule = (or_parts (holds_of (option_and_then edge_of (place_at p W a)) (λ target. not (is_edge_to (line_at graph.lines a) target)))
+        (holds_of (option_and_then call_of (place_at p W a)) (λ target. not (is_call_to (line_at graph.lines a) target))) (formed.rules R.Unlisted a)).0 in
+        let (from, is) = edge_is (line_at graph.lines a) t (not_false (is_edge_to (line_at graph.lines a) t) (rw (here, edge) at rule)) in
+        let found = line_found graph.lines a (Edge from t) is in
+        subst (λ (x : ℕ). Contains graph.lines (Edge x t)) (eqb-true from a found.1) found.0
+
+    pub call_listed : (t : ℕ) → call_of place ≡ Some t → Contains graph.lines (Call a t)
+    call_listed t call =
+        let rule = (or_parts (holds_of (option_and_then edge_of (place_at p W a)) (λ target. not (is_edge_to (line_at graph.lines a) target)))
+        (holds_of (option_and_then call_of (place_at p W a)) (λ target. not (is_call_to (line_at graph.lines a) target))) (formed.rules R.Unlisted a)).1 in
+        let (from, is) = call_is (line_at graph.lines a) t (not_false (is_call_to (line_at graph.lines a) t) (rw (here, call) at rule)) in
+        let found = line_found graph.lines a (Call from t) is in
+        subst (λ (x : ℕ). Contains graph.lines (Call x t)) (eqb-true from a found.1) found.0
+
+    -- a computed transfer to a target of its class
+    pub site_to : (asked : Asks) (v : ℕ) → site_of place ≡ Some asked → InClass graph.lines asked.kind asked.which asked.label v → IsSiteTo graph.lines asked.kind a v
+    site_to asked v site inside =
+        let rule = (or_parts (holds_of (option_and_then site_of (place_at p W a))
+        (λ (s : Asks). not (is_site_with (line_at graph.lines a) s && is_some (targets_for graph.lines s.kind s.which s.label))))
+        (holds_of (line_at graph.lines a) (is_lone_site (place_at p W a))) (formed.rules R.Site a)).0 in
+        let both = not_false (is_site_with (line_at graph.lines a) asked && is_some (targets_for graph.lines asked.kind asked.which asked.label)) (rw (here, site) at rule) in
+        let (from, is) = site_is (line_at graph.lines a) asked
+        (and_parts (is_site_with (line_at graph.lines a) asked) (is_some (targets_for graph.lines asked.kind asked.which asked.label)) both).0 in
+        let found = line_found graph.lines a (Site from asked.kind asked.label) is in
+        let (ts, class, among) = class_parts p profile image graph bytes formed asked.kind asked.which asked.label v inside in
+        let s = served graph.lines asked.kind asked.which asked.label ts class in
+        let there = class_found graph.lines asked.label s.class s.is in
+        let line : Contains graph.lines (line_of_class s.class.sort asked.label ts) =
+        subst (λ (l : ℕ). Contains graph.lines (line_of_class s.class.sort l ts)) there.1
+        (subst (λ (xs : List ℕ). Contains graph.lines (line_of_class s.class.sort s.class.label xs)) s.targets there.0) in
+        record {
+          label = asked.label;
+          targets = ts;
+          listed = subst (λ (x : ℕ). Contains graph.lines (Site x asked.kind asked.label)) (eqb-true from a found.1) found.0;
+          class = serving_line graph.lines s.class.sort asked.kind asked.which asked.label ts s.serving line;
+          target = among_is v ts among;
+        }
+
+  -- no site line stands less than thirteen words before a unit
+  pub no_site : IsGraph graph → (a b : ℕ) (u : U.Unit) → UnitHere p W b u → a < b → b < a + 52 → NoSite graph.lines a
+  no_site ordered a b u here low high kind label (k, within, is) =
+      let there = line_at-with graph.lines a
+      ∙ with_key graph.lines (Address a) ordered.order k (Site a kind label) (slice_get-get_or graph.lines k (Site a kind label) within ∙ ap Some is) refl in
+      let rule = (or_parts (holds_of (option_and_then site_of (place_at p W a))
+      (λ (s : Asks). not (is_site_with (line_at graph.lines a) s && is_some (targets_for graph.lines s.kind s.which s.label))))
+      (holds_of (line_at graph.lines a) (is_lone_site (place_at p W a))) (formed.rules R.Site a)).1 in
+      let site : is_some (option_and_then site_of (place_at p W a)) ≡ true =
+      not_false _ (sym (ap (λ o. holds_of o (is_lone_site (place_at p W a))) there) ∙ rule) in
+      elim (cases_Option (place_at p W a)) [
+        | inl none ↦ false≢true (sym (ap (λ o. is_some (option_and_then site_of o)) none) ∙ site)
+        | inr (place, some) ↦
+            let (unit, is_unit, long) = long_site place (sym (ap (λ o. is_some (option_and_then site_of o)) some) ∙ site) in
+            let facts = place_facts p profile image graph bytes formed a (body unit) (some ∙ ap Some is_unit) in
+            none-some u (sym (no_unit p (laid_out p profile) W b (facts.inner b low (omega arith))) ∙ here.is)
+      ]

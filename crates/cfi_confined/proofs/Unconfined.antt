@@ -1,0 +1,271 @@
+-- Small pairs with one fault each: their undisturbed runs take a step that is not confined.
+use Rattle.std.proofs.Common.{◌≡◌, ℕ, zero, suc, ◌<◌, ◌&&◌, Bool, true, false, inl, inr, List, [], ◌∷◌, ◌++◌, length, refl, sym, ap, subst, ◌∙◌, Option, Some, None, arith, lit<, lit≤}
+use Rattle.std.specs.Prelude.{◌==◌, if◌then◌else◌, slice_get}
+use Rattle.std.specs.List.{Contains}
+use Rattle.std.proofs.lemmas.Bool.{and_parts, eq-eqb, false≢true}
+use Rattle.std.proofs.lemmas.Option.{same_Some}
+use Rattle.rv_word.specs.Image.{Contents}
+use Rattle.rv_word.specs.MemoryMap.{MayRun, Profile, part_of, version_1, version_2}
+use Rattle.rv_word.specs.Memory.{loaded, placed, write}
+use Rattle.rv_word.proofs.Versions.{laid_out}
+use Rattle.rv_instr.specs.declared.instr.Instr.{Instr}
+use Rattle.rv_instr.specs.declared.instr.Instr.TheVariants.{Branch, Jal, Jalr}
+use Rattle.rv_code.specs.Decode.{decoded}
+use Rattle.rv_code.specs.Encode.{code_of}
+use Rattle.rv_code.specs.Run.{ByteChange, disturbed}
+use Rattle.rv_code.specs.State.{After, Hart, Harts, Shared, last_exit, start_hart, start_shared, with_hart}
+use Rattle.rv_code.specs.Step.{step}
+use Rattle.rv_code.proofs.Runs.{calm}
+use Rattle.cfi_graph.specs.Graph.{GraphParts}
+use Rattle.cfi_graph.specs.declared.line.GraphLine.TheVariants.{Call, CallClass, Class, Edge, Site}
+use Rattle.cfi_graph.specs.declared.line.SiteKind.{SiteKind}
+use Rattle.cfi_graph.specs.declared.line.SiteKind.TheVariants as K
+use Rattle.cfi_unit.specs.UnitWords.{words_of}
+use Rattle.cfi_rules.specs.Along.{OnRan}
+use Rattle.cfi_rules.specs.Unsafe.{astray_call, astray_call_graph, calling_opening, exiting_handler, handler_graph, high_pointer, one_pointer_graph, opening_graph, storing_opening}
+use Rattle.cfi_rules.proofs.Arrivals.{after_calm, calm_and, is_ran, ran_of}
+use Rattle.cfi_rules.proofs.OnRan.{on_ran}
+use Rattle.cfi_rules.proofs.OneHart.{may_come, one_may_run, steps_of}
+use Rattle.cfi_rules.proofs.Starts.{machine_may_start}
+use Rattle.cfi_rules.proofs.Unsafe.{calm_is_data}
+use Rattle.cfi_confined.specs.Confined.{ConfinedAlong, IsConfined, MayEcall, MayStop, Moves, Pending, WritesOwn, fetched, with_pending}
+use Rattle.cfi_confined.specs.Unconfined.{FaultsAreUnconfined, early_return, early_return_graph, long_branch, long_branch_graph, unlisted_entry, unlisted_entry_graph, unlisted_jump, unlisted_jump_graph}
+
+-- no call and no return
+abbrev is_keeping : Option Instr → Bool
+is_keeping (Some (Jal rd imm)) = rd == 0
+is_keeping (Some (Jalr rd rs1 imm)) = false
+is_keeping other = true
+
+module _ (p : Profile) (graph : GraphParts) where
+  keeps : (code : ℕ → Option Instr) (o : Option Instr) (pc : ℕ) (pending : List ℕ) (to : ℕ) (newer : List ℕ) → is_keeping o ≡ true → Moves p graph code o pc pending to newer →
+      newer ≡ pending
+  keeps code None pc pending to newer keep moves = absurd moves
+  keeps code (Some (Branch op rs1 rs2 imm)) pc pending to newer keep moves = moves.1
+  keeps code (Some (Jal rd imm)) pc pending to newer keep (inl moves) = moves.2
+  keeps code (Some (Jal rd imm)) pc pending to newer keep (inr moves) = absurd (false≢true (sym (ap (λ (n : ℕ). n == 0) moves.0) ∙ keep))
+  keeps code (Some (Jalr rd rs1 imm)) pc pending to newer keep moves = absurd (cc)
+  keeps code (Some other) pc pending to newer keep moves = moves.1
+
+  module _ (k : ℕ) where
+    -- the run of one hart alone is confined
+    abbrev AloneAlong : List ℕ → Hart → Shared → List (List ByteChange) → Type 0
+    AloneAlong pending h s [] = Unit {0}
+    AloneAlong pending h s (cs ∷ rest) =
+        let now = disturbed s cs in
+        let after = step p h now in
+        MayStop p h.pc after.turn
+        × MayEcall p graph (fetched now.memory h.pc) h.pc (h.regs 17)
+        × WritesOwn (part_of k) (length pending) now.memory after.shared.memory
+        × OnRan after.turn
+        ((newer : List ℕ)
+        × Moves p graph (fetched now.memory) (fetched now.memory h.pc) h.pc pending after.hart.pc newer
+        × AloneAlong newer after.hart after.shared rest)
+        (Unit {0})
+
+    alone : (changes : List (List ByteChange)) (pending : Pending) (harts : Harts) (s : Shared) → ConfinedAlong p graph pending harts s (steps_of k changes) →
+        AloneAlong (pending k) (harts k) s changes
+    alone [] pending harts s c = tt
+    alone (cs ∷ rest) pending harts s c =
+        let after = step p (harts k) (disturbed s cs) in
+        let Rest : List ℕ → Hart → Type 0 = λ pending h. AloneAlong pending h after.shared rest in (
+          c.0,
+          c.1,
+          c.2,
+          on_ran after.turn _ (Unit {0}) _ (Unit {0})
+              (λ on.
+              let later : Rest (if k == k then on.0 else pending k) (if k == k then after.hart else harts k) =
+              alone rest (with_pending pending k on.0) (with_hart harts k after.hart) after.shared on.3 in
+              (on.0, on.2, subst (λ (b : Bool). Rest (if b then on.0 else pending k) (if b then after.hart else harts k)) (eq-eqb k k refl) later)) (λ none. none) c.3,
+        )
+
+    -- some undisturbed steps run, none of which is a call or a return
+    unfoldable all_keep : ℕ → Hart → Shared → Bool
+    all_keep zero h s = true
+    all_keep (suc n) h s = is_ran (step p h s).turn && (is_keeping (fetched s.memory h.pc) && all_keep n (step p h s).hart (step p h s).shared)
+
+    -- the same calls are pending after them
+    later : (n : ℕ) (pending : List ℕ) (h : Hart) (s : Shared) (rest : List (List ByteChange)) → all_keep n h s ≡ true → AloneAlong pending h s (calm n ++ rest) →
+        AloneAlong pending (after_calm p n h s).hart (after_calm p n h s).shared rest
+    unfolding all_keep after_calm
+    later zero pending h s rest run c = c
+    later (suc n) pending h s rest run c =
+        let a = step p h s in
+        let runs = and_parts (is_ran a.turn) (is_keeping (fetched s.memory h.pc) && all_keep n a.hart a.shared) run in
+        let parts = and_parts (is_keeping (fetched s.memory h.pc)) (all_keep n a.hart a.shared) runs.1 in
+        let on = rw (ran_of a.turn runs.0) at c.3 in
+        let same = keeps (fetched s.memory) (fetched s.memory h.pc) h.pc pending a.hart.pc on.0 parts.0 on.1 in
+        later n pending a.hart a.shared rest parts.1 (subst (λ (l : List ℕ). AloneAlong l a.hart a.shared (calm n ++ rest)) same on.2)
+
+-- hart 0 of an image after some undisturbed steps
+abbrev after_steps : Profile → Contents → ℕ → After
+after_steps p image n = after_calm p n (start_hart 0) (start_shared image [])
+
+-- the undisturbed run of hart 0 is confined after some steps without a call
+from_start : (p : Profile) (image : Contents) (graph : GraphParts) (count n more : ℕ) → MayRun p count → 0 < count → IsConfined p image graph →
+    all_keep p graph 0 n (start_hart 0) (start_shared image []) ≡ true → AloneAlong p graph 0 [] (after_steps p image n).hart (after_steps p image n).shared (calm more)
+from_start p image graph count n more may some confined run =
+    let changes : List (List ByteChange) = calm n ++ calm more in
+    later p graph 0 n [] (start_hart 0) (start_shared image []) (calm more) run
+    (alone p graph 0 changes (λ k. []) start_hart (start_shared image [])
+    (confined count may start_hart (start_shared image []) (machine_may_start image [] count) (steps_of 0 changes) (may_come count 0 some changes (calm_and n (calm more) (calm_is_data more)))))
+
+several : (image : Contents) (graph : GraphParts) (n : ℕ) → IsConfined version_2 image graph → all_keep version_2 graph 0 n (start_hart 0) (start_shared image []) ≡ true →
+    AloneAlong version_2 graph 0 [] (after_steps version_2 image n).hart (after_steps version_2 image n).shared (calm 1)
+several image graph n = from_start version_2 image graph 2 n 1 (record { some = lit≤ tt; most = lit≤ tt }) (lit< tt)
+
+module _ (image : Contents) (graph : GraphParts) where
+  lone : (n more : ℕ) → IsConfined version_1 image graph → all_keep version_1 graph 0 n (start_hart 0) (start_shared image []) ≡ true →
+      AloneAlong version_1 graph 0 [] (after_steps version_1 image n).hart (after_steps version_1 image n).shared (calm more)
+  lone n more = from_start version_1 image graph 1 n more (one_may_run version_1 (laid_out version_1 (inl refl))) (lit< tt)
+
+  -- the tenth step is the opening's call
+  abbrev entered : After
+  entered = let h = after_steps version_1 image 9 in step version_1 h.hart h.shared
+
+  called : (n more : ℕ) → IsConfined version_1 image graph → all_keep version_1 graph 0 9 (start_hart 0) (start_shared image []) ≡ true → is_ran entered.turn ≡ true →
+      all_keep version_1 graph 0 n entered.hart entered.shared ≡ true →
+      (pending : List ℕ) × AloneAlong version_1 graph 0 pending (after_calm version_1 n entered.hart entered.shared).hart (after_calm version_1 n entered.hart entered.shared).shared (calm more)
+  called n more confined opens ran run =
+      let start = start_shared image [] in
+      let changes : List (List ByteChange) = [] ∷ (calm n ++ calm more) in
+      let c = later version_1 graph 0 9 [] (start_hart 0) start changes opens
+      (alone version_1 graph 0 (calm 9 ++ changes) (λ k. []) start_hart start
+      (confined 1 (one_may_run version_1 (laid_out version_1 (inl refl))) start_hart start (machine_may_start image [] 1) (steps_of 0 (calm 9 ++ changes))
+      (may_come 1 0 (lit< tt) (calm 9 ++ changes) (calm_and 9 changes (tt, calm_and n (calm more) (calm_is_data more)))))) in
+      let on = rw (ran_of entered.turn ran) at c.3 in
+      (on.0, later version_1 graph 0 n on.0 entered.hart entered.shared (calm more) run on.2)
+
+-- two numbers are not the same
+differ : {a b : ℕ} → (a == b) ≡ false → a ≡ b → ⊥
+differ {b = b} other same = false≢true (sym other ∙ ap (λ (n : ℕ). n == b) same ∙ eq-eqb b b refl)
+
+-- the only line is a call's
+no_edge : (a b c d : ℕ) → Contains (Call a b ∷ []) (Edge c d) → ⊥
+no_edge a b c d (zero, below, is) = absurd (cc)
+no_edge a b c d (suc k, below, is) = absurd (omega arith)
+
+jump_unconfined : IsConfined version_1 unlisted_jump unlisted_jump_graph → ⊥
+unfolding loaded placed decoded code_of step write last_exit after_calm is_ran all_keep
+jump_unconfined confined =
+    let c = called unlisted_jump unlisted_jump_graph 0 1 confined refl refl refl in
+    elim c.1.3.1 [
+      | inl (zero_is, inl low, same) ↦ let end = low.1 in omega arith
+      | inl (zero_is, inr (inl edge), same) ↦ no_edge _ _ _ _ edge
+      | inl (zero_is, inr (inr edge), same) ↦ no_edge _ _ _ _ edge
+      | inr (one_is, line, new) ↦ differ refl one_is
+    ]
+
+branch_unconfined : IsConfined version_1 long_branch long_branch_graph → ⊥
+unfolding loaded placed decoded code_of step write last_exit after_calm is_ran all_keep
+branch_unconfined confined =
+    let c = called long_branch long_branch_graph 0 1 confined refl refl refl in
+    elim c.1.3.1.0 [
+      | inl (inl next) ↦ omega arith
+      | inl (inr (inl over)) ↦ omega arith
+      | inl (inr (inr (low, high, call))) ↦ absurd (cc)
+      | inr edge ↦ no_edge _ _ _ _ edge
+    ]
+
+entry_unconfined : IsConfined version_1 unlisted_entry unlisted_entry_graph → ⊥
+unfolding loaded placed decoded code_of step write last_exit after_calm is_ran all_keep
+entry_unconfined confined =
+    let c = lone unlisted_entry unlisted_entry_graph 9 1 confined refl in
+    elim c.3.1 [
+      | inl (zero_is, to, same) ↦ differ refl zero_is
+      | inr (one_is, (k, below, is), new) ↦ omega arith
+    ]
+
+-- the lines of the computed call have one class, with one target
+only_class : (label : ℕ) (targets : List ℕ) → Contains astray_call_graph.lines (Class label targets) → (0x40000094 ∷ []) ≡ targets
+only_class label targets (zero, below, is) = cc
+only_class label targets (suc zero, below, is) = absurd (cc)
+only_class label targets (suc (suc zero), below, is) = absurd (cc)
+only_class label targets (suc (suc (suc k)), below, is) = absurd (omega arith)
+
+no_class : (label : ℕ) (targets : List ℕ) → Contains astray_call_graph.lines (CallClass label targets) → ⊥
+no_class label targets (zero, below, is) = absurd (cc)
+no_class label targets (suc zero, below, is) = absurd (cc)
+no_class label targets (suc (suc zero), below, is) = absurd (cc)
+no_class label targets (suc (suc (suc k)), below, is) = absurd (omega arith)
+
+no_target : Contains {X = ℕ} (0x40000094 ∷ []) 0x40000090 → ⊥
+no_target (zero, below, is) = differ refl is
+no_target (suc k, below, is) = absurd (omega arith)
+
+target_unconfined : IsConfined version_1 astray_call astray_call_graph → ⊥
+unfolding loaded placed decoded code_of words_of step write last_exit after_calm is_ran all_keep
+target_unconfined confined =
+    let c = called astray_call astray_call_graph 16 1 confined refl refl refl in
+    elim c.1.3.1 [
+      | inl (zero_is, to) ↦ differ refl zero_is
+      | inr (one_is, site, new) ↦ elim site.class [
+        | inl class ↦ no_target (subst (λ (ts : List ℕ). Contains ts 0x40000090) (sym (only_class site.label site.targets class)) site.target)
+        | inr class ↦ no_class site.label site.targets class
+      ]
+    ]
+
+-- the lines of the early return have one site
+other_site : (a : ℕ) (kind : SiteKind) (label : ℕ) → (a == 0x40000018) ≡ false → Contains early_return_graph.lines (Site a kind label) → ⊥
+other_site a kind label other (zero, below, is) = absurd (cc)
+other_site a kind label other (suc zero, below, is) = absurd (cc)
+other_site a kind label other (suc (suc zero), below, is) = differ other (let same : 0x40000018 ≡ a = cc in sym same)
+other_site a kind label other (suc (suc (suc zero)), below, is) = absurd (cc)
+other_site a kind label other (suc (suc (suc (suc k))), below, is) = absurd (omega arith)
+
+return_unconfined : IsConfined version_1 early_return early_return_graph → ⊥
+unfolding loaded placed decoded code_of step write last_exit after_calm is_ran all_keep
+return_unconfined confined =
+    let c = called early_return early_return_graph 0 3 confined refl refl refl in
+    let call = c.1.3 in
+    let jump = call.2.3 in
+    let back = jump.2.3 in
+    elim call.1 [
+      | inl (zero_is, to, same) ↦ differ refl zero_is
+      | inr (one_is, line, new) ↦ elim jump.1 [
+        | inl (zero_is, inl (none, pops)) ↦ none K.Jump 1 (2, lit< tt, refl)
+        | inl (zero_is, inr (site, same)) ↦ elim back.1 [
+          | inl (zero_too, inl (none, pops)) ↦
+              let first : slice_get (0x40000044 ∷ c.0) 0 ≡ slice_get (0x40000038 ∷ back.0) 0 = ap (λ (l : List ℕ). slice_get l 0) (sym new ∙ sym same ∙ pops) in
+              differ refl (same_Some 0x40000044 0x40000038 first)
+          | inl (zero_too, inr (other, stays)) ↦ other_site 0x40000014 K.Jump other.label refl other.listed
+          | inr other ↦ differ refl other.0
+        ]
+        | inr other ↦ differ refl other.0
+      ]
+    ]
+
+stop_unconfined : IsConfined version_1 exiting_handler handler_graph → ⊥
+unfolding loaded placed decoded code_of step write last_exit after_calm is_ran all_keep
+stop_unconfined confined =
+    let c = called exiting_handler handler_graph 2 1 confined refl refl refl in
+    let stop = c.1.0 in
+    omega arith
+
+call_unconfined : IsConfined version_2 calling_opening one_pointer_graph → ⊥
+unfolding loaded placed decoded code_of step write last_exit after_calm is_ran all_keep
+call_unconfined confined =
+    let c = several calling_opening one_pointer_graph 5 confined refl in
+    elim c.1 [ inl past ↦ let low = past.0 in omega arith | inr closing ↦ let here = closing.0 in omega arith ]
+
+-- the site's lowest byte is in slot 1
+slot_unconfined : IsConfined version_1 high_pointer opening_graph → ⊥
+unfolding loaded placed decoded code_of step write last_exit after_calm is_ran all_keep
+slot_unconfined confined = let c = lone high_pointer opening_graph 7 1 confined refl in differ refl (c.2 0x60000010 (lit≤ tt) (inr (inl (lit≤ tt))))
+
+part_unconfined : IsConfined version_2 storing_opening one_pointer_graph → ⊥
+unfolding loaded placed decoded code_of step write last_exit after_calm is_ran all_keep
+part_unconfined confined = let c = several storing_opening one_pointer_graph 8 confined refl in differ refl (c.2 0x600407f2 (lit≤ tt) (inr (inr (lit≤ tt))))
+
+pub faults_unconfined : FaultsAreUnconfined
+faults_unconfined = record {
+  jump = jump_unconfined;
+  branch = branch_unconfined;
+  entry = entry_unconfined;
+  target = target_unconfined;
+  return = return_unconfined;
+  stop = stop_unconfined;
+  call = call_unconfined;
+  slot = slot_unconfined;
+  part = part_unconfined;
+}

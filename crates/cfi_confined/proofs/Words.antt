@@ -1,0 +1,309 @@
+-- The word at which a hart is, of what stands at an address: its instruction, where that leads, and what it
+-- stores.
+use Rattle.std.proofs.Common.{◌≡◌, ℕ, suc, ◌+◌, ◌-◌, ◌*◌, ◌^◌, ◌<◌, ◌≤◌, ◌⊎◌, inl, inr, true, List, [], ◌∷◌, ◌++◌, length, refl, sym, ap, subst, ◌∙◌, Some, arith, lit<, lit≤}
+use Rattle.std.specs.Prelude.{slice_get}
+use Rattle.std.proofs.lemmas.Option.{slice_get_within}
+use Rattle.rv_word.specs.Bits.{wrap}
+use Rattle.rv_word.specs.MemoryMap.{IsProfile, Profile, version_1, version_2}
+use Rattle.rv_word.specs.Memory.{Memory}
+use Rattle.rv_word.proofs.Versions.{laid_out}
+use Rattle.rv_instr.specs.Registers.{Registers}
+use Rattle.rv_instr.specs.declared.instr.Instr.{Instr}
+use Rattle.rv_instr.specs.declared.instr.Instr.TheVariants.{Jal, Jalr, Branch, Store, Immediate, Ecall, Ebreak}
+use Rattle.rv_instr.specs.declared.instr.ImmediateOp.TheVariants.{Addi}
+use Rattle.rv_instr.specs.declared.instr.BranchOp.{BranchOp}
+use Rattle.rv_instr.specs.declared.instr.BranchOp.TheVariants.{Beq}
+use Rattle.rv_code.specs.State.{Hart}
+use Rattle.rv_code.specs.Step.{address, offset}
+use Rattle.cfi_unit.specs.declared.place.Place.{Place}
+use Rattle.cfi_unit.specs.declared.place.Place.TheVariants.{Handler as handler, Opening as opening, Closing as closing, Body as body}
+use Rattle.cfi_unit.specs.declared.members.Member.{Member}
+use Rattle.cfi_unit.specs.declared.target_word.TargetWord.{TargetWord}
+use Rattle.cfi_unit.specs.declared.target_word.TargetWord.TheVariants.{First}
+use Rattle.cfi_unit.specs.declared.unit.SystemOp.TheVariants as S
+use Rattle.cfi_unit.specs.declared.unit.Unit as U
+use Rattle.cfi_unit.specs.declared.unit.Unit.TheVariants as V
+use Rattle.cfi_unit.specs.Flow as F
+use Rattle.cfi_unit.specs.Flow.{flow_of}
+use Rattle.cfi_unit.specs.InPlace.{InWord, only, InBranch, branch_test, branch_jump, InGuarded, guarded_load, guarded_test, guarded_other, guarded_call, InStores, stores_addi, stores_slli, stores_srli, stores_store, InPush, push_slli, push_bne, push_deep, push_auipc, push_addi, push_store, push_grow, InCall, call_push, call_jump, InCheck, check_addi, check_andi, check_lui, check_sub, check_srli, check_region, check_outside, check_lw, check_label, check_opcode, check_word, check_other, InIjump, ijump_check, ijump_jump, InIcall, icall_check, icall_push, icall_jump, InReturn, return_ld, return_addi, return_beq, return_other, return_jump, InLoneSetUp, lone_stack, lone_shadow, lone_slot, InOwnSetUp, own_stack, own_stack_offset, own_stack_end, own_shadow, own_offset, own_part, own_slot, InOpening, opening_lone, opening_own, opening_call, InClosing, closing_number, closing_ecall, InUnit, InPlace}
+use Rattle.cfi_unit.specs.Leads.{HasLabel, destination}
+use Rattle.cfi_unit.specs.Members.{member_instr}
+use Rattle.cfi_unit.specs.Place.{place_instrs, place_size}
+use Rattle.cfi_unit.specs.Prologue.{OPENING, call_at, set_up}
+use Rattle.cfi_unit.specs.Shadow.{slot, MOST_PENDING}
+use Rattle.cfi_unit.specs.UnitLaw.{MayStand}
+use Rattle.cfi_unit.specs.UnitWords.{BAD_TARGET, BAD_RETURN, DEEP, CheckFits, Fits, Reaches, check, is_plain, jump, jump_offset, near_offset, push}
+use Rattle.cfi_unit.proofs.Context.{slice_get-back, slice_get-front}
+use Rattle.cfi_unit.proofs.GuardedWords.{test_leads, unit_call, unit_jump, unit_load, unit_test}
+use Rattle.cfi_unit.proofs.MemberWords.{member_at}
+use Rattle.cfi_unit.proofs.Parts.{call_site, set_up_length}
+use Rattle.cfi_unit.proofs.StoreUnit.{member_address}
+use Rattle.cfi_rules.specs.Rules.{edge_of}
+use Rattle.cfi_confined.specs.Confined.{IsHandler}
+
+-- no site is put on top or taken off
+abbrev pub Keeps : Place → Type 0
+Keeps handler = Unit {0}
+Keeps (opening entry) = ⊥
+Keeps closing = Unit {0}
+Keeps (body unit) = (flow_of unit).sites ≡ F.keeps
+
+-- so where word `k` of a place is led to: it is inside, or the place keeps the sites
+abbrev pub Kept : Profile → Place → ℕ → Type 0
+Kept p place k = (4 * k < place_size p place) ⊎ Keeps place
+
+-- x1 and x31 are the newest site
+abbrev pub AreNewest : List ℕ → ℕ → ℕ → Type 0
+AreNewest [] x1 x31 = ⊥
+AreNewest (site ∷ pending) x1 x31 = (x1 ≡ site) × (x31 ≡ site)
+
+halted : (a to : ℕ) → a ≡ to → IsHandler to → IsHandler a
+halted a to e is = subst IsHandler (sym e) is
+
+module _ (p : Profile) (part : ℕ) (image : Memory) (at : ℕ) (pending : List ℕ) (r : Registers) (h : Hart) where
+  -- an `ecall` of the place, to which word `k` leads
+  pub record ToEcall (place : Place) (k to : ℕ) : Type 0 where
+    pub word : ℕ
+    pub low : k < word
+    pub high : word ≤ k + 16
+    pub is : slice_get (place_instrs p place at) word ≡ Some Ecall
+    pub here : to ≡ at + 4 * word
+
+  abbrev pub BranchFact : Place → ℕ → ℕ → Type 0
+  BranchFact place k to =
+      Kept p place (k + 1)
+      × (((to ≡ at + 4 * (k + 2)) × Kept p place (k + 2)) ⊎ ((ToEcall place k to ⊎ ((k ≡ 0) × (edge_of place ≡ Some to))) × Keeps place))
+
+  abbrev pub JumpFact : Place → ℕ → ℕ → Type 0
+  JumpFact place k to = IsHandler to ⊎ ((k ≤ 1) × (edge_of place ≡ Some to) × Keeps place)
+
+  abbrev pub CallFact : Place → ℕ → ℕ → Type 0
+  CallFact (opening entry) k to = (entry ≡ to) × (at + 4 * k ≡ p.opening_call)
+  CallFact (body (V.Call target)) k to = (target ≡ to) × (k ≡ 7)
+  CallFact other k to = ⊥
+
+  abbrev pub ComputedFact : Place → ℕ → ℕ → Type 0
+  ComputedFact (body (V.Ijump which rs1 imm label)) k rd =
+      (rd ≡ 0) × (k ≡ 12) × HasLabel image which label (destination r rs1 imm) × (h.regs 31 ≡ destination r rs1 imm)
+  ComputedFact (body (V.Icall rs1 imm label)) k rd =
+      (rd ≡ 1) × (k ≡ 19) × HasLabel image First label (destination r rs1 imm) × (h.regs 31 ≡ destination r rs1 imm)
+  ComputedFact (body V.Return) k rd = (rd ≡ 0) × (k ≡ 4) × AreNewest pending (r 1) (h.regs 31)
+  ComputedFact other k rd = ⊥
+
+  -- a store writes the next slot, or data
+  abbrev pub StoreFact : ℕ → Type 0
+  StoreFact a = ((a ≡ slot part (length pending)) × (length pending < MOST_PENDING)) ⊎ (a < 2 ^ 28 + 2 ^ 11)
+
+  -- what is known of the instruction that is word `k`
+  abbrev pub Fact : Place → ℕ → Instr → Type 0
+  Fact place k (Branch op rs1 rs2 imm) = BranchFact place k (wrap (at + 4 * k + offset 13 (imm * 2)))
+  Fact place k (Jal rd imm) =
+      ((rd ≡ 0) × JumpFact place k (wrap (at + 4 * k + offset 21 (imm * 2))))
+      ⊎ ((rd ≡ 1) × CallFact place k (wrap (at + 4 * k + offset 21 (imm * 2))))
+  Fact place k (Jalr rd rs1 imm) = (rs1 ≡ 31) × (imm ≡ 0) × ComputedFact place k rd
+  Fact place k (Store op rs1 rs2 imm) = Kept p place (k + 1) × StoreFact (address h rs1 imm)
+  Fact place k other = Kept p place (k + 1)
+
+  pub record Here (place : Place) : Type 0 where
+    pub word : ℕ
+    pub instr : Instr
+    pub is : slice_get (place_instrs p place at) word ≡ Some instr
+    pub pc : h.pc ≡ at + 4 * word
+    pub fact : Fact place word instr
+
+  here : (place : Place) (k : ℕ) (i : Instr) → slice_get (place_instrs p place at) k ≡ Some i → h.pc ≡ at + 4 * k → Fact place k i → Here place
+  here place k i is e fact = record { word = k; instr = i; is = is; pc = e; fact = fact }
+
+  module _ (small : at < 2 ^ 32) (low : part < 2 ^ 32) where
+    -- the words of a check, with which a place begins
+    module _ (place : Place) (rs1 imm label : ℕ) (which : TargetWord) (fits : CheckFits at rs1 imm label) (room : 48 < place_size p place)
+        (front : (k : ℕ) (i : Instr) → slice_get (check at rs1 imm label which) k ≡ Some i → slice_get (place_instrs p place at) k ≡ Some i) where
+      check_here : {sum v n : ℕ} → InCheck part image which at rs1 imm label sum v n h → Here place
+      check_here (check_addi e x3 is) = here place 0 _ (front 0 _ refl) (omega arith) (inl (omega arith))
+      check_here (check_andi e x3 x31) = here place 1 _ (front 1 _ refl) e (inl (omega arith))
+      check_here (check_lui e x3 x31) = here place 2 _ (front 2 _ refl) e (inl (omega arith))
+      check_here (check_sub e x3 x31 x30) = here place 3 _ (front 3 _ refl) e (inl (omega arith))
+      check_here (check_srli e x3 x31 x30) = here place 4 _ (front 4 _ refl) e (inl (omega arith))
+      check_here (check_region e x3 x31 x30) = here place 5 _ (front 5 _ refl) e (inl (omega arith), inl (omega arith, inl (omega arith)))
+      check_here (check_outside e x3 out) = here place 6 _ (front 6 _ refl) e (inl (refl, inl (halted _ BAD_TARGET fits.3 (lit≤ tt, lit< tt))))
+      check_here (check_lw e x3 x31 code) = here place 7 _ (front 7 _ refl) e (inl (omega arith))
+      check_here (check_label e x3 x31 code x30) = here place 8 _ (front 8 _ refl) e (inl (omega arith))
+      check_here (check_opcode e x3 x31 code x30 x4) = here place 9 _ (front 9 _ refl) e (inl (omega arith))
+      check_here (check_word e x3 x31 code x30 x4) = here place 10 _ (front 10 _ refl) e (inl (omega arith), inl (omega arith, inl (omega arith)))
+      check_here (check_other e x3 out) = here place 11 _ (front 11 _ refl) e (inl (refl, inl (halted _ BAD_TARGET fits.4 (lit≤ tt, lit< tt))))
+
+    -- the words of a push, after some others and before one
+    module _ (place : Place) (front : List Instr) (last : Instr) (from : ℕ) (whole : place_instrs p place at ≡ front ++ (push from ++ last ∷ []))
+        (base : from ≡ at + 4 * length front) (few : length front < 20) (room : 4 * (length front + 7) < place_size p place) (deep : Reaches (from + 8) DEEP) where
+      get : (k : ℕ) (i : Instr) → slice_get (push from ++ last ∷ []) k ≡ Some i → slice_get (place_instrs p place at) (length front + k) ≡ Some i
+      get k i is = ap (λ l. slice_get l (length front + k)) whole ∙ slice_get-back front (push from ++ last ∷ []) k ∙ is
+
+      push_here : {v : ℕ} {m : Memory} → InPush part from v (length pending) h m → Here place
+      push_here (push_slli e x31 x3) = here place (length front + 0) _ (get 0 _ refl) (omega arith) (inl (omega arith))
+      push_here (push_bne e x31 x3 x30) =
+          here place (length front + 1) _ (get 1 _ refl) (omega arith) (inl (omega arith), inl (omega arith, inl (omega arith)))
+      push_here (push_deep e x31 x3 full) =
+          let jumps : wrap (at + 4 * (length front + 2) + offset 21 (jump_offset (from + 8) DEEP * 2)) ≡ DEEP =
+          ap (λ a. wrap (a + offset 21 (jump_offset (from + 8) DEEP * 2))) (let z : at + 4 * (length front + 2) ≡ from + 8 = omega arith in z) ∙ deep in
+          here place (length front + 2) _ (get 2 _ refl) (omega arith) (inl (refl, inl (halted _ DEEP jumps (lit≤ tt, lit< tt))))
+      push_here (push_auipc e x31 x3 some) = here place (length front + 3) _ (get 3 _ refl) (omega arith) (inl (omega arith))
+      push_here (push_addi e x31 x3 some x30) = here place (length front + 4) _ (get 4 _ refl) (omega arith) (inl (omega arith))
+      push_here (push_store e x31 x3 some x30) =
+          let to : address h 3 0 ≡ slot part (length pending) = omega arith in
+          here place (length front + 5) _ (get 5 _ refl) (omega arith) (inl (omega arith), inl (to, some))
+      push_here (push_grow e x31 x3 some stored) = here place (length front + 6) _ (get 6 _ refl) (omega arith) (inl (omega arith))
+
+    branch_here : (op : BranchOp) (rs1 rs2 target : ℕ) {n : ℕ} → Fits (V.Branch op rs1 rs2 target) at → InBranch part at n h → Here (body (V.Branch op rs1 rs2 target))
+    branch_here op rs1 rs2 target fits (branch_test e x3) =
+        here (body (V.Branch op rs1 rs2 target)) 0 _ refl (omega arith) (inr refl, inl (omega arith, inr refl))
+    branch_here op rs1 rs2 target fits (branch_jump e x3) =
+        here (body (V.Branch op rs1 rs2 target)) 1 _ refl e (inl (refl, inr (omega arith, ap Some (sym fits.2), refl)))
+
+    guarded_here : (ns : List ℕ) {x n : ℕ} → Fits (V.Guarded ns) at → InGuarded part at ns x n h → Here (body (V.Guarded ns))
+    guarded_here ns fits (guarded_load k below e x3 x17 none) =
+        let (n, (few, (is, there))) = unit_load ns at k fits.0.each below in
+        here (body (V.Guarded ns)) (2 * k) (Immediate Addi 31 0 n) there e (inr refl)
+    guarded_here ns fits (guarded_test k number is e x3 x17 none x31) =
+        let below = slice_get_within ns k number is in
+        let most = fits.0.most in
+        let to = test_leads (at + 4 * (2 * k + 1)) (at + 4 * (2 * k + 1)) (length ns - k) refl (omega arith) (omega arith) in
+        here (body (V.Guarded ns)) (2 * k + 1) (Branch Beq 31 17 (4 * (length ns - k))) (unit_test ns at k below) e
+        (inr refl, inr (inl (record { word = 2 * length ns + 1; low = omega arith; high = omega arith; is = unit_call ns at; here = to ∙ omega arith }), refl))
+    guarded_here ns fits (guarded_other e x3 none) =
+        let jumps : wrap (at + 4 * (2 * length ns) + offset 21 (jump_offset (at + 8 * length ns) BAD_TARGET * 2)) ≡ BAD_TARGET =
+        ap (λ a. wrap (a + offset 21 (jump_offset (at + 8 * length ns) BAD_TARGET * 2))) (let z : at + 4 * (2 * length ns) ≡ at + 8 * length ns = omega arith in z) ∙ fits.1 in
+        here (body (V.Guarded ns)) (2 * length ns) (jump (at + 8 * length ns) BAD_TARGET) (unit_jump ns at) e (inl (refl, inl (halted _ BAD_TARGET jumps (lit≤ tt, lit< tt))))
+    guarded_here ns fits (guarded_call e x3 x17 listed) = here (body (V.Guarded ns)) (2 * length ns + 1) Ecall (unit_call ns at) e (inr refl)
+
+    stores_here : (rs1 imm : ℕ) (members : List Member) {n : ℕ} → Fits (V.Stores rs1 imm members) at → InStores part at (length members) n h → Here (body (V.Stores rs1 imm members))
+    stores_here rs1 imm members fits (stores_addi e x3) = here (body (V.Stores rs1 imm members)) 0 _ refl (omega arith) (inr refl)
+    stores_here rs1 imm members fits (stores_slli e x3) = here (body (V.Stores rs1 imm members)) 1 _ refl e (inr refl)
+    stores_here rs1 imm members fits (stores_srli e x3 masked) = here (body (V.Stores rs1 imm members)) 2 _ refl e (inr refl)
+    stores_here rs1 imm members fits (stores_store k below e x3 masked) =
+        let (m, (is, there)) = member_at members k fits.2.each below in
+        let near = is.1 in
+        let to : address h 31 m.distance ≡ h.regs 31 + m.distance = member_address (h.regs 31) (h.regs 31) m.distance refl masked near in
+        here (body (V.Stores rs1 imm members)) (suc (suc (suc k))) (member_instr m) there (omega arith) (inr refl, inr (omega arith))
+
+    return_here : {site n : ℕ} (older : List ℕ) → pending ≡ site ∷ older → Fits V.Return at → InReturn part at (r 1) site n h → Here (body V.Return)
+    return_here older new fits (return_ld e x3 x1) = here (body V.Return) 0 _ refl (omega arith) (inl (omega arith))
+    return_here older new fits (return_addi e x3 x1 x31) = here (body V.Return) 1 _ refl e (inl (omega arith))
+    return_here older new fits (return_beq e x3 x1 x31) = here (body V.Return) 2 _ refl e (inl (omega arith), inl (omega arith, inl (omega arith)))
+    return_here older new fits (return_other e x3 apart) = here (body V.Return) 3 _ refl e (inl (refl, inl (halted _ BAD_RETURN fits (lit≤ tt, lit< tt))))
+    return_here older new fits (return_jump e x3 same x31) =
+        here (body V.Return) 4 _ refl e (refl, refl, (refl, refl, subst (λ (l : List ℕ). AreNewest l (r 1) (h.regs 31)) (sym new) (same, x31)))
+
+    call_here : (target : ℕ) {v : ℕ} {m : Memory} → Fits (V.Call target) at → InCall part at v (length pending) h m → Here (body (V.Call target))
+    call_here target fits (call_push i) =
+        push_here (body (V.Call target)) [] (Jal 1 (jump_offset (at + 28) target)) at refl (omega arith) (omega arith) (omega arith) fits.0 i
+    call_here target fits (call_jump e pushed) = here (body (V.Call target)) 7 _ refl e (inr (refl, (sym fits.1, refl)))
+
+    ijump_here : (which : TargetWord) (rs1 imm label : ℕ) {n : ℕ} → Fits (V.Ijump which rs1 imm label) at → {sum : ℕ} →
+        InIjump part image which at rs1 imm label sum (destination r rs1 imm) n h → Here (body (V.Ijump which rs1 imm label))
+    ijump_here which rs1 imm label fits (ijump_check i) =
+        check_here (body (V.Ijump which rs1 imm label)) rs1 imm label which fits (omega arith)
+        (λ k j is. slice_get-front (check at rs1 imm label which) (Jalr 0 31 0 ∷ []) k j is) i
+    ijump_here which rs1 imm label fits (ijump_jump e checked) =
+        here (body (V.Ijump which rs1 imm label)) 12 _ refl e (refl, refl, (refl, refl, checked.legal, checked.destination_is))
+
+    icall_here : (rs1 imm label : ℕ) {m : Memory} → Fits (V.Icall rs1 imm label) at → {sum : ℕ} →
+        InIcall part image at rs1 imm label sum (destination r rs1 imm) (length pending) h m → Here (body (V.Icall rs1 imm label))
+    icall_here rs1 imm label fits (icall_check i) =
+        check_here (body (V.Icall rs1 imm label)) rs1 imm label First fits.0 (omega arith)
+        (λ k j is. slice_get-front (check at rs1 imm label First) (push (at + 48) ++ Jalr 1 31 0 ∷ []) k j is) i
+    icall_here rs1 imm label fits (icall_push legal i) =
+        let next : at + 56 ≡ at + 48 + 8 = omega arith in
+        push_here (body (V.Icall rs1 imm label)) (check at rs1 imm label First) (Jalr 1 31 0) (at + 48) refl refl (omega arith) (omega arith)
+        (subst (λ a. Reaches a DEEP) next fits.1) i
+    icall_here rs1 imm label fits (icall_jump e legal pushed) =
+        here (body (V.Icall rs1 imm label)) 19 _ refl e (refl, refl, (refl, refl, legal, pushed.kept))
+
+    plain_fact : (i : Instr) → is_plain i ≡ true → Fact (body (V.Plain i)) 0 i
+    plain_fact (Branch op rs1 rs2 imm) plain = absurd (cc)
+    plain_fact (Jal rd imm) plain = absurd (cc)
+    plain_fact (Jalr rd rs1 imm) plain = absurd (cc)
+    plain_fact (Store op rs1 rs2 imm) plain = absurd (cc)
+    plain_fact other plain = inr refl
+
+    first : (bits imm to : ℕ) → wrap (at + offset bits imm) ≡ to → wrap (at + 4 * 0 + offset bits imm) ≡ to
+    first bits imm to e = ap (λ a. wrap (a + offset bits imm)) (let z : at + 4 * 0 ≡ at = omega arith in z) ∙ e
+
+    word_here : (unit : U.Unit) (i : Instr) {n : ℕ} → slice_get (place_instrs p (body unit) at) 0 ≡ Some i → Fact (body unit) 0 i → InWord part at n h → Here (body unit)
+    word_here unit i is fact (only e x3) = here (body unit) 0 i is (omega arith) fact
+
+    any_return_here : (m : Memory) (sites : List ℕ) → pending ≡ sites → Fits V.Return at → InUnit part image V.Return at sites r h m → Here (body V.Return)
+    any_return_here m [] none fits i = absurd i
+    any_return_here m (site ∷ older) new fits i = return_here older new fits i
+
+    unit_here : (unit : U.Unit) (m : Memory) → Fits unit at → InUnit part image unit at pending r h m → Here (body unit)
+    unit_here (V.Gate label) m fits i = word_here (V.Gate label) _ refl (inr refl) i
+    unit_here (V.Plain instr) m fits i = word_here (V.Plain instr) instr refl (plain_fact instr fits.1) i
+    unit_here (V.Branch op rs1 rs2 target) m fits i = branch_here op rs1 rs2 target fits i
+    unit_here (V.Near op rs1 rs2 target) m fits i =
+        word_here (V.Near op rs1 rs2 target) _ refl (inr refl, inr (inr (refl, ap Some (sym (first 13 (near_offset at target * 2) target fits.2))), refl)) i
+    unit_here (V.Jump target) m fits i =
+        word_here (V.Jump target) _ refl (inl (refl, inr (omega arith, ap Some (sym (first 21 (jump_offset at target * 2) target fits.1)), refl))) i
+    unit_here V.Stop m fits i =
+        word_here V.Stop _ refl (inl (refl, inl (halted _ BAD_TARGET (first 21 (jump_offset at BAD_TARGET * 2) BAD_TARGET fits) (lit≤ tt, lit< tt)))) i
+    unit_here (V.System S.Ecall) m fits i = word_here (V.System S.Ecall) _ refl (inr refl) i
+    unit_here (V.System S.Ebreak) m fits i = word_here (V.System S.Ebreak) _ refl (inr refl) i
+    unit_here (V.Guarded ns) m fits i = guarded_here ns fits i
+    unit_here (V.Stores rs1 imm members) m fits i = stores_here rs1 imm members fits i
+    unit_here (V.Call target) m fits i = call_here target fits i
+    unit_here (V.Ijump which rs1 imm label) m fits i = ijump_here which rs1 imm label fits i
+    unit_here (V.Icall rs1 imm label) m fits i = icall_here rs1 imm label fits i
+    unit_here V.Return m fits i = any_return_here m pending refl fits i
+
+    closing_here : InClosing at h → Here closing
+    closing_here (closing_number e) = here closing 0 _ refl (omega arith) (inr tt)
+    closing_here (closing_ecall e x17) = here closing 1 _ refl e (inr tt)
+
+    handler_here : h.pc ≡ at → Here handler
+    handler_here e = here handler 0 Ebreak refl (omega arith) (inr tt)
+
+-- the opening's words
+module _ (part : ℕ) (low : part < 2 ^ 32) (image : Memory) (r : Registers) (h : Hart) (entry : ℕ) where
+  abbrev InOpeningHere : Profile → Type 0
+  InOpeningHere p = Here p part image OPENING [] r h (opening entry)
+
+  lone_here : InLoneSetUp h → InOpeningHere version_1
+  lone_here (lone_stack e) = here version_1 part image OPENING [] r h (opening entry) 0 _ refl e (inl (lit< tt))
+  lone_here (lone_shadow e) = here version_1 part image OPENING [] r h (opening entry) 1 _ refl e (inl (lit< tt))
+  lone_here (lone_slot e x3) = here version_1 part image OPENING [] r h (opening entry) 2 _ refl e (inl (lit< tt))
+
+  own_here : InOwnSetUp part h → InOpeningHere version_2
+  own_here (own_stack e is) = here version_2 part image OPENING [] r h (opening entry) 0 _ refl e (inl (lit< tt))
+  own_here (own_stack_offset e is) = here version_2 part image OPENING [] r h (opening entry) 1 _ refl e (inl (lit< tt))
+  own_here (own_stack_end e is) = here version_2 part image OPENING [] r h (opening entry) 2 _ refl e (inl (lit< tt))
+  own_here (own_shadow e is) = here version_2 part image OPENING [] r h (opening entry) 3 _ refl e (inl (lit< tt))
+  own_here (own_offset e is x3) = here version_2 part image OPENING [] r h (opening entry) 4 _ refl e (inl (lit< tt))
+  own_here (own_part e is x3) = here version_2 part image OPENING [] r h (opening entry) 5 _ refl e (inl (lit< tt))
+  own_here (own_slot e x3) = here version_2 part image OPENING [] r h (opening entry) 6 _ refl e (inl (lit< tt))
+
+  module _ (p : Profile) (is : IsProfile p) (fits : Fits (V.Call entry) (call_at p)) where
+    calling_here : {v : ℕ} {m : Memory} → InCall part (call_at p) v 0 h m → InOpeningHere p
+    calling_here (call_push i) =
+        let site = call_site p is in let set = set_up_length p is in let layout = laid_out p is in
+        push_here p part image OPENING [] r h (lit< tt) low (opening entry) (set_up p) (Jal 1 (jump_offset (call_at p + 28) entry)) (call_at p) refl (sym set)
+        (omega arith) (omega arith) fits.0 i
+    calling_here (call_jump e pushed) =
+        let site = call_site p is in let set = set_up_length p is in let layout = laid_out p is in
+        let to : OPENING + 4 * (length (set_up p) + 7) ≡ call_at p + 28 = omega arith in
+        let leads : wrap (OPENING + 4 * (length (set_up p) + 7) + offset 21 (jump_offset (call_at p + 28) entry * 2)) ≡ entry =
+        ap (λ a. wrap (a + offset 21 (jump_offset (call_at p + 28) entry * 2))) to ∙ fits.1 in
+        here p part image OPENING [] r h (opening entry) (length (set_up p) + 7) (Jal 1 (jump_offset (call_at p + 28) entry))
+        (slice_get-back (set_up p) (push (call_at p) ++ Jal 1 (jump_offset (call_at p + 28) entry) ∷ []) 7) (omega arith) (inr (refl, (sym leads, omega arith)))
+
+    opening_here : {m : Memory} → InOpening p part h m → InOpeningHere p
+    opening_here (opening_lone version i) = subst InOpeningHere (sym version) (lone_here i)
+    opening_here (opening_own version i) = subst InOpeningHere (sym version) (own_here i)
+    opening_here (opening_call v i) = calling_here i
+
+pub place_here : (p : Profile) (part : ℕ) (image : Memory) (place : Place) (at : ℕ) (pending : List ℕ) (r : Registers) (h : Hart) (m : Memory) → at < 2 ^ 32 →
+    part < 2 ^ 32 → MayStand p place at pending → InPlace p part image place at pending r h m → Here p part image at pending r h place
+place_here p part image handler at pending r h m small low may i = handler_here p part image at pending r h small low i
+place_here p part image (opening entry) at [] r h m small low may i =
+    subst (λ (a : ℕ). Here p part image a [] r h (opening entry)) (sym may.1) (opening_here part low image r h entry p may.0 may.3 i)
+place_here p part image (opening entry) at (site ∷ pending) r h m small low may i = let none = may.2 in absurd (cc)
+place_here p part image closing at pending r h m small low may i = closing_here p part image at pending r h small low i
+place_here p part image (body unit) at pending r h m small low may i = unit_here p part image at pending r h small low unit m may.0 i

@@ -1,0 +1,155 @@
+-- Confined runs: of each executed instruction, where it leads, what it writes and how it ends, said by the
+-- word at the pc and the graph's lines alone.
+use Rattle.std.specs.Prelude.{◌≡◌, ℕ, ◌+◌, ◌-◌, ◌<◌, ◌≤◌, ◌==◌, ◌⊎◌, IsTrue, List, [], ◌∷◌, length, Option, Some, None, if◌then◌else◌}
+use Rattle.std.specs.List.{Contains}
+use Rattle.rv_word.specs.Image.{Contents}
+use Rattle.rv_word.specs.MemoryMap.{CODE_START, DATA_END, PART_SIZE, START, MayRun, Profile, part_of}
+use Rattle.rv_word.specs.Memory.{Memory, read}
+use Rattle.rv_word.specs.Numbers.{is_listed}
+use Rattle.rv_instr.specs.declared.instr.Instr.{Instr}
+use Rattle.rv_instr.specs.declared.instr.Instr.TheVariants.{Branch, Jal, Jalr, Ecall}
+use Rattle.rv_code.specs.Decode.{decoded}
+use Rattle.rv_code.specs.Run.{HartStep, disturbed}
+use Rattle.rv_code.specs.State.{Harts, Shared, with_hart}
+use Rattle.rv_code.specs.Step.{step}
+use Rattle.rv_code.specs.declared.turn.Turn.{Turn}
+use Rattle.rv_code.specs.declared.turn.Turn.TheVariants.{Ran, Exit, Break, LoadFault, StoreFault, FetchFault, Illegal}
+use Rattle.cfi_graph.specs.declared.line.GraphLine.{GraphLine}
+use Rattle.cfi_graph.specs.declared.line.GraphLine.TheVariants.{Class, CallClass, JumpClass, Site, Edge, Call}
+use Rattle.cfi_graph.specs.declared.line.SiteKind.{SiteKind}
+use Rattle.cfi_graph.specs.declared.line.SiteKind.TheVariants as K
+use Rattle.cfi_graph.specs.Graph.{GraphParts, calls_in}
+use Rattle.cfi_unit.specs.Shadow.{slot, MOST_PENDING}
+use Rattle.cfi_rules.specs.Along.{AreStepsOf, MayStart, OnRan}
+
+-- In code whose graph has this version: how far before a computed transfer the address of its site line is,
+-- how far before a direct call that of its call line, and how far ahead of a branch an `ecall` may be to
+-- which it leads
+abbrev pub before_site : ℕ → SiteKind → ℕ
+before_site version K.Jump = 48
+before_site version K.Call = 76
+
+abbrev pub before_call : ℕ → ℕ
+before_call version = 28
+
+abbrev pub most_skip : ℕ → ℕ
+most_skip version = 64
+
+-- the line of a class that serves one kind of computed transfers alone
+abbrev pub class_line : SiteKind → ℕ → List ℕ → GraphLine
+class_line K.Call label targets = CallClass label targets
+class_line K.Jump label targets = JumpClass label targets
+
+-- the graph has a site line at an address, and the class with its label has a target
+pub record IsSiteTo (lines : List GraphLine) (kind : SiteKind) (site to : ℕ) : Type 0 where
+  pub label : ℕ
+  pub targets : List ℕ
+  pub listed : Contains lines (Site site kind label)
+  pub class : Contains lines (Class label targets) ⊎ Contains lines (class_line kind label targets)
+  pub target : Contains targets to
+
+-- the graph has no site line at an address
+abbrev pub NoSite : List GraphLine → ℕ → Type 0
+NoSite lines site = (kind : SiteKind) (label : ℕ) → ¬ Contains lines (Site site kind label)
+
+-- the address of the call line of a `jal x1`: the opening's line stands at the opening's first word
+abbrev pub call_line : Profile → ℕ → ℕ → ℕ
+call_line p version pc = if pc == p.opening_call then START else pc - before_call version
+
+-- a branch that goes along no edge leads to the next instruction, or over it, or ahead to an `ecall`
+abbrev pub IsSkip : ℕ → (ℕ → Option Instr) → ℕ → ℕ → Type 0
+IsSkip version code pc to = (to ≡ pc + 4) ⊎ ((to ≡ pc + 8) ⊎ ((pc < to) × (to ≤ pc + most_skip version) × (code to ≡ Some Ecall)))
+
+-- the code's first three words are the handlers
+abbrev pub IsHandler : ℕ → Type 0
+IsHandler a = (CODE_START ≤ a) × (a < START)
+
+-- where an instruction at a pc may lead, and the return addresses of the calls pending there, the newest
+-- first: a branch and a `jal x0`
+abbrev pub BranchMoves : GraphParts → (ℕ → Option Instr) → ℕ → ℕ → Type 0
+BranchMoves graph code pc to = IsSkip graph.version code pc to ⊎ Contains graph.lines (Edge pc to)
+
+abbrev pub JumpMoves : GraphParts → ℕ → ℕ → Type 0
+JumpMoves graph pc to = IsHandler to ⊎ (Contains graph.lines (Edge pc to) ⊎ Contains graph.lines (Edge (pc - 4) to))
+
+-- a `jalr x0` is a jump where the graph has a site line for it, and a return where it has none
+abbrev pub ComputedMoves : GraphParts → ℕ → List ℕ → ℕ → List ℕ → Type 0
+ComputedMoves graph pc pending to newer =
+    let site = pc - before_site graph.version K.Jump in
+    (NoSite graph.lines site × (pending ≡ to ∷ newer)) ⊎ (IsSiteTo graph.lines K.Jump site to × (newer ≡ pending))
+
+-- no other `jal` or `jalr` is executed, nor a word that is no instruction, and the others lead to the next one
+abbrev pub Moves : Profile → GraphParts → (ℕ → Option Instr) → Option Instr → ℕ → List ℕ → ℕ → List ℕ → Type 0
+Moves p graph code None pc pending to newer = ⊥
+Moves p graph code (Some (Branch op rs1 rs2 imm)) pc pending to newer = BranchMoves graph code pc to × (newer ≡ pending)
+Moves p graph code (Some (Jal rd imm)) pc pending to newer =
+    ((rd ≡ 0) × JumpMoves graph pc to × (newer ≡ pending))
+    ⊎ ((rd ≡ 1) × Contains graph.lines (Call (call_line p graph.version pc) to) × (newer ≡ (pc + 4) ∷ pending))
+Moves p graph code (Some (Jalr rd rs1 imm)) pc pending to newer =
+    ((rd ≡ 0) × ComputedMoves graph pc pending to newer)
+    ⊎ ((rd ≡ 1) × IsSiteTo graph.lines K.Call (pc - before_site graph.version K.Call) to × (newer ≡ (pc + 4) ∷ pending))
+Moves p graph code (Some other) pc pending to newer = (to ≡ pc + 4) × (newer ≡ pending)
+
+-- how an instruction at a pc may end: no handler runs on, and past the prologue the program may break or load
+-- where nothing is; no store and no fetch fails, and no word is illegal
+abbrev pub MayStop : Profile → ℕ → Turn → Type 0
+MayStop p pc Ran = START ≤ pc
+MayStop p pc (Exit status) = START ≤ pc
+MayStop p pc (Break at) = IsHandler pc ⊎ (p.units_from ≤ pc)
+MayStop p pc (LoadFault at a) = p.units_from ≤ pc
+MayStop p pc (StoreFault at a) = ⊥
+MayStop p pc (FetchFault at) = ⊥
+MayStop p pc (Illegal at) = ⊥
+
+-- the numbers of system calls: any, or those that the graph lists
+abbrev pub IsAllowed : Option (List ℕ) → ℕ → Type 0
+IsAllowed None number = Unit {0}
+IsAllowed (Some calls) number = IsTrue (is_listed number calls)
+
+-- an `ecall` stands past the prologue and its number is allowed, or it is the closing's, which exits
+abbrev pub MayEcall : Profile → GraphParts → Option Instr → ℕ → ℕ → Type 0
+MayEcall p graph (Some Ecall) pc number =
+    ((p.units_from ≤ pc) × IsAllowed (calls_in graph.lines) number) ⊎ ((pc ≡ p.closing + 4) × (number ≡ 93))
+MayEcall p graph other pc number = Unit {0}
+
+-- the instruction at each address of a memory
+abbrev pub fetched : Memory → ℕ → Option Instr
+fetched m a = decoded (read 4 m a)
+
+-- memory is as it was outside of data and of the slot for one more of so many pending calls in a hart's own
+-- part of the shadow stack
+abbrev pub WritesOwn : ℕ → ℕ → Memory → Memory → Type 0
+WritesOwn part n before after =
+    (a : ℕ) → DATA_END ≤ a → (a < slot part n) ⊎ ((slot part n + 8 ≤ a) ⊎ (part + PART_SIZE ≤ a)) → after a ≡ before a
+
+-- the return addresses of the pending calls of each hart
+abbrev pub Pending : Type 0
+Pending = ℕ → List ℕ
+
+abbrev pub with_pending : Pending → ℕ → List ℕ → Pending
+with_pending pending k newer = λ j. if j == k then newer else pending j
+
+-- the run from a state is confined, a step at a time
+abbrev pub ConfinedAlong : Profile → GraphParts → Pending → Harts → Shared → List HartStep → Type 0
+ConfinedAlong p graph pending harts s [] = Unit {0}
+ConfinedAlong p graph pending harts s (t ∷ rest) =
+    let h = harts t.hart in
+    let now = disturbed s t.changes in
+    let after = step p h now in
+    let code = fetched now.memory in
+    MayStop p h.pc after.turn
+    × MayEcall p graph (code h.pc) h.pc (h.regs 17)
+    × WritesOwn (part_of t.hart) (length (pending t.hart)) now.memory after.shared.memory
+    × OnRan after.turn
+    ((newer : List ℕ)
+    × (length newer ≤ MOST_PENDING)
+    × Moves p graph code (code h.pc) h.pc (pending t.hart) after.hart.pc newer
+    × ConfinedAlong p graph (with_pending pending t.hart newer) (with_hart harts t.hart after.hart) after.shared rest)
+    (Unit {0})
+
+-- confined: for every count of harts, every start with no call pending and every list of the harts' steps,
+-- between which data change
+abbrev pub IsConfined : Profile → Contents → GraphParts → Type 0
+IsConfined p image graph =
+    (count : ℕ) → MayRun p count → (harts : Harts) (s : Shared) → MayStart image count harts s → (steps : List HartStep) → AreStepsOf count steps
+    → ConfinedAlong p graph (λ k. []) harts s steps

@@ -1,0 +1,33 @@
+-- What holds of confined runs, and that what meets the rules is confined.
+use Rattle.std.specs.Prelude.{◌≡◌, ℕ, List, Some}
+use Rattle.rv_word.specs.Image.{Contents}
+use Rattle.rv_word.specs.MemoryMap.{IsProfile, MayRun, Profile}
+use Rattle.rv_word.specs.Memory.{loaded}
+use Rattle.rv_code.specs.Run.{HartStep, run}
+use Rattle.rv_code.specs.State.{Harts, Shared}
+use Rattle.cfi_graph.specs.Graph.{GraphParts, IsGraph, calls_in}
+use Rattle.cfi_unit.specs.Context.{IsCodeOf}
+use Rattle.cfi_rules.specs.Along.{AreStepsOf, MayStart}
+use Rattle.cfi_rules.specs.Laws.{AreBytes}
+use Rattle.cfi_rules.specs.Listed.{IsListed}
+use Rattle.cfi_rules.specs.Rules.{IsWellFormed}
+use Rattle.cfi_confined.specs.Confined.{IsConfined}
+
+-- what meets the rules is confined
+abbrev pub WellFormedIsConfined : Type 0
+WellFormedIsConfined =
+    (p : Profile) (image : Contents) (graph : GraphParts) → IsProfile p → AreBytes image → IsGraph graph → IsWellFormed p image graph →
+    IsConfined p image graph
+
+-- what is confined by a graph with a list of system calls makes no others
+abbrev pub ConfinedIsListed : Type 0
+ConfinedIsListed =
+    (p : Profile) (image : Contents) (graph : GraphParts) (calls : List ℕ) → calls_in graph.lines ≡ Some calls → IsConfined p image graph →
+    IsListed p image calls
+
+-- at the end of each run of what is confined, so at each moment of each run, the code in memory is the image's
+abbrev pub ConfinedKeepsCode : Type 0
+ConfinedKeepsCode =
+    (p : Profile) (image : Contents) (graph : GraphParts) (count : ℕ) (harts : Harts) (s : Shared) (steps : List HartStep) →
+    IsConfined p image graph → MayRun p count → MayStart image count harts s → AreStepsOf count steps →
+    IsCodeOf (loaded image) (run p harts s steps).shared.memory

@@ -1,0 +1,3 @@
+pub mod Confined
+pub mod Laws
+pub mod Unconfined

@@ -1,0 +1,51 @@
+-- Small pairs with one fault each, which are not confined: so it is not said of everything.
+use Rattle.std.specs.Prelude.{[], ◌∷◌}
+use Rattle.rv_word.specs.Image.{Contents}
+use Rattle.rv_word.specs.MemoryMap.{version_1, version_2}
+use Rattle.cfi_graph.specs.Graph.{GraphParts}
+use Rattle.cfi_graph.specs.declared.line.GraphLine.TheVariants.{Call, Class, Site}
+use Rattle.cfi_graph.specs.declared.line.SiteKind.TheVariants as K
+use Rattle.cfi_rules.specs.Unsafe.{astray_call, astray_call_graph, calling_opening, exiting_handler, graph_of, graph_with, handler_graph, high_pointer, image_with, one_pointer_graph, opening_graph, storing_opening}
+use Rattle.cfi_confined.specs.Confined.{IsConfined}
+
+-- a jump to the stop that follows it, whose graph has no edge
+abbrev pub unlisted_jump : Contents
+unlisted_jump = image_with (0x0040006f ∷ 0xfbdff06f ∷ [])
+
+abbrev pub unlisted_jump_graph : GraphParts
+unlisted_jump_graph = graph_with 0x48 []
+
+-- a branch over two words, whose graph has no edge either
+abbrev pub long_branch : Contents
+long_branch = image_with (0x00000663 ∷ 0x00000013 ∷ 0x00000013 ∷ 0xfb5ff06f ∷ [])
+
+abbrev pub long_branch_graph : GraphParts
+long_branch_graph = graph_with 0x50 []
+
+-- a stop alone, whose graph has no line for the opening's call
+abbrev pub unlisted_entry : Contents
+unlisted_entry = image_with (0xfc1ff06f ∷ [])
+
+abbrev pub unlisted_entry_graph : GraphParts
+unlisted_entry_graph = record { version = 1; code = 0x44; lines = [] }
+
+-- a call of the third word; from there a computed jump, which has a site line, to the second word, where that
+-- call would return to; and from there a return to the closing, though that call is still pending
+abbrev pub early_return : Contents
+early_return = image_with (0x008000ef ∷ 0xff408067 ∷ 0x00008067 ∷ [])
+
+abbrev pub early_return_graph : GraphParts
+early_return_graph = graph_of 0x4c (Class 1 (0x40000044 ∷ []) ∷ []) (Site 0x40000018 K.Jump 1 ∷ Call 0x40000024 0x40000048 ∷ [])
+
+-- transfers that go along no line, to no target of their class, or back to no newest call; a handler that exits;
+-- an opening that makes a system call, and such as write another slot, or another hart's part of the shadow stack
+pub record FaultsAreUnconfined : Type 0 where
+  pub jump : IsConfined version_1 unlisted_jump unlisted_jump_graph → ⊥
+  pub branch : IsConfined version_1 long_branch long_branch_graph → ⊥
+  pub entry : IsConfined version_1 unlisted_entry unlisted_entry_graph → ⊥
+  pub target : IsConfined version_1 astray_call astray_call_graph → ⊥
+  pub return : IsConfined version_1 early_return early_return_graph → ⊥
+  pub stop : IsConfined version_1 exiting_handler handler_graph → ⊥
+  pub call : IsConfined version_2 calling_opening one_pointer_graph → ⊥
+  pub slot : IsConfined version_1 high_pointer opening_graph → ⊥
+  pub part : IsConfined version_2 storing_opening one_pointer_graph → ⊥
