@@ -2,6 +2,7 @@
 use Rattle.std.specs.Prelude.{◌≡◌, ◌⊎◌, ℕ, List, Some, Result, Ok, Err}
 use Rattle.rv_word.specs.Image.{Contents, image_profile}
 use Rattle.cfi_graph.specs.Graph.{GraphParts, calls_in}
+use Rattle.cfi_confined.specs.Confined.{IsConfined}
 use Rattle.cfi_rules.specs.Along.{IsSafe}
 use Rattle.cfi_rules.specs.Listed.{IsListed}
 use Rattle.cfi_rules.specs.Rules.{IsWellFormed, IsRejected}
@@ -11,12 +12,13 @@ use Rattle.cfi_pair.specs.declared.judging.Verdict.TheVariants.{Accepted, Reject
 use Rattle.cfi_pair.specs.declared.opening.PairEnd.{PairEnd}
 use Rattle.cfi_pair.specs.declared.opening.PairEnd.TheVariants.{NoMemory}
 
--- accepted: the pair meets every rule, and is safe, and where the graph has a list of system calls the program makes no
--- others; rejected: by the first rule that fails
+-- accepted: the pair meets every rule, and is safe, where the graph has a list of system calls the program makes no others, and it is
+-- confined; rejected: by the first rule that fails
 abbrev pub IsJudgement : Contents → GraphParts → Verdict → Type 0
 IsJudgement image graph Accepted =
     IsWellFormed (image_profile image) image graph × IsSafe (image_profile image) image graph
     × ((calls : List ℕ) → calls_in graph.lines ≡ Some calls → IsListed (image_profile image) image calls)
+    × IsConfined (image_profile image) image graph
 IsJudgement image graph (Rejected reject) = IsRejected (image_profile image) image graph reject
 
 -- the texts spell a pair that has this judgement

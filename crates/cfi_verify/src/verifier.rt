@@ -3,6 +3,7 @@ ghost use Rattle.std.specs.Option.{option_copied};
 ghost use Rattle.rv_word.specs.Image.{image_profile};
 ghost use Rattle.rv_word.specs.MemoryMap.{profile_of};
 ghost use Rattle.cfi_graph.specs.Graph.{calls_in, is_rising};
+ghost use Rattle.cfi_confined.specs.Confined.{IsConfined};
 ghost use Rattle.cfi_rules.specs.Along.{IsSafe};
 ghost use Rattle.cfi_verify.specs.Answer.{IsCause};
 ghost use Rattle.cfi_rules.specs.Laws.{AreBytes};
@@ -16,6 +17,7 @@ ghost use Rattle.cfi_rules.specs.Split.{code_words, entry_of, is_handler, place_
 use crate::code::{are_small, unit_of};
 use crate::scan::Scan;
 use crate::starts::Starts;
+use cfi_confined::laws::well_formed_is_confined;
 use cfi_graph::Graph;
 use cfi_rules::laws::{well_formed_is_listed, well_formed_is_safe};
 use cfi_rules::{Asks, Reject};
@@ -86,6 +88,16 @@ impl<'a> Checked<'a> {
         ensures well_formed { IsWellFormed (image_profile self.now.image) self.now.image self.now.graph }
     {
         self.starts.graph()
+    }
+
+    /// Tells a proof that the pair is confined; nothing is computed.
+    pub fn is_confined(&self)
+        ensures { IsConfined (image_profile self.now.image) self.now.image self.now.graph }
+    {
+        are_bytes(self.image);
+        // Tells the proof that the pair meets the rules.
+        let _ = self.graph();
+        well_formed_is_confined();
     }
 
     /// Tells a proof that the pair is safe; nothing is computed.
@@ -209,6 +221,7 @@ pub fn verify<'a>(
     graph: &'a Graph,
 ) -> Result<Checked<'a>, VerifyEnd>
     ensures accepted { IfOk result (λ c. (c.image ≡ image.now) × (c.graph ≡ graph.now) × IsWellFormed (image_profile image.now) image.now graph.now) }
+    ensures confined { OnOk result (IsConfined (image_profile image.now) image.now graph.now) }
     ensures safe { OnOk result (IsSafe (image_profile image.now) image.now graph.now) }
     ensures listed { OnOk result ((calls : List ℕ) → calls_in graph.now.lines ≡ Some calls → IsListed (image_profile image.now) image.now calls) }
     ensures rejected { IfErr result (IsCause (image_profile image.now) image.now graph.now) }
@@ -219,6 +232,7 @@ pub fn verify<'a>(
     match scan.finish() {
         Err(reject) => Err(VerifyEnd::Reject(reject)),
         Ok(starts) => {
+            well_formed_is_confined();
             well_formed_is_listed();
             Ok(Checked { image, starts })
         }
