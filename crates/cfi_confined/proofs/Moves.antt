@@ -3,7 +3,7 @@
 use Rattle.std.proofs.Common.{◌≡◌, ℕ, ◌+◌, ◌-◌, ◌*◌, ◌/◌, ◌^◌, ◌<◌, ◌≤◌, ◌⊎◌, inl, inr, Bool, true, false, List, [], ◌∷◌, refl, sym, ap, subst, ◌∙◌, Option, Some, None, arith}
 use Rattle.std.specs.Prelude.{option_map, slice_get}
 use Rattle.std.specs.List.{Contains}
-use Rattle.std.proofs.lemmas.Bool.{cases_eq, cond_both, eq-eqb, ne_eqb}
+use Rattle.std.proofs.lemmas.Bool.{cond_both, eq-eqb, ne_eqb}
 use Rattle.std.proofs.lemmas.Option.{none-some, same_Some}
 use Rattle.rv_word.specs.Bits.{wrap}
 use Rattle.rv_word.specs.Image.{Contents}
@@ -48,7 +48,7 @@ use Rattle.cfi_rules.proofs.Moves.{InBody, SitesStand, Stage, arrive, labelled, 
 use Rattle.cfi_rules.proofs.Places.{PlaceFacts, at_start, at_unit, nothing_inside, place_facts}
 use Rattle.cfi_rules.proofs.RuleFacts.{call_starts}
 use Rattle.cfi_rules.proofs.Safety.{first_call}
-use Rattle.cfi_confined.specs.Confined.{ComputedMoves, IsSiteTo, Moves, before_site, call_line}
+use Rattle.cfi_confined.specs.Confined.{ComputedMoves, IsSiteTo, LeadsOver, Moves, before_site, call_line}
 use Rattle.cfi_confined.proofs.Lines.{call_listed, edge_listed, no_site, site_to}
 use Rattle.cfi_confined.proofs.Words.{AreNewest, BranchFact, CallFact, ComputedFact, Fact, JumpFact, Keeps, Kept}
 
@@ -339,12 +339,12 @@ module _ (p : Profile) (profile : IsProfile p) (image : Contents) (graph : Graph
     jumped imm v to e (inl low) went =
         let start = low.0 in let end = low.1 in
         inl (refl, inl (omega arith, omega arith), low_sites at pending r newer v (omega arith) place is stage went)
-    jumped imm v to e (inr (few, edge, keeps)) went =
-        let same = keeping at pending r newer v place keeps went in
-        elim (cases_eq k 0) [
-          | inl first ↦ inl (refl, inr (inl (same_edge v to e h.pc (omega arith) edge)), same)
-          | inr second ↦ inl (refl, inr (inr (same_edge v to e (h.pc - 4) (omega arith) edge)), same)
-        ]
+    jumped imm v to e (inr (inl first, edge, keeps)) went =
+        inl (refl, inr (inl (same_edge v to e h.pc (omega arith) edge)), keeping at pending r newer v place keeps went)
+    jumped imm v to e (inr (inr (second, branch, is, over), edge, keeps)) went =
+        let before : h.pc - 4 ≡ at + 4 * 0 = omega arith in
+        let leads : LeadsOver (code (h.pc - 4)) = subst LeadsOver (sym (ap code before ∙ stands 0 branch is)) over in
+        inl (refl, inr (inr (leads, same_edge v to e (h.pc - 4) (omega arith) edge)), keeping at pending r newer v place keeps went)
 
     pub moves : (i : Instr) → Fact p part (loaded image) at pending r h place k i → (exec p i h s).turn ≡ Ran → WentTo (exec p i h s).hart.pc →
         Moved i (exec p i h s).hart.pc

@@ -64,13 +64,19 @@ IsSkip version code pc to = (to ≡ pc + 4) ⊎ ((to ≡ pc + 8) ⊎ ((pc < to) 
 abbrev pub IsHandler : ℕ → Type 0
 IsHandler a = (CODE_START ≤ a) × (a < START)
 
+-- the instruction is a branch over the next one: its field counts in multiples of two bytes
+abbrev pub LeadsOver : Option Instr → Type 0
+LeadsOver (Some (Branch op rs1 rs2 imm)) = imm ≡ 4
+LeadsOver other = ⊥
+
 -- where an instruction at a pc may lead, and the return addresses of the calls pending there, the newest
--- first: a branch and a `jal x0`
+-- first. A `jal x0` goes by its own edge, or by that of the branch over it
 abbrev pub BranchMoves : GraphParts → (ℕ → Option Instr) → ℕ → ℕ → Type 0
 BranchMoves graph code pc to = IsSkip graph.version code pc to ⊎ Contains graph.lines (Edge pc to)
 
-abbrev pub JumpMoves : GraphParts → ℕ → ℕ → Type 0
-JumpMoves graph pc to = IsHandler to ⊎ (Contains graph.lines (Edge pc to) ⊎ Contains graph.lines (Edge (pc - 4) to))
+abbrev pub JumpMoves : GraphParts → (ℕ → Option Instr) → ℕ → ℕ → Type 0
+JumpMoves graph code pc to =
+    IsHandler to ⊎ (Contains graph.lines (Edge pc to) ⊎ (LeadsOver (code (pc - 4)) × Contains graph.lines (Edge (pc - 4) to)))
 
 -- a `jalr x0` is a jump where the graph has a site line for it, and a return where it has none
 abbrev pub ComputedMoves : GraphParts → ℕ → List ℕ → ℕ → List ℕ → Type 0
@@ -83,7 +89,7 @@ abbrev pub Moves : Profile → GraphParts → (ℕ → Option Instr) → Option 
 Moves p graph code None pc pending to newer = ⊥
 Moves p graph code (Some (Branch op rs1 rs2 imm)) pc pending to newer = BranchMoves graph code pc to × (newer ≡ pending)
 Moves p graph code (Some (Jal rd imm)) pc pending to newer =
-    ((rd ≡ 0) × JumpMoves graph pc to × (newer ≡ pending))
+    ((rd ≡ 0) × JumpMoves graph code pc to × (newer ≡ pending))
     ⊎ ((rd ≡ 1) × Contains graph.lines (Call (call_line p graph.version pc) to) × (newer ≡ (pc + 4) ∷ pending))
 Moves p graph code (Some (Jalr rd rs1 imm)) pc pending to newer =
     ((rd ≡ 0) × ComputedMoves graph pc pending to newer)
