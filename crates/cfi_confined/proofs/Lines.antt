@@ -1,6 +1,6 @@
 -- Lines that the rules give: each transfer of a well-formed image has its line, and no site line stands
 -- shortly before a unit.
-use Rattle.std.proofs.Common.{◌≡◌, ℕ, suc, ◌+◌, ◌<◌, ◌⊎◌, inl, inr, true, List, [], ◌∷◌, refl, sym, ap, subst, ◌∙◌, Option, Some, arith}
+use Rattle.std.proofs.Common.{◌≡◌, ℕ, suc, ◌+◌, ◌<◌, ◌⊎◌, inl, inr, Bool, true, false, List, [], ◌∷◌, refl, sym, ap, subst, ◌∙◌, Option, Some, None, arith}
 use Rattle.std.specs.Prelude.{◌==◌, ◌&&◌, not, is_some, option_and_then}
 use Rattle.std.specs.List.{Contains}
 use Rattle.std.proofs.lemmas.Bool.{and_parts, cases_eq, eqb-true, ne_eqb, or_parts, false≢true}
@@ -87,14 +87,23 @@ among_is v (t ∷ ts) e =
       | inr other ↦ later v t ts (among_is v ts (rw (ne_eqb t v other) at e))
     ]
 
--- lines of their sorts
-edge_is : (o : Option GraphLine) (t : ℕ) → is_edge_to o t ≡ true → (from : ℕ) × (o ≡ Some (Edge from t))
-edge_is (Some (Edge from to)) t e = (from, ap (λ x. Some (Edge from x)) (eqb-true to t e))
-edge_is other t e = absurd (cc)
+-- what stands at an address and meets a test that nothing meets where no line stands
+listed_by : (lines : List GraphLine) (a : ℕ) (test : Option GraphLine → Bool) → test None ≡ false → test (line_at lines a) ≡ true →
+    (line : GraphLine) × Contains lines line × (stands_at a line ≡ true) × (test (Some line) ≡ true)
+listed_by lines a test none meets =
+    elim (cases_Option (line_at lines a)) [
+      | inl nothing ↦ absurd (false≢true (sym none ∙ sym (ap test nothing) ∙ meets))
+      | inr (line, some) ↦ let there = line_found lines a line some in (line, there.0, there.1, sym (ap test some) ∙ meets)
+    ]
 
-call_is : (o : Option GraphLine) (t : ℕ) → is_call_to o t ≡ true → (from : ℕ) × (o ≡ Some (Call from t))
-call_is (Some (Call from to)) t e = (from, ap (λ x. Some (Call from x)) (eqb-true to t e))
-call_is other t e = absurd (cc)
+-- it is an edge, a call or a site of just this address
+edge_is : (a : ℕ) (line : GraphLine) (t : ℕ) → stands_at a line ≡ true → is_edge_to (Some line) t ≡ true → line ≡ Edge a t
+edge_is a (Edge from to) t at e = ap (λ x. Edge x to) (eqb-true from a at) ∙ ap (Edge a) (eqb-true to t e)
+edge_is a other t at e = absurd (cc)
+
+call_is : (a : ℕ) (line : GraphLine) (t : ℕ) → stands_at a line ≡ true → is_call_to (Some line) t ≡ true → line ≡ Call a t
+call_is a (Call from to) t at e = ap (λ x. Call x to) (eqb-true from a at) ∙ ap (Call a) (eqb-true to t e)
+call_is a other t at e = absurd (cc)
 
 kinds_same : (k l : SiteKind) → same_kind k l ≡ true → k ≡ l
 kinds_same K.Call K.Call e = refl
@@ -102,11 +111,12 @@ kinds_same K.Jump K.Jump e = refl
 kinds_same K.Call K.Jump e = absurd (cc)
 kinds_same K.Jump K.Call e = absurd (cc)
 
-site_is : (o : Option GraphLine) (asked : Asks) → is_site_with o asked ≡ true → (a : ℕ) × (o ≡ Some (Site a asked.kind asked.label))
-site_is (Some (Site a kind label)) asked e =
+site_is : (a : ℕ) (line : GraphLine) (asked : Asks) → stands_at a line ≡ true → is_site_with (Some line) asked ≡ true → line ≡ Site a asked.kind asked.label
+site_is a (Site address kind label) asked at e =
     let parts = and_parts (same_kind kind asked.kind) (label == asked.label) e in
-    (a, ap (λ k. Some (Site a k label)) (kinds_same kind asked.kind parts.0) ∙ ap (λ l. Some (Site a asked.kind l)) (eqb-true label asked.label parts.1))
-site_is other asked e = absurd (cc)
+    ap (λ x. Site x kind label) (eqb-true address a at) ∙ ap (λ k. Site a k label) (kinds_same kind asked.kind parts.0)
+    ∙ ap (Site a asked.kind) (eqb-true label asked.label parts.1)
+site_is a other asked at e = absurd (cc)
 
 -- the line of a class that serves a transfer
 serving_line : (lines : List GraphLine) (sort : Sort) (kind : SiteKind) (which : TargetWord) (label : ℕ) (ts : List ℕ) → serves sort kind which ≡ true →
@@ -128,33 +138,37 @@ module _ (p : Profile) (profile : IsProfile p) (image : Contents) (graph : Graph
   abbrev W : List ℕ
   W = code_words image.code
 
+  -- what the rules say of an address
+  transfers_listed : (a : ℕ) →
+      (holds_of (option_and_then edge_of (place_at p W a)) (λ target. not (is_edge_to (line_at graph.lines a) target)) ≡ false)
+      × (holds_of (option_and_then call_of (place_at p W a)) (λ target. not (is_call_to (line_at graph.lines a) target)) ≡ false)
+  transfers_listed a = or_parts _ _ (formed.rules R.Unlisted a)
+
+  sites_listed : (a : ℕ) →
+      (holds_of (option_and_then site_of (place_at p W a))
+      (λ (s : Asks). not (is_site_with (line_at graph.lines a) s && is_some (targets_for graph.lines s.kind s.which s.label))) ≡ false)
+      × (holds_of (line_at graph.lines a) (is_lone_site (place_at p W a)) ≡ false)
+  sites_listed a = or_parts _ _ (formed.rules R.Site a)
+
   module _ (a : ℕ) (place : Place) (here : place_at p W a ≡ Some place) where
     pub edge_listed : (t : ℕ) → edge_of place ≡ Some t → Contains graph.lines (Edge a t)
     edge_listed t edge =
-        let rule = (or_parts (holds_of (option_and_then edge_of (place_at p W a)) (λ target. not (is_edge_to (line_at graph.lines a) target)))
-        (holds_of (option_and_then call_of (place_at p W a)) (λ target. not (is_call_to (line_at graph.lines a) target))) (formed.rules R.Unlisted a)).0 in
-        let (from, is) = edge_is (line_at graph.lines a) t (not_false (is_edge_to (line_at graph.lines a) t) (rw (here, edge) at rule)) in
-        let found = line_found graph.lines a (Edge from t) is in
-        subst (λ (x : ℕ). Contains graph.lines (Edge x t)) (eqb-true from a found.1) found.0
+        let rule = (transfers_listed a).0 in
+        let (line, there, at, is) = listed_by graph.lines a (λ o. is_edge_to o t) refl (not_false (is_edge_to (line_at graph.lines a) t) (rw (here, edge) at rule)) in
+        subst (Contains graph.lines) (edge_is a line t at is) there
 
     pub call_listed : (t : ℕ) → call_of place ≡ Some t → Contains graph.lines (Call a t)
     call_listed t call =
-        let rule = (or_parts (holds_of (option_and_then edge_of (place_at p W a)) (λ target. not (is_edge_to (line_at graph.lines a) target)))
-        (holds_of (option_and_then call_of (place_at p W a)) (λ target. not (is_call_to (line_at graph.lines a) target))) (formed.rules R.Unlisted a)).1 in
-        let (from, is) = call_is (line_at graph.lines a) t (not_false (is_call_to (line_at graph.lines a) t) (rw (here, call) at rule)) in
-        let found = line_found graph.lines a (Call from t) is in
-        subst (λ (x : ℕ). Contains graph.lines (Call x t)) (eqb-true from a found.1) found.0
+        let rule = (transfers_listed a).1 in
+        let (line, there, at, is) = listed_by graph.lines a (λ o. is_call_to o t) refl (not_false (is_call_to (line_at graph.lines a) t) (rw (here, call) at rule)) in
+        subst (Contains graph.lines) (call_is a line t at is) there
 
     -- a computed transfer to a target of its class
     pub site_to : (asked : Asks) (v : ℕ) → site_of place ≡ Some asked → InClass graph.lines asked.kind asked.which asked.label v → IsSiteTo graph.lines asked.kind a v
     site_to asked v site inside =
-        let rule = (or_parts (holds_of (option_and_then site_of (place_at p W a))
-        (λ (s : Asks). not (is_site_with (line_at graph.lines a) s && is_some (targets_for graph.lines s.kind s.which s.label))))
-        (holds_of (line_at graph.lines a) (is_lone_site (place_at p W a))) (formed.rules R.Site a)).0 in
+        let rule = (sites_listed a).0 in
         let both = not_false (is_site_with (line_at graph.lines a) asked && is_some (targets_for graph.lines asked.kind asked.which asked.label)) (rw (here, site) at rule) in
-        let (from, is) = site_is (line_at graph.lines a) asked
-        (and_parts (is_site_with (line_at graph.lines a) asked) (is_some (targets_for graph.lines asked.kind asked.which asked.label)) both).0 in
-        let found = line_found graph.lines a (Site from asked.kind asked.label) is in
+        let (line_a, there_a, at, is) = listed_by graph.lines a (λ o. is_site_with o asked) refl (and_parts _ _ both).0 in
         let (ts, class, among) = class_parts p profile image graph bytes formed asked.kind asked.which asked.label v inside in
         let s = served graph.lines asked.kind asked.which asked.label ts class in
         let there = class_found graph.lines asked.label s.class s.is in
@@ -164,7 +178,7 @@ module _ (p : Profile) (profile : IsProfile p) (image : Contents) (graph : Graph
         record {
           label = asked.label;
           targets = ts;
-          listed = subst (λ (x : ℕ). Contains graph.lines (Site x asked.kind asked.label)) (eqb-true from a found.1) found.0;
+          listed = subst (Contains graph.lines) (site_is a line_a asked at is) there_a;
           class = serving_line graph.lines s.class.sort asked.kind asked.which asked.label ts s.serving line;
           target = among_is v ts among;
         }
@@ -174,9 +188,7 @@ module _ (p : Profile) (profile : IsProfile p) (image : Contents) (graph : Graph
   no_site ordered a b u here low high kind label (k, within, is) =
       let there = line_at-with graph.lines a
       ∙ with_key graph.lines (Address a) ordered.order k (Site a kind label) (slice_get-get_or graph.lines k (Site a kind label) within ∙ ap Some is) refl in
-      let rule = (or_parts (holds_of (option_and_then site_of (place_at p W a))
-      (λ (s : Asks). not (is_site_with (line_at graph.lines a) s && is_some (targets_for graph.lines s.kind s.which s.label))))
-      (holds_of (line_at graph.lines a) (is_lone_site (place_at p W a))) (formed.rules R.Site a)).1 in
+      let rule = (sites_listed a).1 in
       let site : is_some (option_and_then site_of (place_at p W a)) ≡ true =
       not_false _ (sym (ap (λ o. holds_of o (is_lone_site (place_at p W a))) there) ∙ rule) in
       elim (cases_Option (place_at p W a)) [

@@ -3,7 +3,7 @@
 use Rattle.std.proofs.Common.{◌≡◌, ℕ, ◌+◌, ◌-◌, ◌*◌, ◌/◌, ◌^◌, ◌<◌, ◌≤◌, ◌⊎◌, inl, inr, Bool, true, false, List, [], ◌∷◌, refl, sym, ap, subst, ◌∙◌, Option, Some, None, arith}
 use Rattle.std.specs.Prelude.{option_map, slice_get}
 use Rattle.std.specs.List.{Contains}
-use Rattle.std.proofs.lemmas.Bool.{cases_eq, cond_both, eq-eqb, ne_eqb}
+use Rattle.std.proofs.lemmas.Bool.{cond_both, eq-eqb, ne_eqb}
 use Rattle.std.proofs.lemmas.Option.{none-some, same_Some}
 use Rattle.rv_word.specs.Bits.{wrap}
 use Rattle.rv_word.specs.Image.{Contents}
@@ -33,13 +33,13 @@ use Rattle.cfi_unit.specs.declared.unit.Unit as U
 use Rattle.cfi_unit.specs.declared.unit.Unit.TheVariants as V
 use Rattle.cfi_unit.specs.Flow as F
 use Rattle.cfi_unit.specs.Flow.{Exit, Flow, Sites, Test, flow_of}
-use Rattle.cfi_unit.specs.Leads.{ExitLeads, FlowLeads, HasLabel, Leads, Returns, destination}
+use Rattle.cfi_unit.specs.Leads.{Calls, ExitLeads, FlowLeads, HasLabel, Leads, Returns, destination}
 use Rattle.cfi_unit.specs.Place.{place_instrs}
 use Rattle.cfi_unit.specs.UnitWords.{after_unit}
 use Rattle.cfi_unit.proofs.ComputedUnits.{arrives}
 use Rattle.cfi_unit.proofs.Flows.{Suits, TestFits, is_untested, suits, test_fits, untested, direct_call, guarded_call, computed_jump, computed_call, turned_back}
 use Rattle.cfi_rules.specs.Laws.{AreBytes}
-use Rattle.cfi_rules.specs.Rules.{IsWellFormed, asked_by, asks, call_by, edge_of}
+use Rattle.cfi_rules.specs.Rules.{IsWellFormed, asked_by, asks, call_by, call_of, edge_of}
 use Rattle.cfi_rules.specs.Split.{code_words, place_at}
 use Rattle.cfi_rules.specs.Walk.{InClass}
 use Rattle.cfi_rules.specs.declared.asks.Asks.{Asks}
@@ -48,7 +48,7 @@ use Rattle.cfi_rules.proofs.Moves.{InBody, SitesStand, Stage, arrive, labelled, 
 use Rattle.cfi_rules.proofs.Places.{PlaceFacts, at_start, at_unit, nothing_inside, place_facts}
 use Rattle.cfi_rules.proofs.RuleFacts.{call_starts}
 use Rattle.cfi_rules.proofs.Safety.{first_call}
-use Rattle.cfi_confined.specs.Confined.{ComputedMoves, IsSiteTo, Moves, before_site, call_line}
+use Rattle.cfi_confined.specs.Confined.{ComputedMoves, IsSiteTo, LeadsOver, Moves, before_site, call_line}
 use Rattle.cfi_confined.proofs.Lines.{call_listed, edge_listed, no_site, site_to}
 use Rattle.cfi_confined.proofs.Words.{AreNewest, BranchFact, CallFact, ComputedFact, Fact, JumpFact, Keeps, Kept}
 
@@ -203,43 +203,40 @@ module _ (p : Profile) (profile : IsProfile p) (image : Contents) (graph : Graph
     leads_to place there some (inl went) = absurd (none-some there (sym went.0 ∙ some))
     leads_to place there some (inr leads) = leads
 
-    -- a `jal x1` goes by its line, and puts the address after it on top
-    call_moves : (part : ℕ) (h : Hart) (place : Place) → place_at p W at ≡ Some place → StageAt place → (k to : ℕ) → h.pc ≡ at + 4 * k → v ≡ to →
-        CallFact p part (loaded image) at pending r h place k to → Went place → Contains graph.lines (Call (call_line p graph.version h.pc) v) × (newer ≡ (h.pc + 4) ∷ pending)
-    call_moves part h (opening entry) is stage k to here e fact went =
+    -- a call that is done goes to its target, and puts its site on top
+    called_there : (place : Place) → place_at p W at ≡ Some place → (target site : ℕ) → call_of place ≡ Some target → target ≡ v →
+        (Leads p (loaded image) place at pending r newer v → Calls site pending newer v target) → Went place → Contains graph.lines (Call at v) × (newer ≡ site ∷ pending)
+    called_there place is target site call same calls went =
         let layout = laid_out p profile in
-        let start = call_starts p image graph formed at (opening entry) entry is refl in
-        let facts = place_facts p profile image graph bytes formed at (opening entry) is in
-        let same : entry ≡ v = fact.0 ∙ sym e in
-        let there = at_start p profile image graph bytes formed entry start in
-        let high = there.1.low in
-        let line : Contains graph.lines (Call (call_line p graph.version h.pc) v) =
-        rw (eq-eqb h.pc p.opening_call (here ∙ fact.1)) (subst (λ (a : ℕ). Contains graph.lines (Call a v)) facts.0
-        (subst (λ (t : ℕ). Contains graph.lines (Call at t)) same (call_listed p profile image graph bytes formed at (opening entry) is entry refl))) in
-        elim (leads_to (opening entry) (body there.0) (ap (place_at p W) (sym same) ∙ there.2) went) [
-          | inl l ↦ (line, l.1 ∙ ap (λ a. a ∷ pending) (let z : p.closing ≡ h.pc + 4 = let opening_call = fact.1 in omega arith in z))
+        let (unit, here, there) = at_start p profile image graph bytes formed target (call_starts p image graph formed at place target is call) in
+        let high = here.low in
+        elim (calls (leads_to place (body unit) (ap (place_at p W) (sym same) ∙ there) went)) [
+          | inl l ↦ (subst (λ (t : ℕ). Contains graph.lines (Call at t)) same (call_listed p profile image graph bytes formed at place is target call), l.1)
           | inr l ↦ let deep = l.2 in absurd (omega arith)
         ]
-    call_moves part h (body (V.Call target)) is stage k to here e fact went =
+
+    -- so a `jal x1` goes by its line, and puts the address after it on top
+    call_moves : (part : ℕ) (h : Hart) (place : Place) → place_at p W at ≡ Some place → (k to : ℕ) → h.pc ≡ at + 4 * k → v ≡ to →
+        CallFact p part (loaded image) at pending r h place k to → Went place → Contains graph.lines (Call (call_line p graph.version h.pc) v) × (newer ≡ (h.pc + 4) ∷ pending)
+    call_moves part h (opening entry) is k to here e fact went =
         let layout = laid_out p profile in
-        let start = call_starts p image graph formed at (body (V.Call target)) target is refl in
+        let facts = place_facts p profile image graph bytes formed at (opening entry) is in
+        let word = fact.1 in
+        let next : p.closing ≡ h.pc + 4 = omega arith in
+        let c = called_there (opening entry) is entry p.closing refl (fact.0 ∙ sym e) (λ l. l) went in
+        (rw (eq-eqb h.pc p.opening_call (omega arith)) (subst (λ (a : ℕ). Contains graph.lines (Call a v)) facts.0 c.0), c.1 ∙ ap (λ a. a ∷ pending) next)
+    call_moves part h (body (V.Call target)) is k to here e fact went =
+        let layout = laid_out p profile in
         let facts = place_facts p profile image graph bytes formed at (body (V.Call target)) is in
         let low = facts.low in
         let word = fact.1 in
-        let same : target ≡ v = fact.0 ∙ sym e in
-        let there = at_start p profile image graph bytes formed target start in
-        let high = there.1.low in
         let before : at ≡ h.pc - 28 = omega arith in
-        let line : Contains graph.lines (Call (call_line p graph.version h.pc) v) =
-        rw (ne_eqb h.pc p.opening_call (λ e. omega arith)) (subst (λ (a : ℕ). Contains graph.lines (Call a v)) before
-        (subst (λ (t : ℕ). Contains graph.lines (Call at t)) same (call_listed p profile image graph bytes formed at (body (V.Call target)) is target refl))) in
-        elim (leads_to (body (V.Call target)) (body there.0) (ap (place_at p W) (sym same) ∙ there.2) went) [
-          | inl l ↦ (line, l.1 ∙ ap (λ a. a ∷ pending) (let z : at + 32 ≡ h.pc + 4 = omega arith in z))
-          | inr l ↦ let deep = l.2 in absurd (omega arith)
-        ]
-    call_moves part h (body other) is stage k to here e fact went = absurd fact
-    call_moves part h handler is stage k to here e fact went = absurd fact
-    call_moves part h closing is stage k to here e fact went = absurd fact
+        let next : at + 32 ≡ h.pc + 4 = omega arith in
+        let c = called_there (body (V.Call target)) is target (at + 32) refl (fact.0 ∙ sym e) (λ l. l) went in
+        (rw (ne_eqb h.pc p.opening_call (λ e. omega arith)) (subst (λ (a : ℕ). Contains graph.lines (Call a v)) before c.0), c.1 ∙ ap (λ a. a ∷ pending) next)
+    call_moves part h (body other) is k to here e fact went = absurd fact
+    call_moves part h handler is k to here e fact went = absurd fact
+    call_moves part h closing is k to here e fact went = absurd fact
 
     -- a return goes to the newest site, and takes it off
     return_moves : (h : Hart) → place_at p W at ≡ Some (body V.Return) → StageAt (body V.Return) → IsGraph graph → h.pc ≡ at + 16 → v ≡ address h 31 0 / 2 * 2 →
@@ -339,12 +336,12 @@ module _ (p : Profile) (profile : IsProfile p) (image : Contents) (graph : Graph
     jumped imm v to e (inl low) went =
         let start = low.0 in let end = low.1 in
         inl (refl, inl (omega arith, omega arith), low_sites at pending r newer v (omega arith) place is stage went)
-    jumped imm v to e (inr (few, edge, keeps)) went =
-        let same = keeping at pending r newer v place keeps went in
-        elim (cases_eq k 0) [
-          | inl first ↦ inl (refl, inr (inl (same_edge v to e h.pc (omega arith) edge)), same)
-          | inr second ↦ inl (refl, inr (inr (same_edge v to e (h.pc - 4) (omega arith) edge)), same)
-        ]
+    jumped imm v to e (inr (inl first, edge, keeps)) went =
+        inl (refl, inr (inl (same_edge v to e h.pc (omega arith) edge)), keeping at pending r newer v place keeps went)
+    jumped imm v to e (inr (inr (second, branch, is, over), edge, keeps)) went =
+        let before : h.pc - 4 ≡ at + 4 * 0 = omega arith in
+        let leads : LeadsOver (code (h.pc - 4)) = subst LeadsOver (sym (ap code before ∙ stands 0 branch is)) over in
+        inl (refl, inr (inr (leads, same_edge v to e (h.pc - 4) (omega arith) edge)), keeping at pending r newer v place keeps went)
 
     pub moves : (i : Instr) → Fact p part (loaded image) at pending r h place k i → (exec p i h s).turn ≡ Ran → WentTo (exec p i h s).hart.pc →
         Moved i (exec p i h s).hart.pc
@@ -356,7 +353,7 @@ module _ (p : Profile) (profile : IsProfile p) (image : Contents) (graph : Graph
         subst (λ (d : ℕ). Moved (Jal d imm) (wrap (h.pc + offset 21 (imm * 2)))) (sym fact.0)
         (jumped imm (wrap (h.pc + offset 21 (imm * 2))) (wrap (at + 4 * k + offset 21 (imm * 2))) (ap (λ a. wrap (a + offset 21 (imm * 2))) here) fact.1 went)
     moves (Jal rd imm) (inr fact) ran went =
-        let called = call_moves at pending r newer (wrap (h.pc + offset 21 (imm * 2))) part h place is stage k (wrap (at + 4 * k + offset 21 (imm * 2))) here
+        let called = call_moves at pending r newer (wrap (h.pc + offset 21 (imm * 2))) part h place is k (wrap (at + 4 * k + offset 21 (imm * 2))) here
         (ap (λ a. wrap (a + offset 21 (imm * 2))) here) fact.1 went in
         inr (fact.0, called.0, called.1)
     moves (Jalr rd rs1 imm) fact ran went =

@@ -22,14 +22,14 @@ use Rattle.cfi_graph.specs.declared.line.SiteKind.{SiteKind}
 use Rattle.cfi_graph.specs.declared.line.SiteKind.TheVariants as K
 use Rattle.cfi_unit.specs.UnitWords.{words_of}
 use Rattle.cfi_rules.specs.Along.{OnRan}
-use Rattle.cfi_rules.specs.Unsafe.{astray_call, astray_call_graph, calling_opening, exiting_handler, handler_graph, high_pointer, one_pointer_graph, opening_graph, storing_opening}
+use Rattle.cfi_rules.specs.Unsafe.{astray_call, astray_call_graph, breaking_closing, breaking_closing_graph, calling_opening, handler_graph, high_pointer, illegal_handler, loading_handler, one_pointer_graph, opening_graph, storing_handler, storing_opening}
 use Rattle.cfi_rules.proofs.Arrivals.{after_calm, calm_and, is_ran, ran_of}
 use Rattle.cfi_rules.proofs.OnRan.{on_ran}
 use Rattle.cfi_rules.proofs.OneHart.{may_come, one_may_run, steps_of}
 use Rattle.cfi_rules.proofs.Starts.{machine_may_start}
 use Rattle.cfi_rules.proofs.Unsafe.{calm_is_data}
 use Rattle.cfi_confined.specs.Confined.{ConfinedAlong, IsConfined, MayEcall, MayStop, Moves, Pending, WritesOwn, fetched, with_pending}
-use Rattle.cfi_confined.specs.Unconfined.{FaultsAreUnconfined, early_return, early_return_graph, long_branch, long_branch_graph, unlisted_entry, unlisted_entry_graph, unlisted_jump, unlisted_jump_graph}
+use Rattle.cfi_confined.specs.Unconfined.{FaultsAreUnconfined, borrowed_edge, borrowed_edge_graph, running_handler, early_return, early_return_graph, long_branch, long_branch_graph, unlisted_entry, unlisted_entry_graph, unlisted_jump, unlisted_jump_graph}
 
 -- no call and no return
 abbrev is_keeping : Option Instr → Bool
@@ -152,7 +152,7 @@ jump_unconfined confined =
     elim c.1.3.1 [
       | inl (zero_is, inl low, same) ↦ let end = low.1 in omega arith
       | inl (zero_is, inr (inl edge), same) ↦ no_edge _ _ _ _ edge
-      | inl (zero_is, inr (inr edge), same) ↦ no_edge _ _ _ _ edge
+      | inl (zero_is, inr (inr edge), same) ↦ no_edge _ _ _ _ edge.1
       | inr (one_is, line, new) ↦ differ refl one_is
     ]
 
@@ -235,12 +235,46 @@ return_unconfined confined =
       ]
     ]
 
-stop_unconfined : IsConfined version_1 exiting_handler handler_graph → ⊥
+-- the lines of the borrowed edge have one edge
+other_edge : (a b : ℕ) → (a == 0x40000040) ≡ false → Contains borrowed_edge_graph.lines (Edge a b) → ⊥
+other_edge a b other (zero, below, is) = absurd (cc)
+other_edge a b other (suc zero, below, is) = differ other (let same : 0x40000040 ≡ a = cc in sym same)
+other_edge a b other (suc (suc k), below, is) = absurd (omega arith)
+
+borrowed_unconfined : IsConfined version_1 borrowed_edge borrowed_edge_graph → ⊥
 unfolding loaded placed decoded code_of step write last_exit after_calm is_ran all_keep
-stop_unconfined confined =
-    let c = called exiting_handler handler_graph 2 1 confined refl refl refl in
-    let stop = c.1.0 in
-    omega arith
+borrowed_unconfined confined =
+    let c = called borrowed_edge borrowed_edge_graph 1 1 confined refl refl refl in
+    elim c.1.3.1 [
+      | inl (zero_is, inl low, same) ↦ let end = low.1 in omega arith
+      | inl (zero_is, inr (inl edge), same) ↦ other_edge _ _ refl edge
+      | inl (zero_is, inr (inr (over, edge)), same) ↦ differ refl over
+      | inr (one_is, line, new) ↦ differ refl one_is
+    ]
+
+-- a handler stands twelve steps on
+run_unconfined : IsConfined version_1 running_handler handler_graph → ⊥
+unfolding loaded placed decoded code_of step write last_exit after_calm is_ran all_keep
+run_unconfined confined = let c = called running_handler handler_graph 2 1 confined refl refl refl in let low = c.1.0 in omega arith
+
+load_fault_unconfined : IsConfined version_1 loading_handler handler_graph → ⊥
+unfolding loaded placed decoded code_of step write last_exit after_calm is_ran all_keep
+load_fault_unconfined confined = let c = called loading_handler handler_graph 2 1 confined refl refl refl in let low = c.1.0 in omega arith
+
+store_fault_unconfined : IsConfined version_1 storing_handler handler_graph → ⊥
+unfolding loaded placed decoded code_of step write last_exit after_calm is_ran all_keep
+store_fault_unconfined confined = (called storing_handler handler_graph 2 1 confined refl refl refl).1.0
+
+illegal_unconfined : IsConfined version_1 illegal_handler handler_graph → ⊥
+unfolding loaded placed decoded code_of step write last_exit after_calm is_ran all_keep
+illegal_unconfined confined = (called illegal_handler handler_graph 2 1 confined refl refl refl).1.0
+
+-- a return comes before it
+break_unconfined : IsConfined version_1 breaking_closing breaking_closing_graph → ⊥
+unfolding loaded placed decoded code_of step write last_exit after_calm is_ran all_keep
+break_unconfined confined =
+    let c = called breaking_closing breaking_closing_graph 3 3 confined refl refl refl in
+    elim c.1.3.2.3.2.0 [ inl low ↦ let end = low.1 in omega arith | inr past ↦ omega arith ]
 
 call_unconfined : IsConfined version_2 calling_opening one_pointer_graph → ⊥
 unfolding loaded placed decoded code_of step write last_exit after_calm is_ran all_keep
@@ -260,11 +294,18 @@ part_unconfined confined = let c = several storing_opening one_pointer_graph 8 c
 pub faults_unconfined : FaultsAreUnconfined
 faults_unconfined = record {
   jump = jump_unconfined;
+  borrowed = borrowed_unconfined;
   branch = branch_unconfined;
   entry = entry_unconfined;
   target = target_unconfined;
   return = return_unconfined;
-  stop = stop_unconfined;
+  stops = record {
+    run = run_unconfined;
+    load_fault = load_fault_unconfined;
+    store_fault = store_fault_unconfined;
+    illegal = illegal_unconfined;
+    break = break_unconfined;
+  };
   call = call_unconfined;
   slot = slot_unconfined;
   part = part_unconfined;

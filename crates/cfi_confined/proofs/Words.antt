@@ -32,14 +32,14 @@ use Rattle.cfi_unit.specs.Place.{place_instrs, place_size}
 use Rattle.cfi_unit.specs.Prologue.{OPENING, call_at, set_up}
 use Rattle.cfi_unit.specs.Shadow.{slot, MOST_PENDING}
 use Rattle.cfi_unit.specs.UnitLaw.{MayStand}
-use Rattle.cfi_unit.specs.UnitWords.{BAD_TARGET, BAD_RETURN, DEEP, CheckFits, Fits, Reaches, check, is_plain, jump, jump_offset, near_offset, push}
+use Rattle.cfi_unit.specs.UnitWords.{BAD_TARGET, BAD_RETURN, DEEP, CheckFits, Fits, Reaches, check, is_plain, jump, jump_offset, near_offset, push, skip_offset}
 use Rattle.cfi_unit.proofs.Context.{slice_get-back, slice_get-front}
 use Rattle.cfi_unit.proofs.GuardedWords.{test_leads, unit_call, unit_jump, unit_load, unit_test}
 use Rattle.cfi_unit.proofs.MemberWords.{member_at}
 use Rattle.cfi_unit.proofs.Parts.{call_site, set_up_length}
 use Rattle.cfi_unit.proofs.StoreUnit.{member_address}
 use Rattle.cfi_rules.specs.Rules.{edge_of}
-use Rattle.cfi_confined.specs.Confined.{IsHandler}
+use Rattle.cfi_confined.specs.Confined.{IsHandler, LeadsOver}
 
 -- no site is put on top or taken off
 abbrev pub Keeps : Place → Type 0
@@ -74,8 +74,10 @@ module _ (p : Profile) (part : ℕ) (image : Memory) (at : ℕ) (pending : List 
       Kept p place (k + 1)
       × (((to ≡ at + 4 * (k + 2)) × Kept p place (k + 2)) ⊎ ((ToEcall place k to ⊎ ((k ≡ 0) × (edge_of place ≡ Some to))) × Keeps place))
 
+  -- a jump is the first word of a place, or the second, behind a branch over it
   abbrev pub JumpFact : Place → ℕ → ℕ → Type 0
-  JumpFact place k to = IsHandler to ⊎ ((k ≤ 1) × (edge_of place ≡ Some to) × Keeps place)
+  JumpFact place k to =
+      IsHandler to ⊎ (((k ≡ 0) ⊎ ((k ≡ 1) × (i : Instr) × (slice_get (place_instrs p place at) 0 ≡ Some i) × LeadsOver (Some i))) × (edge_of place ≡ Some to) × Keeps place)
 
   abbrev pub CallFact : Place → ℕ → ℕ → Type 0
   CallFact (opening entry) k to = (entry ≡ to) × (at + 4 * k ≡ p.opening_call)
@@ -157,7 +159,7 @@ module _ (p : Profile) (part : ℕ) (image : Memory) (at : ℕ) (pending : List 
     branch_here op rs1 rs2 target fits (branch_test e x3) =
         here (body (V.Branch op rs1 rs2 target)) 0 _ refl (omega arith) (inr refl, inl (omega arith, inr refl))
     branch_here op rs1 rs2 target fits (branch_jump e x3) =
-        here (body (V.Branch op rs1 rs2 target)) 1 _ refl e (inl (refl, inr (omega arith, ap Some (sym fits.2), refl)))
+        here (body (V.Branch op rs1 rs2 target)) 1 _ refl e (inl (refl, inr (inr (refl, Branch op rs1 rs2 skip_offset, refl, refl), ap Some (sym fits.2), refl)))
 
     guarded_here : (ns : List ℕ) {x n : ℕ} → Fits (V.Guarded ns) at → InGuarded part at ns x n h → Here (body (V.Guarded ns))
     guarded_here ns fits (guarded_load k below e x3 x17 none) =
@@ -242,7 +244,7 @@ module _ (p : Profile) (part : ℕ) (image : Memory) (at : ℕ) (pending : List 
     unit_here (V.Near op rs1 rs2 target) m fits i =
         word_here (V.Near op rs1 rs2 target) _ refl (inr refl, inr (inr (refl, ap Some (sym (first 13 (near_offset at target * 2) target fits.2))), refl)) i
     unit_here (V.Jump target) m fits i =
-        word_here (V.Jump target) _ refl (inl (refl, inr (omega arith, ap Some (sym (first 21 (jump_offset at target * 2) target fits.1)), refl))) i
+        word_here (V.Jump target) _ refl (inl (refl, inr (inl refl, ap Some (sym (first 21 (jump_offset at target * 2) target fits.1)), refl))) i
     unit_here V.Stop m fits i =
         word_here V.Stop _ refl (inl (refl, inl (halted _ BAD_TARGET (first 21 (jump_offset at BAD_TARGET * 2) BAD_TARGET fits) (lit≤ tt, lit< tt)))) i
     unit_here (V.System S.Ecall) m fits i = word_here (V.System S.Ecall) _ refl (inr refl) i

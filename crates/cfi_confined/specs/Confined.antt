@@ -22,9 +22,9 @@ use Rattle.cfi_graph.specs.Graph.{GraphParts, calls_in}
 use Rattle.cfi_unit.specs.Shadow.{slot, MOST_PENDING}
 use Rattle.cfi_rules.specs.Along.{AreStepsOf, MayStart, OnRan}
 
--- In code whose graph has this version: how far before a computed transfer the address of its site line is,
--- how far before a direct call that of its call line, and how far ahead of a branch an `ecall` may be to
--- which it leads
+-- Distances in code, by the version of its graph: how far before a computed transfer the address of its site
+-- line is, how far before a direct call that of its call line, and how far ahead the `ecall` may be to which a
+-- branch leads
 abbrev pub before_site : ℕ → SiteKind → ℕ
 before_site version K.Jump = 48
 before_site version K.Call = 76
@@ -64,26 +64,34 @@ IsSkip version code pc to = (to ≡ pc + 4) ⊎ ((to ≡ pc + 8) ⊎ ((pc < to) 
 abbrev pub IsHandler : ℕ → Type 0
 IsHandler a = (CODE_START ≤ a) × (a < START)
 
--- where an instruction at a pc may lead, and the return addresses of the calls pending there, the newest
--- first: a branch and a `jal x0`
+-- a branch over the next instruction: its field counts in multiples of two bytes
+abbrev pub LeadsOver : Option Instr → Type 0
+LeadsOver (Some (Branch op rs1 rs2 imm)) = imm ≡ 4
+LeadsOver other = ⊥
+
+-- where a branch may lead
 abbrev pub BranchMoves : GraphParts → (ℕ → Option Instr) → ℕ → ℕ → Type 0
 BranchMoves graph code pc to = IsSkip graph.version code pc to ⊎ Contains graph.lines (Edge pc to)
 
-abbrev pub JumpMoves : GraphParts → ℕ → ℕ → Type 0
-JumpMoves graph pc to = IsHandler to ⊎ (Contains graph.lines (Edge pc to) ⊎ Contains graph.lines (Edge (pc - 4) to))
+-- where a `jal x0` may lead: to a handler, by its own edge, or by that of the branch over it
+abbrev pub JumpMoves : GraphParts → (ℕ → Option Instr) → ℕ → ℕ → Type 0
+JumpMoves graph code pc to =
+    IsHandler to ⊎ (Contains graph.lines (Edge pc to) ⊎ (LeadsOver (code (pc - 4)) × Contains graph.lines (Edge (pc - 4) to)))
 
--- a `jalr x0` is a jump where the graph has a site line for it, and a return where it has none
+-- where a `jalr x0` may lead, and the calls pending there: it is a jump where the graph has a site line for it,
+-- and a return to the newest pending call where it has none
 abbrev pub ComputedMoves : GraphParts → ℕ → List ℕ → ℕ → List ℕ → Type 0
 ComputedMoves graph pc pending to newer =
     let site = pc - before_site graph.version K.Jump in
     (NoSite graph.lines site × (pending ≡ to ∷ newer)) ⊎ (IsSiteTo graph.lines K.Jump site to × (newer ≡ pending))
 
--- no other `jal` or `jalr` is executed, nor a word that is no instruction, and the others lead to the next one
+-- where an instruction at a pc may lead, and the return addresses of the calls pending there, the newest first.
+-- No other `jal` or `jalr` is executed, and no word that is no instruction
 abbrev pub Moves : Profile → GraphParts → (ℕ → Option Instr) → Option Instr → ℕ → List ℕ → ℕ → List ℕ → Type 0
 Moves p graph code None pc pending to newer = ⊥
 Moves p graph code (Some (Branch op rs1 rs2 imm)) pc pending to newer = BranchMoves graph code pc to × (newer ≡ pending)
 Moves p graph code (Some (Jal rd imm)) pc pending to newer =
-    ((rd ≡ 0) × JumpMoves graph pc to × (newer ≡ pending))
+    ((rd ≡ 0) × JumpMoves graph code pc to × (newer ≡ pending))
     ⊎ ((rd ≡ 1) × Contains graph.lines (Call (call_line p graph.version pc) to) × (newer ≡ (pc + 4) ∷ pending))
 Moves p graph code (Some (Jalr rd rs1 imm)) pc pending to newer =
     ((rd ≡ 0) × ComputedMoves graph pc pending to newer)
@@ -147,7 +155,7 @@ ConfinedAlong p graph pending harts s (t ∷ rest) =
     × ConfinedAlong p graph (with_pending pending t.hart newer) (with_hart harts t.hart after.hart) after.shared rest)
     (Unit {0})
 
--- confined: for every count of harts, every start with no call pending and every list of the harts' steps,
+-- confined: for every count of harts, every start, with no call pending, and every list of the harts' steps,
 -- between which data change
 abbrev pub IsConfined : Profile → Contents → GraphParts → Type 0
 IsConfined p image graph =

@@ -19,13 +19,13 @@ WellFormedIsConfined =
     (p : Profile) (image : Contents) (graph : GraphParts) → IsProfile p → AreBytes image → IsGraph graph → IsWellFormed p image graph →
     IsConfined p image graph
 
--- what is confined by a graph with a list of system calls makes no others
+-- what is confined with a list of system calls makes no others
 abbrev pub ConfinedIsListed : Type 0
 ConfinedIsListed =
     (p : Profile) (image : Contents) (graph : GraphParts) (calls : List ℕ) → calls_in graph.lines ≡ Some calls → IsConfined p image graph →
     IsListed p image calls
 
--- at the end of each run of what is confined, so at each moment of each run, the code in memory is the image's
+-- after any steps of what is confined the code in memory is the image's
 abbrev pub ConfinedKeepsCode : Type 0
 ConfinedKeepsCode =
     (p : Profile) (image : Contents) (graph : GraphParts) (count : ℕ) (harts : Harts) (s : Shared) (steps : List HartStep) →

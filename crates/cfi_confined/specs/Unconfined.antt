@@ -3,9 +3,9 @@ use Rattle.std.specs.Prelude.{[], ◌∷◌}
 use Rattle.rv_word.specs.Image.{Contents}
 use Rattle.rv_word.specs.MemoryMap.{version_1, version_2}
 use Rattle.cfi_graph.specs.Graph.{GraphParts}
-use Rattle.cfi_graph.specs.declared.line.GraphLine.TheVariants.{Call, Class, Site}
+use Rattle.cfi_graph.specs.declared.line.GraphLine.TheVariants.{Call, Class, Edge, Site}
 use Rattle.cfi_graph.specs.declared.line.SiteKind.TheVariants as K
-use Rattle.cfi_rules.specs.Unsafe.{astray_call, astray_call_graph, calling_opening, exiting_handler, graph_of, graph_with, handler_graph, high_pointer, image_with, one_pointer_graph, opening_graph, storing_opening}
+use Rattle.cfi_rules.specs.Unsafe.{astray_call, astray_call_graph, breaking_closing, breaking_closing_graph, calling_opening, graph_of, graph_with, handler_graph, handler_with, high_pointer, illegal_handler, image_with, loading_handler, one_pointer_graph, opening_graph, storing_handler, storing_opening}
 use Rattle.cfi_confined.specs.Confined.{IsConfined}
 
 -- a jump to the stop that follows it, whose graph has no edge
@@ -37,15 +37,35 @@ early_return = image_with (0x008000ef ∷ 0xff408067 ∷ 0x00008067 ∷ [])
 abbrev pub early_return_graph : GraphParts
 early_return_graph = graph_of 0x4c (Class 1 (0x40000044 ∷ []) ∷ []) (Site 0x40000018 K.Jump 1 ∷ Call 0x40000024 0x40000048 ∷ [])
 
--- transfers that go along no line, to no target of their class, or back to no newest call; a handler that exits;
+-- a handler that runs on
+abbrev pub running_handler : Contents
+running_handler = handler_with 0x00000013 0x00000013
+
+-- a branch over two words, which is not taken, and then a jump along its edge
+abbrev pub borrowed_edge : Contents
+borrowed_edge = image_with (0x00001663 ∷ 0x0080006f ∷ 0xfb9ff06f ∷ 0xfb5ff06f ∷ [])
+
+abbrev pub borrowed_edge_graph : GraphParts
+borrowed_edge_graph = graph_with 0x50 (Edge 0x40000040 0x4000004c ∷ [])
+
+-- stops that may not come where they do
+pub record WrongStopsAreUnconfined : Type 0 where
+  pub run : IsConfined version_1 running_handler handler_graph → ⊥
+  pub load_fault : IsConfined version_1 loading_handler handler_graph → ⊥
+  pub store_fault : IsConfined version_1 storing_handler handler_graph → ⊥
+  pub illegal : IsConfined version_1 illegal_handler handler_graph → ⊥
+  pub break : IsConfined version_1 breaking_closing breaking_closing_graph → ⊥
+
+-- transfers that go along no line of their own, to no target of their class, or back to no newest call; stops;
 -- an opening that makes a system call, and such as write another slot, or another hart's part of the shadow stack
 pub record FaultsAreUnconfined : Type 0 where
   pub jump : IsConfined version_1 unlisted_jump unlisted_jump_graph → ⊥
+  pub borrowed : IsConfined version_1 borrowed_edge borrowed_edge_graph → ⊥
   pub branch : IsConfined version_1 long_branch long_branch_graph → ⊥
   pub entry : IsConfined version_1 unlisted_entry unlisted_entry_graph → ⊥
   pub target : IsConfined version_1 astray_call astray_call_graph → ⊥
   pub return : IsConfined version_1 early_return early_return_graph → ⊥
-  pub stop : IsConfined version_1 exiting_handler handler_graph → ⊥
+  pub stops : WrongStopsAreUnconfined
   pub call : IsConfined version_2 calling_opening one_pointer_graph → ⊥
   pub slot : IsConfined version_1 high_pointer opening_graph → ⊥
   pub part : IsConfined version_2 storing_opening one_pointer_graph → ⊥
