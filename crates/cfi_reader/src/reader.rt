@@ -1,6 +1,7 @@
 //! How far the unit that is being read is read, and one word more.
 
-ghost use Rattle.std.specs.Prelude.{◌≡◌, ◌≢◌, ℕ, List, true, false, length};
+ghost use Rattle.std.specs.Prelude.{◌≡◌, ◌≢◌, ◌≤◌, ℕ, List, true, false, length};
+ghost use Rattle.rv_word.specs.Numbers.{MOST_NUMBERS};
 ghost use Rattle.cfi_unit.specs.Opens.{InCode};
 ghost use Rattle.cfi_reader.specs.Reading.{Closes, IsReading, LeadsOn, START, is_new, is_stuck};
 ghost use Rattle.cfi_reader.specs.Nodes.{rest_of};
@@ -10,7 +11,7 @@ ghost use Rattle.cfi_reader.specs.declared.reader.Step.TheVariants as S;
 use crate::entry::Entry;
 use crate::kept::{count_by, entry_by, label_after, open_entry};
 use crate::matching::matches;
-use crate::node::{Else, Next, row_at};
+use crate::node::{Else, Next, led_by, row_at};
 use cfi_unit::End;
 use rv_instr::Immediate;
 use rv_word::Numbers;
@@ -63,26 +64,19 @@ impl Reader {
         self.node == 0
     }
 
-    /// Reads one word more, which stands at an address, under a list of system calls, if it is as the pattern of the node says
-    /// and the unit has more words; otherwise nothing changes.
+    /// Reads one word more, if it is the only one with which the unit goes on; otherwise nothing changes.
     #[inline(always)]
-    pub fn pass(&mut self, calls: &Numbers, word: u32, here: u64) -> bool
-        requires place { InCode here 1 }
-        requires begun { is_new self.old ≡ false }
-        ensures on { result ≡ true → LeadsOn calls.now self.old word here (S.More self.new) }
+    pub fn pass(&mut self, word: u32) -> bool
+        ensures on { result ≡ true → (calls : List ℕ) (here : ℕ) → length calls ≤ MOST_NUMBERS → InCode here 1 → LeadsOn calls self.old word here (S.More self.new) }
         ensures same { result ≡ false → self.new ≡ self.old }
     {
-        let _few = calls.len();
-        let row = row_at(self.node);
-        if let Next::More(node) = row.yes {
-            if matches(row.pattern, word, here) {
-                self.numbers = count_by(calls, row.pattern, word, self.numbers);
-                self.label = label_after(row.pattern, word, self.label);
+        match led_by(self.node, word) {
+            Some(node) => {
                 self.node = node;
-                return true;
+                true
             }
+            None => false,
         }
-        false
     }
 
     /// The entry of what is read, where no word follows, if it is a unit.
