@@ -5,7 +5,7 @@ ghost use Rattle.rv_word.specs.Numbers.{MOST_NUMBERS};
 ghost use Rattle.cfi_unit.specs.Opens.{InCode};
 ghost use Rattle.cfi_reader.specs.Reading.{Closes, IsReading, LeadsOn, START, is_new, is_stuck};
 ghost use Rattle.cfi_reader.specs.Nodes.{rest_of};
-ghost use Rattle.cfi_reader.specs.Trying.{Ended, LeadsTrying};
+ghost use Rattle.cfi_reader.specs.Trying.{Ended};
 ghost use Rattle.cfi_reader.specs.declared.reader.Step.TheVariants as S;
 
 use crate::entry::Entry;
@@ -101,47 +101,28 @@ pub fn next(calls: &Numbers, reader: Reader, word: u32, here: u64) -> Step
     requires begun { is_new reader ≡ false }
     ensures { LeadsOn calls.now reader word here result }
 {
-    ask(calls, reader, word, here)
-}
-
-/// Asks the word for the pattern of a node.
-#[inline(always)]
-#[cycle(asked)]
-fn ask(calls: &Numbers, reader: Reader, word: u32, here: u64) -> Step
-    requires place { InCode here 1 }
-    requires other { reader.node ≢ 1 }
-    ensures { LeadsTrying calls.now reader word here result }
-{
     let _few = calls.len();
-    let row = row_at(reader.node);
-    if matches(row.pattern, word, here) {
-        let numbers = count_by(calls, row.pattern, word, reader.numbers);
-        let label = label_after(row.pattern, word, reader.label);
-        return match row.yes {
-            Next::More(node) => Step::More(Reader {
-                node,
-                numbers,
-                label,
-            }),
-            Next::Done(end) => Step::Done(entry_by(calls, end, numbers, label, word)),
-        };
+    let mut node = reader.node;
+    'asked: loop {
+        let row = row_at(node);
+        if matches(row.pattern, word, here) {
+            let numbers = count_by(calls, row.pattern, word, reader.numbers);
+            let label = label_after(row.pattern, word, reader.label);
+            return match row.yes {
+                Next::More(node) => Step::More(Reader {
+                    node,
+                    numbers,
+                    label,
+                }),
+                Next::Done(end) => Step::Done(entry_by(calls, end, numbers, label, word)),
+            };
+        }
+        match row.no {
+            Else::Try(other) => node = other,
+            Else::Ended(end) => return Step::Before(open_entry(end)),
+            Else::Stuck => return Step::More(Reader { node: 0, ..reader }),
+        }
     }
-    match row.no {
-        Else::Try(node) => ask_other(calls, Reader { node, ..reader }, word, here),
-        Else::Ended(end) => Step::Before(open_entry(end)),
-        Else::Stuck => Step::More(Reader { node: 0, ..reader }),
-    }
-}
-
-/// Asks it for that of another node, which is rare.
-#[inline(never)]
-#[cycle(asked)]
-fn ask_other(calls: &Numbers, reader: Reader, word: u32, here: u64) -> Step
-    requires place { InCode here 1 }
-    requires other { reader.node ≢ 1 }
-    ensures { LeadsTrying calls.now reader word here result }
-{
-    ask(calls, reader, word, here)
 }
 
 /// Which unit has ended at a node, if no word follows.
