@@ -1,5 +1,5 @@
 -- What is held of a unit where a word is asked for the patterns of a node. Only private contracts cite it.
-use Rattle.std.specs.Prelude.{◌≡◌, ℕ, ◌+◌, ◌*◌, true, false, List, [], length, Option, Some, None}
+use Rattle.std.specs.Prelude.{◌≡◌, ℕ, true, false, List, [], Option, Some, None}
 use Rattle.cfi_unit.specs.declared.pattern.End.{End}
 use Rattle.cfi_unit.specs.Shapes.{Shape, shape}
 use Rattle.cfi_unit.specs.Opens.{Among, Small}
@@ -7,19 +7,13 @@ use Rattle.cfi_reader.specs.declared.reader.Reader.{Reader}
 use Rattle.cfi_reader.specs.Kept.{Keeps}
 use Rattle.cfi_reader.specs.Left.{Tries, is_alone, none_ended}
 use Rattle.cfi_reader.specs.Nodes.{rest_of}
-use Rattle.cfi_reader.specs.declared.reader.Step.{Step}
-use Rattle.cfi_reader.specs.Reading.{AtLeast, Leads}
+use Rattle.cfi_reader.specs.Reading.{AtLeast}
 
 pub record IsTrying (calls : List ℕ) (reader : Reader) (held : List ℕ) (word at : ℕ) : Type 0 where
   pub tries : Tries (rest_of reader.node) held word at
   pub least : AtLeast held at
   pub keeps : Keeps calls reader.numbers reader.label held at
   pub small : Small held
-
--- where the word leads
-abbrev pub LeadsTrying : List ℕ → Reader → ℕ → ℕ → Step → Type 0
-LeadsTrying calls reader word here step =
-    (held : List ℕ) (at : ℕ) → IsTrying calls reader held word at → here ≡ at + 4 * length held → Leads calls held word at step
 
 -- which unit has ended of those that are left, and is one only if no word goes on with it
 abbrev pub Ended : List Shape → Option End → Type 0

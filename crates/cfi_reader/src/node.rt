@@ -1,13 +1,11 @@
 //! The table of the reader: at each node the pattern that the next word is asked for, and where it leads. A node
 //! stands for the units that may begin with the words so far; 1 is that of all units, and 0 that of none.
 
-ghost use Rattle.std.specs.Prelude.{◌≡◌, ◌≢◌, true};
+ghost use Rattle.std.specs.Prelude.{◌≡◌, ◌≢◌, ◌<◌, IfSome, true, get_or};
 ghost use Rattle.cfi_reader.specs.Nodes.{is_row_of};
 ghost use Rattle.cfi_reader.specs.declared.node.Else.TheVariants as L;
 ghost use Rattle.cfi_reader.specs.declared.node.Next.TheVariants as N;
 
-use Else::{Ended, Stuck, Try};
-use Next::{Done, More};
 use Pattern::{Halt, Is, Jump, Label, Link, Member, Number};
 use cfi_unit::handlers::{BAD_RETURN, BAD_TARGET, DEEP};
 use cfi_unit::{End, Pattern, TargetWord};
@@ -43,110 +41,188 @@ pub(crate) struct Row {
     pub(crate) no: Else,
 }
 
-/// The rows by their nodes. Node 1 has none, and is not asked.
-const ROWS: [(Pattern, Next, Else); 82] = [
-    // 0 to 9
-    (Is(0), More(0), Stuck),
-    (Is(0), More(0), Stuck),
-    (Jump, Done(End::Branch), Ended(End::Over)),
-    (Is(0x051f_8063), More(13), Try(4)),
-    (Is(0x031f_8c63), More(15), Try(5)),
-    (Is(0x031f_8863), More(17), Try(6)),
-    (Is(0x031f_8463), More(19), Try(7)),
-    (Is(0x031f_8063), More(21), Try(8)),
-    (Is(0x011f_8c63), More(23), Try(9)),
-    (Is(0x011f_8863), More(25), Try(10)),
-    // 10 to 19
-    (Is(0x011f_8463), More(27), Try(11)),
-    (Is(0x024f_9f93), More(29), Try(12)),
-    (Is(0xffcf_ff93), More(53), Stuck),
-    (Number, More(14), Stuck),
-    (Is(0x031f_8c63), More(15), Stuck),
-    (Number, More(16), Stuck),
-    (Is(0x031f_8863), More(17), Stuck),
-    (Number, More(18), Stuck),
-    (Is(0x031f_8463), More(19), Stuck),
-    (Number, More(20), Stuck),
-    // 20 to 29
-    (Is(0x031f_8063), More(21), Stuck),
-    (Number, More(22), Stuck),
-    (Is(0x011f_8c63), More(23), Stuck),
-    (Number, More(24), Stuck),
-    (Is(0x011f_8863), More(25), Stuck),
-    (Number, More(26), Stuck),
-    (Is(0x011f_8463), More(27), Stuck),
-    (Halt(BAD_TARGET), More(28), Stuck),
-    (Is(0x0000_0073), Done(End::Guarded), Stuck),
-    (Is(0x024f_df93), More(30), Stuck),
-    // 30 to 39
-    (Member, More(31), Stuck),
-    (Member, More(32), Ended(End::Stores)),
-    (Member, More(33), Ended(End::Stores)),
-    (Member, More(34), Ended(End::Stores)),
-    (Member, More(35), Ended(End::Stores)),
-    (Member, More(36), Ended(End::Stores)),
-    (Member, More(37), Ended(End::Stores)),
-    (Member, More(38), Ended(End::Stores)),
-    (Member, More(39), Ended(End::Stores)),
-    (Member, More(40), Ended(End::Stores)),
-    // 40 to 49
-    (Member, More(41), Ended(End::Stores)),
-    (Member, More(42), Ended(End::Stores)),
-    (Member, More(43), Ended(End::Stores)),
-    (Member, More(44), Ended(End::Stores)),
-    (Member, More(45), Ended(End::Stores)),
-    (Member, Done(End::Full), Ended(End::Stores)),
-    (Is(0x000f_1463), More(47), Stuck),
-    (Halt(DEEP), More(48), Stuck),
-    (Is(0x0000_0f17), More(49), Stuck),
-    (Is(0x014f_0f13), More(50), Stuck),
-    // 50 to 59
-    (Is(0x01e1_b023), More(51), Stuck),
-    (Is(0x0081_8193), More(52), Stuck),
-    (Link, Done(End::Call), Stuck),
-    (Is(0x4000_0f37), More(54), Stuck),
-    (Is(0x41ef_8f33), More(55), Stuck),
-    (Is(0x014f_5f13), More(56), Stuck),
-    (Is(0x000f_0463), More(57), Stuck),
-    (Halt(BAD_TARGET), More(58), Stuck),
-    (Is(0x000f_af03), More(60), Try(59)),
-    (Is(0x004f_af03), More(66), Stuck),
-    // 60 to 69
-    (Label, More(61), Stuck),
-    (Is(0x0372_0213), More(62), Stuck),
-    (Is(0x004f_0463), More(63), Stuck),
-    (Halt(BAD_TARGET), More(64), Stuck),
-    (Is(0x000f_8067), Done(End::Ijump(TargetWord::First)), Try(65)),
-    (Is(0x0301_9f13), More(71), Stuck),
-    (Label, More(67), Stuck),
-    (Is(0x0372_0213), More(68), Stuck),
-    (Is(0x004f_0463), More(69), Stuck),
-    (Halt(BAD_TARGET), More(70), Stuck),
-    // 70 to 79
-    (Is(0x000f_8067), Done(End::Ijump(TargetWord::Second)), Stuck),
-    (Is(0x000f_1463), More(72), Stuck),
-    (Halt(DEEP), More(73), Stuck),
-    (Is(0x0000_0f17), More(74), Stuck),
-    (Is(0x014f_0f13), More(75), Stuck),
-    (Is(0x01e1_b023), More(76), Stuck),
-    (Is(0x0081_8193), More(77), Stuck),
-    (Is(0x000f_80e7), Done(End::Icall), Stuck),
-    (Is(0xff81_8193), More(79), Stuck),
-    (Is(0x001f_8463), More(80), Stuck),
-    // 80 to 81
-    (Halt(BAD_RETURN), More(81), Stuck),
-    (Is(0x000f_8067), Done(End::Return), Stuck),
-];
+/// A word of a unit that has more.
+#[inline(always)]
+fn more(pattern: Pattern, node: u8) -> Row
+    ensures { result ≡ record { pattern = pattern; yes = N.More node; no = L.Stuck } }
+{
+    Row {
+        pattern,
+        yes: Next::More(node),
+        no: Else::Stuck,
+    }
+}
+
+/// The last word of a unit.
+#[inline(always)]
+fn done(pattern: Pattern, end: End) -> Row
+    ensures { result ≡ record { pattern = pattern; yes = N.Done end; no = L.Stuck } }
+{
+    Row {
+        pattern,
+        yes: Next::Done(end),
+        no: Else::Stuck,
+    }
+}
+
+impl Row {
+    /// Another node is asked for other words.
+    #[inline(always)]
+    fn or_try(self, node: u8) -> Row
+        ensures { result ≡ record { pattern = self.pattern; yes = self.yes; no = L.Try node } }
+    {
+        Row {
+            pattern: self.pattern,
+            yes: self.yes,
+            no: Else::Try(node),
+        }
+    }
+
+    /// Before other words a unit has ended.
+    #[inline(always)]
+    fn or_ended(self, end: End) -> Row
+        ensures { result ≡ record { pattern = self.pattern; yes = self.yes; no = L.Ended end } }
+    {
+        Row {
+            pattern: self.pattern,
+            yes: self.yes,
+            no: Else::Ended(end),
+        }
+    }
+}
 
 /// The row of a node.
 #[inline(always)]
+#[tactic(auto, unfolding(rv_code::specs::Encode::code_of))]
 pub(crate) fn row_at(node: u8) -> Row
     requires { node ≢ 1 }
     ensures { is_row_of node result ≡ true }
 {
-    let (pattern, yes, no) = match ROWS.get(node as usize) {
-        Some(row) => *row,
-        None => ROWS[0],
-    };
-    Row { pattern, yes, no }
+    match node {
+        2 => done(Jump, End::Branch).or_ended(End::Over),
+        3 => more(Is(0x051f_8063), 13).or_try(4),
+        4 => more(Is(0x031f_8c63), 15).or_try(5),
+        5 => more(Is(0x031f_8863), 17).or_try(6),
+        6 => more(Is(0x031f_8463), 19).or_try(7),
+        7 => more(Is(0x031f_8063), 21).or_try(8),
+        8 => more(Is(0x011f_8c63), 23).or_try(9),
+        9 => more(Is(0x011f_8863), 25).or_try(10),
+        10 => more(Is(0x011f_8463), 27).or_try(11),
+        11 => more(Is(0x024f_9f93), 29).or_try(12),
+        12 => more(Is(0xffcf_ff93), 53),
+        13 => more(Number, 14),
+        14 => more(Is(0x031f_8c63), 15),
+        15 => more(Number, 16),
+        16 => more(Is(0x031f_8863), 17),
+        17 => more(Number, 18),
+        18 => more(Is(0x031f_8463), 19),
+        19 => more(Number, 20),
+        20 => more(Is(0x031f_8063), 21),
+        21 => more(Number, 22),
+        22 => more(Is(0x011f_8c63), 23),
+        23 => more(Number, 24),
+        24 => more(Is(0x011f_8863), 25),
+        25 => more(Number, 26),
+        26 => more(Is(0x011f_8463), 27),
+        27 => more(Halt(BAD_TARGET), 28),
+        28 => done(Is(0x0000_0073), End::Guarded),
+        29 => more(Is(0x024f_df93), 30),
+        30 => more(Member, 31),
+        31 => more(Member, 32).or_ended(End::Stores),
+        32 => more(Member, 33).or_ended(End::Stores),
+        33 => more(Member, 34).or_ended(End::Stores),
+        34 => more(Member, 35).or_ended(End::Stores),
+        35 => more(Member, 36).or_ended(End::Stores),
+        36 => more(Member, 37).or_ended(End::Stores),
+        37 => more(Member, 38).or_ended(End::Stores),
+        38 => more(Member, 39).or_ended(End::Stores),
+        39 => more(Member, 40).or_ended(End::Stores),
+        40 => more(Member, 41).or_ended(End::Stores),
+        41 => more(Member, 42).or_ended(End::Stores),
+        42 => more(Member, 43).or_ended(End::Stores),
+        43 => more(Member, 44).or_ended(End::Stores),
+        44 => more(Member, 45).or_ended(End::Stores),
+        45 => done(Member, End::Full).or_ended(End::Stores),
+        46 => more(Is(0x000f_1463), 47),
+        47 => more(Halt(DEEP), 48),
+        48 => more(Is(0x0000_0f17), 49),
+        49 => more(Is(0x014f_0f13), 50),
+        50 => more(Is(0x01e1_b023), 51),
+        51 => more(Is(0x0081_8193), 52),
+        52 => done(Link, End::Call),
+        53 => more(Is(0x4000_0f37), 54),
+        54 => more(Is(0x41ef_8f33), 55),
+        55 => more(Is(0x014f_5f13), 56),
+        56 => more(Is(0x000f_0463), 57),
+        57 => more(Halt(BAD_TARGET), 58),
+        58 => more(Is(0x000f_af03), 60).or_try(59),
+        59 => more(Is(0x004f_af03), 66),
+        60 => more(Label, 61),
+        61 => more(Is(0x0372_0213), 62),
+        62 => more(Is(0x004f_0463), 63),
+        63 => more(Halt(BAD_TARGET), 64),
+        64 => done(Is(0x000f_8067), End::Ijump(TargetWord::First)).or_try(65),
+        65 => more(Is(0x0301_9f13), 71),
+        66 => more(Label, 67),
+        67 => more(Is(0x0372_0213), 68),
+        68 => more(Is(0x004f_0463), 69),
+        69 => more(Halt(BAD_TARGET), 70),
+        70 => done(Is(0x000f_8067), End::Ijump(TargetWord::Second)),
+        71 => more(Is(0x000f_1463), 72),
+        72 => more(Halt(DEEP), 73),
+        73 => more(Is(0x0000_0f17), 74),
+        74 => more(Is(0x014f_0f13), 75),
+        75 => more(Is(0x01e1_b023), 76),
+        76 => more(Is(0x0081_8193), 77),
+        77 => done(Is(0x000f_80e7), End::Icall),
+        78 => more(Is(0xff81_8193), 79),
+        79 => more(Is(0x001f_8463), 80),
+        80 => more(Halt(BAD_RETURN), 81),
+        81 => done(Is(0x000f_8067), End::Return),
+        _ => Row {
+            pattern: Is(0),
+            yes: Next::More(0),
+            no: Else::Stuck,
+        },
+    }
+}
+
+/// In place of a code, where a word may lead on in other ways: no word is as large.
+const NONE: u64 = 1 << 32;
+
+/// Of each node the code with which alone a unit goes on to another one.
+const CODES: [u64; 82] = [
+    NONE, NONE, NONE, 0x051f8063, 0x031f8c63, 0x031f8863, 0x031f8463, 0x031f8063,
+    0x011f8c63, 0x011f8863, 0x011f8463, 0x024f9f93, 0xffcfff93, NONE, 0x031f8c63, NONE,
+    0x031f8863, NONE, 0x031f8463, NONE, 0x031f8063, NONE, 0x011f8c63, NONE,
+    0x011f8863, NONE, 0x011f8463, NONE, NONE, 0x024fdf93, NONE, NONE,
+    NONE, NONE, NONE, NONE, NONE, NONE, NONE, NONE,
+    NONE, NONE, NONE, NONE, NONE, NONE, 0x000f1463, NONE,
+    0x00000f17, 0x014f0f13, 0x01e1b023, 0x00818193, NONE, 0x40000f37, 0x41ef8f33, 0x014f5f13,
+    0x000f0463, NONE, 0x000faf03, 0x004faf03, NONE, 0x03720213, 0x004f0463, NONE,
+    NONE, 0x03019f13, NONE, 0x03720213, 0x004f0463, NONE, NONE, 0x000f1463,
+    NONE, 0x00000f17, 0x014f0f13, 0x01e1b023, 0x00818193, NONE, 0xff818193, 0x001f8463,
+    NONE, NONE,
+];
+
+/// The nodes to which these lead.
+const LEADS: [u8; 82] = [
+    0, 0, 0, 13, 15, 17, 19, 21, 23, 25, 27, 29, 53, 0, 15, 0, 17, 0, 19, 0,
+    21, 0, 23, 0, 25, 0, 27, 0, 0, 30, 0, 0, 0, 0, 0, 0, 0, 0, 0, 0,
+    0, 0, 0, 0, 0, 0, 47, 0, 49, 50, 51, 52, 0, 54, 55, 56, 57, 0, 60, 66,
+    0, 62, 63, 0, 0, 71, 0, 68, 69, 0, 0, 72, 0, 74, 75, 76, 77, 0, 79, 80,
+    0, 0,
+];
+
+/// Where the word leads with which alone a unit goes on from a node, if it is that.
+#[inline(always)]
+pub(crate) fn led_by(node: u8, word: u32) -> Option<u8>
+    ensures { IfSome result (λ next. (node < 82) × (get_or CODES node 0 ≡ word) × (get_or LEADS node 0 ≡ next)) }
+{
+    let index = node as usize;
+    if index < 82 && CODES[index] == u64::from(word) {
+        Some(LEADS[index])
+    } else {
+        None
+    }
 }

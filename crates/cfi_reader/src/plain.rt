@@ -1,8 +1,6 @@
 ghost use Rattle.std.specs.Prelude.{◌≡◌, ◌+◌, ◌*◌, ◌<◌, true, get_or};
 ghost use Rattle.cfi_reader.specs.PlainWord.{IsPlainWord, is_named};
 
-use rv_instr::Reg;
-
 /// What is asked of a funct7: `SPREAD * funct7 + ASKED` has it in bits 6 to 0, a one in bit 7, a one in bit 8
 /// where it is even, and a one in bit 15 where it is above 20h.
 const SPREAD: u32 = 0x101;
@@ -44,6 +42,9 @@ const UNSET: [u32; 128] = [
     NONE, NONE, NONE, NONE, NONE, NONE, NONE, NONE,
 ];
 
+/// The bits of the registers that programs may not name, or that hold nothing: x0, x3, x4, x30 and x31.
+const UNNAMED: u32 = 0xc000_0019;
+
 /// Whether a word is surely a plain unit: an instruction that computes or loads a register, which is
 /// neither x0 nor one that units keep for themselves. It decodes nothing.
 pub fn is_plain_word(word: u32) -> bool
@@ -74,5 +75,5 @@ fn is_named(number: u32) -> bool
     requires { number < 32 }
     ensures { result ≡ is_named number }
 {
-    number != 0 && !Reg::of(number).is_reserved()
+    (UNNAMED >> number) & 1 == 0
 }

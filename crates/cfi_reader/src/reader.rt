@@ -1,16 +1,17 @@
 //! How far the unit that is being read is read, and one word more.
 
-ghost use Rattle.std.specs.Prelude.{◌≡◌, ◌≢◌, ℕ, List, true, false, length};
+ghost use Rattle.std.specs.Prelude.{◌≡◌, ◌≢◌, ◌≤◌, ℕ, List, true, false, length};
+ghost use Rattle.rv_word.specs.Numbers.{MOST_NUMBERS};
 ghost use Rattle.cfi_unit.specs.Opens.{InCode};
 ghost use Rattle.cfi_reader.specs.Reading.{Closes, IsReading, LeadsOn, START, is_new, is_stuck};
 ghost use Rattle.cfi_reader.specs.Nodes.{rest_of};
-ghost use Rattle.cfi_reader.specs.Trying.{Ended, LeadsTrying};
+ghost use Rattle.cfi_reader.specs.Trying.{Ended};
 ghost use Rattle.cfi_reader.specs.declared.reader.Step.TheVariants as S;
 
 use crate::entry::Entry;
 use crate::kept::{count_by, entry_by, label_after, open_entry};
 use crate::matching::matches;
-use crate::node::{Else, Next, row_at};
+use crate::node::{Else, Next, led_by, row_at};
 use cfi_unit::End;
 use rv_instr::Immediate;
 use rv_word::Numbers;
@@ -63,26 +64,19 @@ impl Reader {
         self.node == 0
     }
 
-    /// Reads one word more, which stands at an address, under a list of system calls, if it is as the pattern of the node says
-    /// and the unit has more words; otherwise nothing changes.
+    /// Reads one word more, if it is the only one with which the unit goes on; otherwise nothing changes.
     #[inline(always)]
-    pub fn pass(&mut self, calls: &Numbers, word: u32, here: u64) -> bool
-        requires place { InCode here 1 }
-        requires begun { is_new self.old ≡ false }
-        ensures on { result ≡ true → LeadsOn calls.now self.old word here (S.More self.new) }
+    pub fn pass(&mut self, word: u32) -> bool
+        ensures on { result ≡ true → (calls : List ℕ) (here : ℕ) → length calls ≤ MOST_NUMBERS → InCode here 1 → LeadsOn calls self.old word here (S.More self.new) }
         ensures same { result ≡ false → self.new ≡ self.old }
     {
-        let _few = calls.len();
-        let row = row_at(self.node);
-        if let Next::More(node) = row.yes {
-            if matches(row.pattern, word, here) {
-                self.numbers = count_by(calls, row.pattern, word, self.numbers);
-                self.label = label_after(row.pattern, word, self.label);
+        match led_by(self.node, word) {
+            Some(node) => {
                 self.node = node;
-                return true;
+                true
             }
+            None => false,
         }
-        false
     }
 
     /// The entry of what is read, where no word follows, if it is a unit.
@@ -107,47 +101,28 @@ pub fn next(calls: &Numbers, reader: Reader, word: u32, here: u64) -> Step
     requires begun { is_new reader ≡ false }
     ensures { LeadsOn calls.now reader word here result }
 {
-    ask(calls, reader, word, here)
-}
-
-/// Asks the word for the pattern of a node.
-#[inline(always)]
-#[cycle(asked)]
-fn ask(calls: &Numbers, reader: Reader, word: u32, here: u64) -> Step
-    requires place { InCode here 1 }
-    requires other { reader.node ≢ 1 }
-    ensures { LeadsTrying calls.now reader word here result }
-{
     let _few = calls.len();
-    let row = row_at(reader.node);
-    if matches(row.pattern, word, here) {
-        let numbers = count_by(calls, row.pattern, word, reader.numbers);
-        let label = label_after(row.pattern, word, reader.label);
-        return match row.yes {
-            Next::More(node) => Step::More(Reader {
-                node,
-                numbers,
-                label,
-            }),
-            Next::Done(end) => Step::Done(entry_by(calls, end, numbers, label, word)),
-        };
+    let mut node = reader.node;
+    'asked: loop {
+        let row = row_at(node);
+        if matches(row.pattern, word, here) {
+            let numbers = count_by(calls, row.pattern, word, reader.numbers);
+            let label = label_after(row.pattern, word, reader.label);
+            return match row.yes {
+                Next::More(node) => Step::More(Reader {
+                    node,
+                    numbers,
+                    label,
+                }),
+                Next::Done(end) => Step::Done(entry_by(calls, end, numbers, label, word)),
+            };
+        }
+        match row.no {
+            Else::Try(other) => node = other,
+            Else::Ended(end) => return Step::Before(open_entry(end)),
+            Else::Stuck => return Step::More(Reader { node: 0, ..reader }),
+        }
     }
-    match row.no {
-        Else::Try(node) => ask_other(calls, Reader { node, ..reader }, word, here),
-        Else::Ended(end) => Step::Before(open_entry(end)),
-        Else::Stuck => Step::More(Reader { node: 0, ..reader }),
-    }
-}
-
-/// Asks it for that of another node, which is rare.
-#[inline(never)]
-#[cycle(asked)]
-fn ask_other(calls: &Numbers, reader: Reader, word: u32, here: u64) -> Step
-    requires place { InCode here 1 }
-    requires other { reader.node ≢ 1 }
-    ensures { LeadsTrying calls.now reader word here result }
-{
-    ask(calls, reader, word, here)
 }
 
 /// Which unit has ended at a node, if no word follows.

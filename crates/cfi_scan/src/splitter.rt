@@ -56,10 +56,10 @@ impl Splitter {
         ensures calls { self.new.calls ≡ self.old.calls }
         ensures room { length self.new.entries.items ≡ length self.old.entries.items }
     {
-        let here = self.front.start() + 4 * index as u64;
+        let _few = self.calls.len();
         if self.reader.is_new() {
             self.begin(word, index);
-        } else if self.reader.pass(&self.calls, word, here) {
+        } else if self.reader.pass(word) {
             return;
         } else if !self.reader.is_stuck() {
             self.go_on(word, index);

@@ -1,25 +1,18 @@
-use Rattle.std.proofs.Common.{◌≡◌, ◌≢◌, ◌<◌, ◌∙◌, ℕ, inl, inr, refl, sym, ap}
-use Rattle.std.specs.Prelude.{Bool, true, ◌==◌, ◌||◌, get_or}
-use Rattle.std.proofs.lemmas.Bool.{agree_below, agree_below_at, eqb-true, ltb-true, or_cases}
-use Rattle.rv_code.specs.Encode.{code_of}
-use Rattle.cfi_unit.specs.declared.pattern.Pattern.{Pattern}
+use Rattle.std.proofs.Common.{◌≡◌, true, sym, subst, refl, inl, inr, arith, ℕ}
+use Rattle.std.proofs.lemmas.Bool.{cases_lt}
+use Rattle.cfi_unit.specs.declared.pattern.Pattern.TheVariants as P
 use Rattle.cfi_reader.specs.Nodes.{is_row_of}
-use Rattle.cfi_reader.specs.declared.node.Else.{Else}
-use Rattle.cfi_reader.specs.declared.node.Next.{Next}
-use Rattle.cfi_reader.specs.declared.node.TheConstants as table
+use Rattle.cfi_reader.specs.declared.node.Else.TheVariants as L
+use Rattle.cfi_reader.specs.declared.node.Next.TheVariants as N
+use Rattle.cfi_reader.proofs.Table.{stuck_at}
 use Rattle.cfi_reader.proofs.node.row_at.Goals as goal
 
--- a row is that of a node, or the node is the one that is not asked
-abbrev is_right : ℕ → (Pattern × Next × Else) → Bool
-is_right node row = node == 1 || is_row_of node (record { pattern = row.0; yes = row.1; no = row.2 })
-
-pub returns-in-Some : goal.returns-in-Some
-unfolding code_of
-returns-in-Some c =
-    let row : Pattern × Next × Else = c.in-Some.row.now in
-    let below : c.args.node < 82 = ltb-true c.args.node 82 (sym c.in-Some.ensures.lookup.0) in
-    let right = agree_below_at (λ n. is_right n (get_or table.ROWS n row)) (λ n. true) 82 c.args.node refl below in
-    elim (or_cases (c.args.node == 1) _ (ap (is_right c.args.node) c.in-Some.ensures.lookup.1 ∙ right)) [
-      | inl new ↦ absurd (c.requires (eqb-true c.args.node 1 new))
-      | inr is ↦ is
+-- of a number that is no node's
+pub returns-in_default : goal.returns-in_default
+returns-in_default c =
+    elim (cases_lt 81 c.args.node) [
+      | inl high ↦ stuck_at c.args.node high
+      | inr low ↦
+          let none : c.args.node ≡ 0 = omega arith in
+          subst (λ (n : ℕ). is_row_of n (record { pattern = P.Is 0; yes = N.More 0; no = L.Stuck }) ≡ true) (sym none) refl
     ]

@@ -1,10 +1,43 @@
-use Rattle.std.proofs.Common.{◌<◌, ◌^◌, sym, arith}
+use Rattle.std.proofs.Common.{◌≡◌, ◌+◌, ◌<◌, ◌^◌, ℕ, [], ◌∷◌, ◌++◌, inl, inr, refl, subst, sym, arith}
+use Rattle.std.specs.Prelude.{Bool, true, ◌==◌, ◌&&◌, ◌||◌, get_or, if◌then◌else◌, nat_lt}
+use Rattle.std.proofs.lemmas.Bool.{agree_below, agree_below_at, eq-eqb, ltb-true, or_cases}
+use Rattle.rv_code.specs.Encode.{code_of}
+use Rattle.cfi_unit.specs.declared.pattern.Pattern.TheVariants as P
+use Rattle.cfi_reader.specs.Nodes.{is_row_of}
+use Rattle.cfi_reader.specs.Reading.{IsReading}
+use Rattle.cfi_reader.specs.declared.node.Else.TheVariants as L
+use Rattle.cfi_reader.specs.declared.node.Next.TheVariants as N
+use Rattle.cfi_reader.specs.declared.node.Row.{Row}
+use Rattle.cfi_reader.specs.declared.node.TheConstants as table
 use Rattle.cfi_reader.proofs.Followed.{goes_more, trying}
 use Rattle.cfi_reader.proofs.reader.Reader.pass.Goals as goal
 
-pub returns-then-matches-clause-on : goal.returns-then-matches-clause-on
-returns-then-matches-clause-on c is held at reading e =
-    let a = c.args in
-    let small : a.word < 2 ^ 32 = omega (arith, c.ranges.word.fits) in
-    goes_more a.calls.now a.self.now c.row_at-row.result a.word a.here c.len-few.ensures.most small c.row_at-row.ensures held at
-    (trying a.calls.now a.self.now held a.word at reading) e c.in-More.node _ _ c.count_by-self.ensures c.label_after-self.ensures (sym c.if-matches.ensures) c.in-More.is
+-- the row of a node that has a code: where another word may go on, the next node has its pattern
+abbrev row_of : ℕ → Row
+row_of node = record {
+  pattern = P.Is (get_or table.CODES node 0);
+  yes = N.More (get_or table.LEADS node 0);
+  no = if nat_lt 2 node && nat_lt node 12 || node == 58 then L.Try (node + 1) else L.Stuck;
+}
+
+abbrev is_right : ℕ → Bool
+is_right node = nat_lt 0xffffffff (get_or table.CODES node 0) || is_row_of node (row_of node)
+
+all_right : agree_below is_right (λ n. true) 82 ≡ true
+unfolding code_of
+all_right = refl
+
+pub returns-in-Some-clause-on : goal.returns-in-Some-clause-on
+returns-in-Some-clause-on c is calls here most place held at reading e =
+    let reader = c.args.self.now in
+    let word : ℕ = c.args.word in
+    let (below, code, next) = c.in-Some.ensures in
+    let small : word < 2 ^ 32 = omega (arith, c.ranges.word.fits) in
+    let row : is_row_of reader.node (row_of reader.node) ≡ true =
+    elim (or_cases (nat_lt 0xffffffff (get_or table.CODES reader.node 0)) _ (agree_below_at is_right (λ n. true) 82 reader.node all_right below)) [
+      | inl high ↦ absurd (omega (arith, ltb-true 0xffffffff (get_or table.CODES reader.node 0) high, code, small))
+      | inr right ↦ right
+    ] in
+    subst (λ (n : ℕ). IsReading calls (record { node = n; numbers = reader.numbers; label = reader.label }) (held ++ word ∷ []) at) next
+    (goes_more calls reader (row_of reader.node) word here most small row held at (trying calls reader held word at reading) e (get_or table.LEADS reader.node 0) _ _
+    refl refl (eq-eqb word (get_or table.CODES reader.node 0) (sym code)) refl)
