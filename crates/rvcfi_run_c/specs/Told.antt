@@ -41,15 +41,30 @@ stop_of (ends.LoadFault pc address) = (4, pc, address)
 -- no run
 abbrev pub not_run : RvcfiVerdict → RvcfiRun
 not_run v = record {
-  outcome = v.outcome; reason = v.reason; first = v.first; second = v.second;
-  stop = 0; hart = 0; value = 0; address = 0; steps = 0; written = 0;
+  outcome = v.outcome;
+  reason = v.reason;
+  first = v.first;
+  second = v.second;
+  stop = 0;
+  hart = 0;
+  value = 0;
+  address = 0;
+  steps = 0;
+  written = 0;
 }
 
 abbrev pub run_of : Result Launched LaunchEnd → RvcfiRun
 run_of (Ok (Ran version report)) = record {
-  outcome = 0; reason = 0; first = 0; second = 0;
-  stop = (stop_of report.end).0; hart = report.hart; value = (stop_of report.end).1; address = (stop_of report.end).2;
-  steps = report.steps; written = length report.output;
+  outcome = 0;
+  reason = 0;
+  first = 0;
+  second = 0;
+  stop = (stop_of report.end).0;
+  hart = report.hart;
+  value = (stop_of report.end).1;
+  address = (stop_of report.end).2;
+  steps = report.steps;
+  written = length report.output;
 }
 run_of (Ok (Rejected reject)) = not_run (verdict_of (Ok (verdicts.Rejected reject)))
 run_of (Err (Fault (Pair fault))) = not_run (verdict_of (Err (pair.Fault fault)))

@@ -39,5 +39,9 @@ pub extern "C" fn rvcfi_run(
 fn text_of(script: &[u8]) -> Option<&[u8]>
     ensures { script_in script.now ≡ option_map (λ t. t.now) result }
 {
-    if script.is_empty() { None } else { Some(script) }
+    if script.is_empty() {
+        None
+    } else {
+        Some(script)
+    }
 }
