@@ -7,7 +7,7 @@ use Rattle.cfi_unit.specs.UnitWords.{BAD_RETURN, BAD_TARGET, DEEP, Reaches, jump
 use Rattle.cfi_unit.specs.Patterns.{matches}
 use Rattle.cfi_unit.specs.Opens.{InCode}
 use Rattle.cfi_unit.proofs.Near.{near_reached}
-use Rattle.cfi_unit.proofs.Stand.{tested}
+use Rattle.cfi_unit.proofs.Jumps.{tested}
 use Rattle.cfi_reader.specs.Nodes.{is_handler}
 
 pub handler_reached : (to here : ℕ) → InCode here 1 → is_handler to ≡ true → Reaches here to

@@ -15,7 +15,7 @@ use Rattle.cfi_graph.specs.declared.line.SiteKind.TheVariants as K
 use Rattle.cfi_unit.specs.declared.unit.Unit as U
 use Rattle.cfi_unit.specs.declared.unit.Unit.TheVariants as V
 use Rattle.cfi_unit.specs.declared.target_word.TargetWord.TheVariants.{First, Second}
-use Rattle.cfi_unit.specs.Recognise.{recognised}
+use Rattle.cfi_unit.specs.Recognise.{read_each, recognised}
 use Rattle.cfi_unit.specs.UnitWords.{words_of}
 use Rattle.cfi_rules.specs.Lines.{class_with, line_at, targets_for}
 use Rattle.cfi_rules.specs.Placed.{AllAhead, AllFit, code_from, lines_from, placed_code, placed_lines}
@@ -109,28 +109,28 @@ fails_of version rule us classes a =
     (record { version = version; code = 4 * length (placed_code version_1 0x40000040 us); lines = placed_lines version_1 0x40000040 us classes }) a
 
 unit_of_version_1 : fails_of 2 R.Unit (apart_with (V.Ijump First 5 0 2) bare (V.Gate 2)) apart_classes 0x400000bc ≡ true
-unfolding decoded code_of code_from lines_from recognised words_of starts is_start unit_at
+unfolding decoded code_of code_from lines_from read_each recognised words_of starts is_start unit_at
 unit_of_version_1 = refl
 
 unit_of_version_2 : fails_of 1 R.Unit apart_units apart_classes 0x400000bc ≡ true
-unfolding decoded code_of code_from lines_from recognised words_of starts is_start unit_at
+unfolding decoded code_of code_from lines_from read_each recognised words_of starts is_start unit_at
 unit_of_version_2 = refl
 
 -- the jump asks for the label of calls
 label_of_calls : fails_of 2 R.Site (apart_with (V.Ijump Second 5 0 1) bare (V.Gate 2)) apart_classes 0x400000bc ≡ true
-unfolding decoded code_of code_from lines_from recognised words_of starts is_start unit_at place_at line_at class_with targets_for
+unfolding decoded code_of code_from lines_from read_each recognised words_of starts is_start unit_at place_at line_at class_with targets_for
 label_of_calls = refl
 
 -- the place for jumps bears its label at its first word
 no_gate_behind : fails_of 2 R.Gate (apart_with (V.Ijump Second 5 0 2) (V.Gate 2) bare) apart_classes 0x40000110 ≡ true
-unfolding decoded code_of code_from lines_from recognised words_of starts is_start unit_at
+unfolding decoded code_of code_from lines_from read_each recognised words_of starts is_start unit_at
 no_gate_behind = refl
 
 gate_astray : fails_of 2 R.Astray (apart_with (V.Ijump Second 5 0 2) (V.Gate 2) bare) apart_classes 0x40000110 ≡ true
-unfolding decoded code_of code_from lines_from recognised words_of starts is_start unit_at class_with
+unfolding decoded code_of code_from lines_from read_each recognised words_of starts is_start unit_at class_with
 gate_astray = refl
 
 -- so the last word of the unit before it has the gate behind it, but no unit starts there
 inside_a_unit : fails_of 2 R.Gate (apart_with (V.Ijump Second 5 0 2) (V.Gate 2) bare) (CallClass 1 (0x400000f0 ∷ 0x40000130 ∷ []) ∷ JumpClass 2 (0x4000010c ∷ 0x40000130 ∷ []) ∷ []) 0x4000010c ≡ true
-unfolding decoded code_of code_from lines_from recognised words_of starts is_start unit_at
+unfolding decoded code_of code_from lines_from read_each recognised words_of starts is_start unit_at
 inside_a_unit = refl

@@ -27,7 +27,7 @@ use Rattle.cfi_unit.specs.declared.place.Place.{Place}
 use Rattle.cfi_unit.specs.declared.place.Place.TheVariants.{Handler as handler, Opening as opening, Body as body}
 use Rattle.cfi_unit.specs.Prologue.{OPENING}
 use Rattle.cfi_unit.specs.Leads.{destination}
-use Rattle.cfi_unit.specs.Recognise.{recognised}
+use Rattle.cfi_unit.specs.Recognise.{read_each, recognised}
 use Rattle.cfi_unit.specs.Shadow.{slot, Holds}
 use Rattle.cfi_unit.specs.UnitWords.{BAD_TARGET, DEEP, words_of}
 use Rattle.cfi_rules.specs.Along.{Walk, Arrives, JumpChooses, Chooses, ShadowStands, OnRan, IsSafe}
@@ -192,7 +192,7 @@ module _ (image : Contents) (graph : GraphParts) where
       }
 
 pointer_unsafe : IsSafe version_1 high_pointer opening_graph → ⊥
-unfolding loaded placed decoded code_of step write last_exit code_words recognised words_of starts is_start unit_at place_at after_calm quiet is_ran
+unfolding loaded placed decoded code_of step write last_exit code_words read_each recognised words_of starts is_start unit_at place_at after_calm quiet is_ran
 pointer_unsafe safe =
     let f = first high_pointer opening_graph 0x40000040 (body V.Stop) [] refl (record { runs = refl; still = refl; there = refl }) tt safe in
     let x3 : 0x60000018 ≡ slot SHADOW_START (length f.arrived.w.pending) = f.arrived.shadow.0 in
@@ -200,7 +200,7 @@ pointer_unsafe safe =
     omega arith
 
 slot_unsafe : IsSafe version_1 lost_site opening_graph → ⊥
-unfolding loaded placed decoded code_of step write last_exit code_words recognised words_of starts is_start unit_at place_at after_calm quiet is_ran
+unfolding loaded placed decoded code_of step write last_exit code_words read_each recognised words_of starts is_start unit_at place_at after_calm quiet is_ran
 slot_unsafe safe =
     let f = first lost_site opening_graph 0x40000040 (body V.Stop) [] refl (record { runs = refl; still = refl; there = refl }) tt safe in
     let held : Holds SHADOW_START (after_calm version_1 10 (start_hart 0) (start_shared lost_site [])).shared.memory (version_1.closing ∷ []) =
@@ -212,7 +212,7 @@ pub wrong_shadows_unsafe : WrongShadowsAreUnsafe
 wrong_shadows_unsafe = record { pointer = pointer_unsafe; slot = slot_unsafe }
 
 astray_unsafe : IsSafe version_1 astray_call astray_call_graph → ⊥
-unfolding loaded placed decoded code_of step write last_exit code_words recognised words_of starts is_start unit_at place_at after_calm quiet is_ran class_with targets_for
+unfolding loaded placed decoded code_of step write last_exit code_words read_each recognised words_of starts is_start unit_at place_at after_calm quiet is_ran class_with targets_for
 astray_unsafe safe =
     let call : Place = body (V.Icall 1 88 1) in
     let f = first astray_call astray_call_graph 0x40000040 call (calm 16 ++ ([] ∷ [])) refl (record { runs = refl; still = refl; there = refl }) (calm_is_data 17) safe in
@@ -225,7 +225,7 @@ astray_unsafe safe =
     ]
 
 halted_unsafe : IsSafe version_1 halted_jump halted_jump_graph → ⊥
-unfolding loaded placed decoded code_of step write last_exit code_words recognised words_of starts is_start unit_at place_at after_calm quiet is_ran class_with targets_for
+unfolding loaded placed decoded code_of step write last_exit code_words read_each recognised words_of starts is_start unit_at place_at after_calm quiet is_ran class_with targets_for
 halted_unsafe safe =
     let jump : Place = body (V.Ijump T.First 1 60 1) in
     let f = first halted_jump halted_jump_graph 0x40000040 jump (calm 10 ++ ([] ∷ [])) refl (record { runs = refl; still = refl; there = refl }) (calm_is_data 11) safe in
@@ -261,14 +261,14 @@ does_there image k is runs still nothing safe =
     (tt, calm_and k ([] ∷ []) (tt, tt)))
 
 write_unsafe : IsSafe version_2 storing_opening one_pointer_graph → ⊥
-unfolding loaded placed decoded code_of step write last_exit code_words recognised words_of starts is_start unit_at place_at after_calm quiet is_ran
+unfolding loaded placed decoded code_of step write last_exit code_words read_each recognised words_of starts is_start unit_at place_at after_calm quiet is_ran
 write_unsafe safe =
     let d = does_there storing_opening 7 refl refl refl refl safe in
     let four : 4 ≡ 0 = d.writes 0x600407f2 (lit≤ tt) (inr (lit≤ tt)) in
     false≢true (ap (λ (n : ℕ). n == 0) four)
 
 call_unsafe : IsSafe version_2 calling_opening one_pointer_graph → ⊥
-unfolding loaded placed decoded code_of step write last_exit code_words recognised words_of starts is_start unit_at place_at after_calm quiet is_ran
+unfolding loaded placed decoded code_of step write last_exit code_words read_each recognised words_of starts is_start unit_at place_at after_calm quiet is_ran
 call_unsafe safe =
     let d = does_there calling_opening 4 refl refl refl refl safe in
     let now = after_calm version_2 5 (start_hart 0) (start_shared calling_opening []) in
@@ -280,7 +280,7 @@ wrong_deeds_unsafe = record { write = write_unsafe; call = call_unsafe }
 
 -- hart 1 comes to the first unit with the shadow pointer of hart 0
 one_pointer_unsafe : IsSafe version_2 one_pointer one_pointer_graph → ⊥
-unfolding loaded placed decoded code_of step write last_exit code_words recognised words_of starts is_start unit_at place_at after_calm quiet is_ran
+unfolding loaded placed decoded code_of step write last_exit code_words read_each recognised words_of starts is_start unit_at place_at after_calm quiet is_ran
 one_pointer_unsafe safe =
     let start = start_shared one_pointer [] in
     let low : AreDataChanges ([] ∷ (calm 13 ++ ([] ∷ []))) = (tt, calm_and 13 ([] ∷ []) (tt, tt)) in

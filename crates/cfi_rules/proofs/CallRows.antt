@@ -14,7 +14,7 @@ use Rattle.cfi_unit.specs.declared.unit.Unit as U
 use Rattle.cfi_unit.specs.declared.unit.Unit.TheVariants as V
 use Rattle.cfi_unit.specs.declared.unit.SystemOp.TheVariants as S
 use Rattle.cfi_unit.specs.declared.place.Place.TheVariants.{Body as body}
-use Rattle.cfi_unit.specs.Recognise.{numbers_in, recognised}
+use Rattle.cfi_unit.specs.Recognise.{read_each, recognised}
 use Rattle.cfi_unit.specs.UnitWords.{BAD_TARGET, words_of}
 use Rattle.cfi_rules.specs.Along.{Chooses, Walk}
 use Rattle.cfi_rules.specs.Lines.{class_with, line_at, targets_for}
@@ -66,27 +66,27 @@ break_stands : admits 1 (Some (64 ∷ [])) (V.System S.Ebreak) ≡ true
 break_stands = refl
 
 bare_under_a_list : fails_of 1 R.Unit (calling (V.System S.Ecall)) listed 0x40000044 ≡ true
-unfolding decoded code_of code_from lines_from numbers_in recognised words_of starts is_start unit_at
+unfolding decoded code_of code_from lines_from read_each recognised words_of starts is_start unit_at
 bare_under_a_list = refl
 
 guarded_without : fails_of 1 R.Unit guarded [] 0x40000044 ≡ true
-unfolding decoded code_of code_from lines_from numbers_in recognised words_of starts is_start unit_at
+unfolding decoded code_of code_from lines_from read_each recognised words_of starts is_start unit_at
 guarded_without = refl
 
 guarded_with : fails_of 1 R.Unit guarded listed 0x40000044 ≡ false
-unfolding decoded code_of code_from lines_from numbers_in recognised words_of starts is_start unit_at
+unfolding decoded code_of code_from lines_from read_each recognised words_of starts is_start unit_at
 guarded_with = refl
 
 other_order : fails_of 1 R.Unit (calling (V.Guarded (93 ∷ 64 ∷ []))) listed 0x40000044 ≡ true
-unfolding decoded code_of code_from lines_from numbers_in recognised words_of starts is_start unit_at
+unfolding decoded code_of code_from lines_from read_each recognised words_of starts is_start unit_at
 other_order = refl
 
 fewer_numbers : fails_of 1 R.Unit (calling (V.Guarded (64 ∷ []))) listed 0x40000044 ≡ true
-unfolding decoded code_of code_from lines_from numbers_in recognised words_of starts is_start unit_at
+unfolding decoded code_of code_from lines_from read_each recognised words_of starts is_start unit_at
 fewer_numbers = refl
 
 more_numbers : fails_of 1 R.Unit (calling (V.Guarded (64 ∷ 93 ∷ 94 ∷ []))) listed 0x40000044 ≡ true
-unfolding decoded code_of code_from lines_from numbers_in recognised words_of starts is_start unit_at
+unfolding decoded code_of code_from lines_from read_each recognised words_of starts is_start unit_at
 more_numbers = refl
 
 -- a list behind another line is none
@@ -95,7 +95,7 @@ late_list = refl
 
 -- the closing calls as it is, and stands at no unit
 closing_stands : fails_of 1 R.Unit guarded listed 0x40000038 ≡ false
-unfolding decoded code_of code_from lines_from numbers_in recognised words_of starts is_start unit_at
+unfolding decoded code_of code_from lines_from read_each recognised words_of starts is_start unit_at
 closing_stands = refl
 
 -- the line of the list has no address

@@ -18,7 +18,7 @@ use Rattle.cfi_unit.specs.declared.unit.Unit.TheVariants as V
 use Rattle.cfi_unit.specs.declared.place.Place.{Place}
 use Rattle.cfi_unit.specs.declared.place.Place.TheVariants.{Handler as handler, Opening as opening, Closing as closing, Body as body}
 use Rattle.cfi_unit.specs.Place.{place_size}
-use Rattle.cfi_unit.specs.Recognise.{recognised}
+use Rattle.cfi_unit.specs.Recognise.{read_each, recognised}
 use Rattle.cfi_unit.specs.UnitWords.{words_of}
 use Rattle.cfi_rules.specs.Along.{IsSafe, MayEnd}
 use Rattle.cfi_rules.specs.Split.{code_words, starts, is_start, unit_at, place_at}
@@ -66,47 +66,47 @@ refuted_by_end image graph n k b place here is never safe =
     never (subst (λ p. MayEnd p b.pc b.turn) same i.3)
 
 pub middle_unsafe : MiddleIsUnsafe
-unfolding loaded placed decoded code_of step write last_exit code_words recognised words_of starts is_start unit_at place_at trail_of
+unfolding loaded placed decoded code_of step write last_exit code_words read_each recognised words_of starts is_start unit_at place_at trail_of
 middle_unsafe =
     refuted middle middle_graph 12 11 (record { newest = 0x40000040; pc = 0x40000048; turn = Ran }) (body (V.Jump 0x40000048)) refl refl (lit≤ tt)
 
 pub bare_return_unsafe : BareReturnIsUnsafe
-unfolding loaded placed decoded code_of step write last_exit code_words recognised words_of starts is_start unit_at place_at trail_of
+unfolding loaded placed decoded code_of step write last_exit code_words read_each recognised words_of starts is_start unit_at place_at trail_of
 bare_return_unsafe =
     refuted bare_return bare_return_graph 11 10 (record { newest = 0x4000000c; pc = 0x40000040; turn = Ran }) (opening 0x40000040) refl refl (lit≤ tt)
 
 pub bare_store_unsafe : BareStoreIsUnsafe
-unfolding loaded placed decoded code_of step write last_exit code_words recognised words_of starts is_start unit_at place_at trail_of
+unfolding loaded placed decoded code_of step write last_exit code_words read_each recognised words_of starts is_start unit_at place_at trail_of
 bare_store_unsafe =
     refuted bare_store bare_store_graph 11 10 (record { newest = 0x4000000c; pc = 0x40000040; turn = Ran }) (opening 0x40000040) refl refl (lit≤ tt)
 
 pub moved_pointer_unsafe : MovedPointerIsUnsafe
-unfolding loaded placed decoded code_of step write last_exit code_words recognised words_of starts is_start unit_at place_at trail_of
+unfolding loaded placed decoded code_of step write last_exit code_words read_each recognised words_of starts is_start unit_at place_at trail_of
 moved_pointer_unsafe =
     refuted moved_pointer moved_pointer_graph 11 10 (record { newest = 0x4000000c; pc = 0x40000040; turn = Ran }) (opening 0x40000040) refl refl (lit≤ tt)
 
 exit_unsafe : IsSafe version_1 exiting_handler handler_graph → ⊥
-unfolding loaded placed decoded code_of step write last_exit code_words recognised words_of starts is_start unit_at place_at trail_of
+unfolding loaded placed decoded code_of step write last_exit code_words read_each recognised words_of starts is_start unit_at place_at trail_of
 exit_unsafe =
     refuted_by_end exiting_handler handler_graph 13 12 (record { newest = 0x40000000; pc = 0x40000000; turn = Exit 0 }) handler refl refl (λ e. e)
 
 load_fault_unsafe : IsSafe version_1 loading_handler handler_graph → ⊥
-unfolding loaded placed decoded code_of step write last_exit code_words recognised words_of starts is_start unit_at place_at trail_of
+unfolding loaded placed decoded code_of step write last_exit code_words read_each recognised words_of starts is_start unit_at place_at trail_of
 load_fault_unsafe =
     refuted_by_end loading_handler handler_graph 13 12 (record { newest = 0x40000000; pc = 0x40000000; turn = LoadFault 0x40000000 0x20000000 }) handler refl refl (λ e. e.1)
 
 store_fault_unsafe : IsSafe version_1 storing_handler handler_graph → ⊥
-unfolding loaded placed decoded code_of step write last_exit code_words recognised words_of starts is_start unit_at place_at trail_of
+unfolding loaded placed decoded code_of step write last_exit code_words read_each recognised words_of starts is_start unit_at place_at trail_of
 store_fault_unsafe =
     refuted_by_end storing_handler handler_graph 13 12 (record { newest = 0x40000000; pc = 0x40000000; turn = StoreFault 0x40000000 0x40000038 }) handler refl refl (λ e. e)
 
 illegal_unsafe : IsSafe version_1 illegal_handler handler_graph → ⊥
-unfolding loaded placed decoded code_of step write last_exit code_words recognised words_of starts is_start unit_at place_at trail_of
+unfolding loaded placed decoded code_of step write last_exit code_words read_each recognised words_of starts is_start unit_at place_at trail_of
 illegal_unsafe =
     refuted_by_end illegal_handler handler_graph 13 12 (record { newest = 0x40000000; pc = 0x40000000; turn = Illegal 0x40000000 }) handler refl refl (λ e. e)
 
 break_unsafe : IsSafe version_1 breaking_closing breaking_closing_graph → ⊥
-unfolding loaded placed decoded code_of step write last_exit code_words recognised words_of starts is_start unit_at place_at trail_of
+unfolding loaded placed decoded code_of step write last_exit code_words read_each recognised words_of starts is_start unit_at place_at trail_of
 break_unsafe =
     refuted_by_end breaking_closing breaking_closing_graph 16 15 (record { newest = 0x40000038; pc = 0x4000003c; turn = Break 0x4000003c }) closing refl refl (λ e. e.1)
 

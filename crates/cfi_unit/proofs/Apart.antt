@@ -3,7 +3,7 @@
 use Rattle.std.proofs.Common.{◌≡◌, ℕ, ◌+◌, ◌==◌, ◌&&◌, ◌||◌, Bool, true, false, not, refl, ap, sym, ◌∙◌, inl, inr, lit<, List, [], ◌∷◌, ◌++◌, drop}
 use Rattle.std.specs.Prelude.{Option, Some, None, if◌then◌else◌}
 use Rattle.std.specs.List.{list_all}
-use Rattle.std.proofs.lemmas.Bool.{and_parts, cases_Bool, eqb-true, eq-eqb, not-true, or_cases}
+use Rattle.std.proofs.lemmas.Bool.{and_from, and_parts, cases_Bool, eq-eqb, eqb-true, not-true, or_cases}
 use Rattle.rv_instr.specs.Reserved.{is_reserved}
 use Rattle.rv_instr.specs.declared.instr.Instr.{Instr}
 use Rattle.rv_instr.specs.declared.instr.Instr.TheVariants.{Upper, Jal, Branch, Load, Store, Immediate, Shift, Ecall, Ebreak}
@@ -27,7 +27,6 @@ use Rattle.cfi_unit.proofs.Further.{precedes_by}
 use Rattle.cfi_unit.proofs.Jumps.{is_jump_instr}
 use Rattle.cfi_unit.proofs.Listed.{each_among}
 use Rattle.cfi_unit.proofs.ShapedUnits.{shape_among, unit_opens}
-use Rattle.cfi_unit.proofs.Stand.{and_both, both}
 use Rattle.cfi_unit.proofs.UnitInList.{begun_parts}
 
 -- what sort of instruction it is, of those that begin units: 0 is that of plain ones
@@ -69,7 +68,7 @@ free r n h kept =
     ]
 
 plain_sort : (i : Instr) → is_plain i ≡ true → sort i ≡ 0
-plain_sort (Upper Lui rd imm) h = rw (not-true (rd == 0) (both (not (is_reserved rd)) (not (rd == 0)) h).1) refl
+plain_sort (Upper Lui rd imm) h = rw (not-true (rd == 0) (and_parts (not (is_reserved rd)) (not (rd == 0)) h).1) refl
 plain_sort (Load op rd rs1 imm) h = rw (free rd 31 h refl) refl
 plain_sort (Immediate op rd rs1 imm) h = rw (free rd 31 h refl) refl
 plain_sort (Shift op rd rs1 amount) h = rw (free rd 30 h refl) refl
@@ -87,8 +86,8 @@ form_sort P.Near here (Branch op rs1 rs2 imm) e = refl
 form_sort P.Goto here (Jal rd imm) e = refl
 form_sort P.Jump here (Jal rd imm) e = refl
 form_sort P.Link here (Jal rd imm) e = refl
-form_sort P.Address here (Immediate op rd rs1 imm) e = rw (both (is_addi op) (rd == 31) e).1 refl
-form_sort P.Number here (Immediate op rd rs1 imm) e = rw (both (rd == 31) _ (both (is_addi op) _ e).1).0 refl
+form_sort P.Address here (Immediate op rd rs1 imm) e = rw (and_parts (is_addi op) (rd == 31) e).1 refl
+form_sort P.Number here (Immediate op rd rs1 imm) e = rw (and_parts (rd == 31) _ (and_parts (is_addi op) _ e).1).0 refl
 form_sort P.Member here (Store op rs1 rs2 imm) e = refl
 form_sort P.Plain here i e = plain_sort i e
 form_sort p here i e = absurd (cc)
@@ -100,7 +99,7 @@ option_sort p here (Some i) e = form_sort p here i e
 word_sort : (p : Pattern) (w here : ℕ) → matches p w here ≡ true → sort_in (decoded w) ≡ sort_of p
 word_sort (P.Is code) w here m = ap (λ c. sort_in (decoded c)) (eqb-true w code m)
 word_sort (P.Halt to) w here m =
-    ap (λ c. sort_in (decoded c)) (eqb-true w (code_of (jump here to)) (both (reaches here to) _ m).1)
+    ap (λ c. sort_in (decoded c)) (eqb-true w (code_of (jump here to)) (and_parts (reaches here to) _ m).1)
     ∙ ap sort_in (decoded-code_of (jump here to) (is_jump_instr 0 here to (lit< tt)))
 word_sort p w here m = option_sort p here (decoded w) m
 
@@ -126,7 +125,7 @@ never_same (P.Is a) (P.Is b) w here e m n =
     let equal = eq-eqb a b same in
     cc
 never_same (P.Halt to) P.Goto w here e m n =
-    let halts = both (reaches here to) (w == code_of (jump here to)) m in
+    let halts = and_parts (reaches here to) (w == code_of (jump here to)) m in
     let is = decoded-code_of (jump here to) (is_jump_instr 0 here to (lit< tt)) in
     let other : not (led_to here (jump_offset here to) == BAD_TARGET) ≡ true =
     sym (ap (decodes_to (has_form P.Goto here)) (ap decoded (eqb-true w (code_of (jump here to)) halts.1) ∙ is)) ∙ n in
@@ -204,7 +203,7 @@ opens_begins [] end [] rest at o ends = ends at
 opens_begins [] end (w ∷ ws) rest at o ends = absurd o
 opens_begins (p ∷ ps) end [] rest at o ends = absurd (cc)
 opens_begins (p ∷ ps) end (w ∷ ws) rest at o ends =
-    and_both (matches p w at) (begins_as ps end (ws ++ rest) (at + 4)) o.0 (opens_begins ps end ws rest (at + 4) o.1 ends)
+    and_from (matches p w at) (begins_as ps end (ws ++ rest) (at + 4)) o.0 (opens_begins ps end ws rest (at + 4) o.1 ends)
 
 pub found_first : (ws : List ℕ) (at : ℕ) (u : U.Unit) → Begins ws at u → found_shape ws at ≡ Some (shape_of u at)
 found_first ws at u b =

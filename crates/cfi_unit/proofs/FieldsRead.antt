@@ -1,5 +1,5 @@
 -- The fields of a unit are read back from its words, whatever follows them that may.
-use Rattle.std.proofs.Common.{◌≡◌, ℕ, ◌+◌, ◌^◌, ◌==◌, ◌≤◌, ◌||◌, ◌⊎◌, true, refl, ap, lit<, List, ◌++◌, length, inl, inr}
+use Rattle.std.proofs.Common.{◌≡◌, ℕ, suc, ◌+◌, ◌^◌, ◌==◌, ◌≤◌, ◌||◌, ◌⊎◌, true, refl, ap, arith, lit<, List, ◌++◌, length, inl, inr}
 use Rattle.std.specs.Prelude.{Option, Some, None, is_none, nat_le, option_map}
 use Rattle.std.proofs.lemmas.Bool.{cases_Bool, leb-true, or_cases}
 use Rattle.std.proofs.lemmas.Nat.{mod_below}
@@ -54,7 +54,8 @@ fields_read (V.System S.Ebreak) at rest f ahead = refl
 fields_read (V.Guarded numbers) at rest f ahead = ap (λ l. Some (V.Guarded l)) (guarded_read numbers at rest f.0.each f.0.most)
 fields_read (V.Stores rs1 imm members) at rest f ahead =
     let is = decoded-code_of (Immediate Addi 31 rs1 imm) (lit< tt, f.0, f.1) in
-    let back = members_back MOST_MEMBERS members rest f.2.each f.2.most (whole members rest ahead) in
+    let back = members_back MOST_MEMBERS members (words_of (V.Stores rs1 imm members) at ++ rest) rest 3 f.2.each f.2.most (whole members rest ahead)
+    (λ i. let e : 3 + i ≡ suc (suc (suc i)) = omega arith in ap (instr_at (words_of (V.Stores rs1 imm members) at ++ rest)) e) in
     elim (cases_Bool (length members == 16)) [
       | inl all ↦ rw (all, is) (ap (λ l. Some (V.Stores rs1 imm l)) back)
       | inr fewer ↦ rw (fewer, is) (ap (λ l. Some (V.Stores rs1 imm l)) back)

@@ -2,7 +2,7 @@
 -- fields in range, and the word of such an instruction is as the pattern says.
 use Rattle.std.proofs.Common.{◌≡◌, ◌≢◌, ℕ, ◌==◌, ◌&&◌, ◌<◌, ◌^◌, Bool, true, false, not, refl, ap, sym, ◌∙◌}
 use Rattle.std.specs.Prelude.{Option, Some, None, nat_lt, if◌then◌else◌, is_none}
-use Rattle.std.proofs.lemmas.Bool.{eqb-true, ltb-true, not-true}
+use Rattle.std.proofs.lemmas.Bool.{and_parts, eqb-false, eqb-true, ltb-true, not-true}
 use Rattle.rv_word.specs.Numbers.{IsNumber}
 use Rattle.rv_instr.specs.InRange.{IsInstr}
 use Rattle.rv_instr.specs.declared.instr.Instr.{Instr}
@@ -21,7 +21,6 @@ use Rattle.cfi_unit.specs.Reach.{led_to}
 use Rattle.cfi_unit.specs.UnitWords.{BAD_TARGET, Reaches, gate, is_plain, jump_offset, is_jump}
 use Rattle.cfi_unit.specs.Patterns.{decodes_to, has_form, matches}
 use Rattle.cfi_unit.proofs.LedBack.{led_back}
-use Rattle.cfi_unit.proofs.Stand.{both, other_told}
 
 -- the instruction that a word is
 record Formed (test : Instr → Bool) (w : ℕ) : Type 0 where
@@ -122,8 +121,8 @@ link_hole w at small m = let f = formed (has_form P.Link at) w small m in link_f
 goto_form : (w at : ℕ) (i : Instr) → has_form P.Goto at i ≡ true → IsInstr i → code_of i ≡ w → (l : Leads 0 w at) × (l.target ≢ BAD_TARGET)
 unfolding leads
 goto_form w at (Jal rd imm) e r code =
-    let p = both (rd == 0) (not (led_to at imm == BAD_TARGET)) e in
-    (leads 0 w at imm r.1 (ap (λ k. code_of (Jal k imm)) (sym (eqb-true rd 0 p.0)) ∙ code), other_told (led_to at imm) BAD_TARGET p.1)
+    let p = and_parts (rd == 0) (not (led_to at imm == BAD_TARGET)) e in
+    (leads 0 w at imm r.1 (ap (λ k. code_of (Jal k imm)) (sym (eqb-true rd 0 p.0)) ∙ code), eqb-false (led_to at imm) BAD_TARGET (not-true (led_to at imm == BAD_TARGET) p.1))
 goto_form w at other e r code = absurd (cc)
 
 pub goto_hole : (w at : ℕ) → w < 2 ^ 32 → matches P.Goto w at ≡ true → (l : Leads 0 w at) × (l.target ≢ BAD_TARGET)
@@ -149,8 +148,8 @@ address_hole w here small m = let f = formed (has_form P.Address here) w small m
 -- a number of a system call
 number_form : (here : ℕ) (i : Instr) → has_form P.Number here i ≡ true → (n : ℕ) × (IsNumber n × (i ≡ Immediate Addi 31 0 n))
 number_form here (Immediate Addi rd rs1 imm) e =
-    let p = both (rd == 31) ((rs1 == 0) && nat_lt imm 2048) e in
-    let q = both (rs1 == 0) (nat_lt imm 2048) p.1 in (
+    let p = and_parts (rd == 31) ((rs1 == 0) && nat_lt imm 2048) e in
+    let q = and_parts (rs1 == 0) (nat_lt imm 2048) p.1 in (
       imm,
       (
         ltb-true imm 2048 q.1,
@@ -169,7 +168,7 @@ number_hole w here small m =
 -- a store behind a mask
 member_form : (here : ℕ) (i : Instr) → has_form P.Member here i ≡ true → IsInstr i → (m : Member) × (IsMember m × (i ≡ member_instr m))
 member_form here (Store op rs1 rs2 imm) e r =
-    let p = both (rs1 == 31) (nat_lt imm 2048) e in (
+    let p = and_parts (rs1 == 31) (nat_lt imm 2048) e in (
       record { op = op; value = rs2; distance = imm },
       ((r.1, ltb-true imm 2048 p.1), ap (λ k. Store op k rs2 imm) (eqb-true rs1 31 p.0)),
     )

@@ -1,15 +1,14 @@
 -- The words of a system call behind tests of its number: they are read back as the numbers tested.
-use Rattle.std.proofs.Common.{◌≡◌, ℕ, zero, suc, ◌+◌, ◌-◌, ◌*◌, ◌<◌, ◌≤◌, ◌^◌, ◌⊎◌, refl, ap, sym, ◌∙◌, lit<, List, [], ◌∷◌, ◌++◌, length, map, take, drop, inl, inr, arith, ◌%◌, ◌==◌, true, false}
-use Rattle.std.specs.Prelude.{Option, Some, None, nat_lt, slice_get}
+use Rattle.std.proofs.Common.{◌≡◌, ℕ, zero, suc, ◌+◌, ◌-◌, ◌*◌, ◌<◌, ◌≤◌, ◌^◌, refl, ap, sym, ◌∙◌, lit<, List, [], ◌∷◌, ◌++◌, length, map, take, inl, inr, arith, ◌%◌, ◌==◌, true, false}
+use Rattle.std.specs.Prelude.{Some, None, nat_lt, slice_get}
 use Rattle.std.specs.List.{AllByRecursion}
 use Rattle.std.proofs.lemmas.Bool.{cases_Bool, lt-ltb, or_parts}
-use Rattle.std.proofs.lemmas.Nat.{mod_below}
-use Rattle.std.proofs.lemmas.List.{append-nil, append_assoc, length-append, length-map, map-append}
+use Rattle.std.proofs.lemmas.List.{append_assoc, length-append, length-map, map-append}
 use Rattle.rv_word.specs.Bits.{wrap}
 use Rattle.rv_word.specs.Numbers.{IsNumber, is_listed}
 use Rattle.rv_instr.specs.InRange.{IsInstr}
 use Rattle.rv_instr.specs.declared.instr.Instr.{Instr}
-use Rattle.rv_instr.specs.declared.instr.Instr.TheVariants.{Branch, Ecall, Immediate, Jal}
+use Rattle.rv_instr.specs.declared.instr.Instr.TheVariants.{Branch, Ecall, Immediate}
 use Rattle.rv_instr.specs.declared.instr.ImmediateOp.TheVariants.{Addi}
 use Rattle.rv_instr.specs.declared.instr.BranchOp.TheVariants.{Beq}
 use Rattle.rv_code.specs.Decode.{decoded}
@@ -18,9 +17,10 @@ use Rattle.rv_code.proofs.ReadBack.{decoded-code_of}
 use Rattle.rv_code.specs.Step.{offset}
 use Rattle.cfi_unit.specs.Guarded.{guards}
 use Rattle.cfi_unit.specs.declared.unit.Unit.TheVariants as V
-use Rattle.cfi_unit.specs.UnitWords.{BAD_TARGET, instr_at, instrs_of, jump, jump_offset, words_of}
+use Rattle.cfi_unit.specs.UnitWords.{BAD_TARGET, instr_at, instrs_of, jump, words_of}
 use Rattle.cfi_unit.proofs.Context.{slice_get-back, slice_get-front}
-use Rattle.cfi_unit.specs.Recognise.{loaded_by, number_of, numbers_in, with_number}
+use Rattle.cfi_unit.specs.Recognise.{number_in, numbers_in, put_first, read_each}
+use Rattle.cfi_unit.proofs.Jumps.{is_jump_instr}
 
 -- two instructions for each number
 pub guards_counted : (ns : List ℕ) → length (guards ns) ≡ 2 * length ns
@@ -37,33 +37,26 @@ is_load n small = (lit< tt, lit< tt, (let low : n < 2 ^ 11 = small in omega arit
 pub is_test : (left : ℕ) → left ≤ 8 → IsInstr (Branch Beq 31 17 (4 * left))
 is_test left few = (lit< tt, lit< tt, omega arith)
 
-number_read : (n left : ℕ) → IsNumber n → left ≤ 8 →
-    number_of (decoded (code_of (Immediate Addi 31 0 n))) (decoded (code_of (Branch Beq 31 17 (4 * left)))) ≡ Some n
-number_read n left small few =
-    ap (λ o. number_of (decoded (code_of (Immediate Addi 31 0 n))) o) (decoded-code_of (Branch Beq 31 17 (4 * left)) (is_test left few))
-    ∙ ap loaded_by (decoded-code_of (Immediate Addi 31 0 n) (is_load n small)) ∙ rw (lt-ltb n 2048 small) refl
+number_read : (n : ℕ) → IsNumber n → number_in (decoded (code_of (Immediate Addi 31 0 n))) ≡ Some n
+number_read n small = ap number_in (decoded-code_of (Immediate Addi 31 0 n) (is_load n small)) ∙ rw (lt-ltb n 2048 small) refl
 
--- the tests are read back as these numbers, where no more are asked for or no other test follows
-pub numbers_back : (most : ℕ) (ns : List ℕ) (rest : List ℕ) → most ≤ 8 → AllByRecursion IsNumber ns → length ns ≤ most →
-    (most ≤ length ns) ⊎ (number_of (instr_at rest 0) (instr_at rest 1) ≡ None) → numbers_in most (map code_of (guards ns) ++ rest) ≡ ns
-unfolding numbers_in
-numbers_back zero [] rest eight all few ends = refl
-numbers_back (suc most) [] rest eight all few (inl all_read) = absurd (let none : length {A = ℕ} [] ≡ 0 = refl in omega arith)
-numbers_back (suc most) [] rest eight all few (inr none) = ap (λ o. with_number o (numbers_in most (drop 2 rest))) none
-numbers_back zero (n ∷ ns) rest eight all few ends = absurd (omega arith)
-numbers_back (suc most) (n ∷ ns) rest eight all few ends =
-    ap (λ o. with_number o (numbers_in most (map code_of (guards ns) ++ rest))) (number_read n (length (n ∷ ns)) all.0 (omega arith))
-    ∙ ap (λ l. n ∷ l) (numbers_back most ns rest (omega arith) all.1 (omega arith) (fewer ends))
-  where
-    fewer : (suc most ≤ suc (length ns)) ⊎ (number_of (instr_at rest 0) (instr_at rest 1) ≡ None) →
-        (most ≤ length ns) ⊎ (number_of (instr_at rest 0) (instr_at rest 1) ≡ None)
-    fewer (inl all_read) = inl (omega arith)
-    fewer (inr none) = inr none
-
--- no test begins with a jump
-pub jump_ends : (rd imm : ℕ) (o : Option Instr) → number_of (Some (Jal rd imm)) o ≡ None
-jump_ends rd imm (Some (Branch op a b field)) = refl
-jump_ends rd imm other = refl
+-- the tests are read back as these numbers, where no other test follows
+numbers_back : (most : ℕ) (ns ws rest : List ℕ) (k : ℕ) → AllByRecursion IsNumber ns → length ns ≤ most → number_in (instr_at rest 0) ≡ None →
+    ((i : ℕ) → instr_at ws (k + i) ≡ instr_at (map code_of (guards ns) ++ rest) i) → read_each number_in 2 ws k most ≡ ns
+unfolding read_each
+numbers_back zero [] ws rest k all few ends there = refl
+numbers_back zero (n ∷ ns) ws rest k all few ends there = absurd (omega arith)
+numbers_back (suc most) [] ws rest k all few ends there =
+    let e : k ≡ k + 0 = omega arith in
+    ap (λ o. put_first (number_in o) (read_each number_in 2 ws (k + 2) most)) (ap (instr_at ws) e ∙ there 0)
+    ∙ ap (λ o. put_first o (read_each number_in 2 ws (k + 2) most)) ends
+numbers_back (suc most) (n ∷ ns) ws rest k all few ends there =
+    let e : k ≡ k + 0 = omega arith in
+    ap (λ o. put_first (number_in o) (read_each number_in 2 ws (k + 2) most)) (ap (instr_at ws) e ∙ there 0)
+    ∙ ap (λ o. put_first o (read_each number_in 2 ws (k + 2) most)) (number_read n all.0)
+    ∙ ap (λ l. n ∷ l)
+    (numbers_back most ns ws rest (k + 2) all.1 (omega arith) ends
+    (λ i. let f : k + 2 + i ≡ k + suc (suc i) = omega arith in ap (instr_at ws) f ∙ there (suc (suc i))))
 
 -- number k of some, and the tests of it
 pub load_at : (ns : List ℕ) (k : ℕ) → AllByRecursion IsNumber ns → k < length ns →
@@ -153,17 +146,15 @@ guarded_counted ns at =
 
 -- they are read back as the unit's numbers, whatever follows them
 pub guarded_read : (ns : List ℕ) (at : ℕ) (rest : List ℕ) → AllByRecursion IsNumber ns → length ns ≤ 8 →
-    numbers_in 8 (words_of (V.Guarded ns) at ++ rest) ≡ ns
+    numbers_in (words_of (V.Guarded ns) at ++ rest) ≡ ns
 guarded_read ns at rest all few =
-    let tests : List ℕ = map code_of (guards ns) in
     let j : Instr = jump (at + 8 * length ns) BAD_TARGET in
     let last : List ℕ = code_of j ∷ code_of Ecall ∷ [] in
-    let parts : words_of (V.Guarded ns) at ++ rest ≡ tests ++ (last ++ rest) =
-    ap (λ l. l ++ rest) (guarded_words ns at) ∙ append_assoc tests last rest in
-    let ends : number_of (instr_at (last ++ rest) 0) (instr_at (last ++ rest) 1) ≡ None =
-    ap (λ o. number_of o (instr_at (last ++ rest) 1)) (decoded-code_of j (lit< tt, mod_below _ (2 ^ 20) (lit< tt)))
-    ∙ jump_ends 0 (jump_offset (at + 8 * length ns) BAD_TARGET) (instr_at (last ++ rest) 1) in
-    ap (numbers_in 8) parts ∙ numbers_back 8 ns (last ++ rest) (omega arith) all few (inr ends)
+    let parts : words_of (V.Guarded ns) at ++ rest ≡ map code_of (guards ns) ++ (last ++ rest) =
+    ap (λ l. l ++ rest) (guarded_words ns at) ∙ append_assoc (map code_of (guards ns)) last rest in
+    numbers_back 8 ns (words_of (V.Guarded ns) at ++ rest) (last ++ rest) 0 all few
+    (ap number_in (decoded-code_of j (is_jump_instr 0 (at + 8 * length ns) BAD_TARGET (lit< tt))))
+    (λ i. let e : 0 + i ≡ i = omega arith in ap (instr_at (words_of (V.Guarded ns) at ++ rest)) e ∙ ap (λ l. instr_at l i) parts)
 
 -- they are put behind others in two parts
 pub guarded_room : (old shown ns new : List ℕ) → length old ≡ 0 → length ns ≤ 8 → shown ≡ ns → new ≡ old ++ map code_of (guards shown) →
@@ -184,54 +175,3 @@ guarded_put old shown ns new all at count j same put counted is whole =
     let jumps : j ≡ jump (at + 8 * length ns) BAD_TARGET = is ∙ ap (λ n. jump (at + 8 * n) BAD_TARGET) counted in
     whole ∙ ap (λ l. l ++ (code_of j ∷ code_of Ecall ∷ [])) first ∙ ap (λ i. (old ++ tests) ++ (code_of i ∷ code_of Ecall ∷ [])) jumps
     ∙ append_assoc old tests last ∙ ap (λ l. old ++ l) (sym (guarded_words ns at))
-
--- the loop over words: the next two test a number, or do not
-skipped : (j : ℕ) (ws : List ℕ) → drop 2 (drop j ws) ≡ drop (j + 2) ws
-skipped zero ws = ap (λ n. drop n ws) (let e : 2 ≡ 0 + 2 = omega arith in e)
-skipped (suc j) [] = let e : suc (j + 2) ≡ suc j + 2 = omega arith in ap (λ n. drop {A = ℕ} n []) e
-skipped (suc j) (w ∷ ws) = skipped j ws ∙ ap (λ n. drop n (w ∷ ws)) (let e : suc (j + 2) ≡ suc j + 2 = omega arith in e)
-
-first_from : (j : ℕ) (ws : List ℕ) → instr_at (drop j ws) 0 ≡ instr_at ws j
-first_from zero ws = refl
-first_from (suc j) [] = refl
-first_from (suc j) (w ∷ ws) = first_from j ws
-
-second_from : (j : ℕ) (ws : List ℕ) → instr_at (drop j ws) 1 ≡ instr_at ws (j + 1)
-second_from zero ws = ap (instr_at ws) (let e : 1 ≡ 0 + 1 = omega arith in e)
-second_from (suc j) [] = refl
-second_from (suc j) (w ∷ ws) = second_from j ws ∙ ap (instr_at (w ∷ ws)) (let e : suc (j + 1) ≡ suc j + 1 = omega arith in e)
-
-next_is : (most j : ℕ) (ws : List ℕ) →
-    numbers_in (suc most) (drop j ws) ≡ with_number (number_of (instr_at ws j) (instr_at ws (j + 1))) (numbers_in most (drop (j + 2) ws))
-unfolding numbers_in
-next_is most j ws =
-    ap (λ o. with_number (number_of o (instr_at (drop j ws) 1)) (numbers_in most (drop 2 (drop j ws)))) (first_from j ws)
-    ∙ ap (λ o. with_number (number_of (instr_at ws j) o) (numbers_in most (drop 2 (drop j ws)))) (second_from j ws)
-    ∙ ap (λ l. with_number (number_of (instr_at ws j) (instr_at ws (j + 1))) (numbers_in most l)) (skipped j ws)
-
-stop_is : (most j : ℕ) (ws : List ℕ) → number_of (instr_at ws j) (instr_at ws (j + 1)) ≡ None → numbers_in most (drop j ws) ≡ []
-unfolding numbers_in
-stop_is zero j ws none = refl
-stop_is (suc most) j ws none = next_is most j ws ∙ ap (λ o. with_number o (numbers_in most (drop (j + 2) ws))) none
-
-module _ (ns all : List ℕ) (k : ℕ) (ws : List ℕ) (read : ns ++ numbers_in (8 - k) (drop (2 * k) ws) ≡ all) where
-  pub tests_on : (n : ℕ) → k < 8 → number_of (instr_at ws (2 * k)) (instr_at ws (2 * k + 1)) ≡ Some n →
-      (ns ++ n ∷ []) ++ numbers_in (8 - (k + 1)) (drop (2 * (k + 1)) ws) ≡ all
-  tests_on n below is =
-      let e : 8 - k ≡ suc (8 - (k + 1)) = omega arith in
-      let f : 2 * k + 2 ≡ 2 * (k + 1) = omega arith in
-      let others : List ℕ = numbers_in (8 - (k + 1)) (drop (2 * (k + 1)) ws) in
-      let step : numbers_in (8 - k) (drop (2 * k) ws) ≡ n ∷ others =
-      ap (λ m. numbers_in m (drop (2 * k) ws)) e ∙ next_is (8 - (k + 1)) (2 * k) ws
-      ∙ ap (λ o. with_number o (numbers_in (8 - (k + 1)) (drop (2 * k + 2) ws))) is
-      ∙ ap (λ j. n ∷ numbers_in (8 - (k + 1)) (drop j ws)) f in
-      append_assoc ns (n ∷ []) others ∙ sym (ap (λ l. ns ++ l) step) ∙ read
-
-  pub tests_stop : number_of (instr_at ws (2 * k)) (instr_at ws (2 * k + 1)) ≡ None → ns ≡ all
-  tests_stop none = sym (append-nil ns) ∙ sym (ap (λ l. ns ++ l) (stop_is (8 - k) (2 * k) ws none)) ∙ read
-
-  pub tests_end : 8 ≤ k → ns ≡ all
-  unfolding numbers_in
-  tests_end past =
-      let e : 8 - k ≡ 0 = omega arith in
-      sym (append-nil ns) ∙ sym (ap (λ m. ns ++ numbers_in m (drop (2 * k) ws)) e) ∙ read

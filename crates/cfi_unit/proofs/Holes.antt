@@ -1,7 +1,7 @@
 -- The holes of patterns: words are as patterns say where the words in the holes are, and the others are the
 -- patterns' own.
 use Rattle.std.proofs.Common.{◌≡◌, ℕ, ◌+◌, ◌==◌, true, refl, ap, sym, subst, ◌∙◌, List, [], ◌∷◌, length, arith}
-use Rattle.std.proofs.lemmas.Bool.{eqb-true, eq-eqb}
+use Rattle.std.proofs.lemmas.Bool.{and_from, and_parts, eq-eqb, eqb-true}
 use Rattle.rv_code.specs.Encode.{code_of}
 use Rattle.cfi_unit.specs.declared.pattern.Pattern.{Pattern}
 use Rattle.cfi_unit.specs.declared.pattern.Pattern.TheVariants as P
@@ -9,7 +9,6 @@ use Rattle.cfi_unit.specs.Reach.{reaches}
 use Rattle.cfi_unit.specs.UnitWords.{jump}
 use Rattle.cfi_unit.specs.Patterns.{matches}
 use Rattle.cfi_unit.specs.Opens.{Opens, Small}
-use Rattle.cfi_unit.proofs.Stand.{and_both, both}
 
 -- these words may stand in the holes; the patterns begin so many bytes from an address
 abbrev pub Fill : List Pattern → ℕ → ℕ → List ℕ → Type 0
@@ -52,7 +51,7 @@ holes_in (P.Is code ∷ ps) (w ∷ ws) at k s o =
 holes_in (P.Halt to ∷ ps) (w ∷ ws) at k s o =
     let e : at + k + 4 ≡ at + (k + 4) = omega arith in
     let more = holes_in ps ws at (k + 4) s.1 (subst (λ (a : ℕ). Opens ps ws a []) e o.1) in
-    let halts = both (reaches (at + k) to) (w == code_of (jump (at + k) to)) o.0 in
+    let halts = and_parts (reaches (at + k) to) (w == code_of (jump (at + k) to)) o.0 in
     record {
       holes = more.holes;
       small = more.small;
@@ -74,7 +73,7 @@ filled_opens (P.Is code ∷ ps) at k hs f =
 filled_opens (P.Halt to ∷ ps) at k hs f =
     let e : at + (k + 4) ≡ at + k + 4 = omega arith in
     let code : ℕ = code_of (jump (at + k) to) in (
-      and_both (reaches (at + k) to) (code == code) f.0 (eq-eqb code code refl),
+      and_from (reaches (at + k) to) (code == code) f.0 (eq-eqb code code refl),
       subst (λ (a : ℕ). Opens ps (filled ps at (k + 4) hs) a []) e (filled_opens ps at (k + 4) hs f.1),
     )
 filled_opens (p ∷ ps) at k [] f = absurd f

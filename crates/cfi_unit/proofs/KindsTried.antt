@@ -6,9 +6,11 @@ use Rattle.rv_word.proofs.Cases.{cases_Option}
 use Rattle.cfi_unit.specs.declared.pattern.End.{End}
 use Rattle.cfi_unit.specs.declared.pattern.End.TheVariants as E
 use Rattle.cfi_unit.specs.declared.recogniser.TheConstants as kinds
+use Rattle.cfi_unit.specs.declared.unit.Unit as U
 use Rattle.cfi_unit.specs.declared.target_word.TargetWord.TheVariants.{First, Second}
 use Rattle.cfi_unit.specs.Laws.{AreWords}
 use Rattle.cfi_unit.specs.NoneBegins.{NoneBegins}
+use Rattle.cfi_unit.specs.UnitWords.{Begins}
 use Rattle.cfi_unit.specs.Recognise.{recognised}
 use Rattle.cfi_unit.specs.ShapeOf.{shape_of}
 use Rattle.cfi_unit.proofs.Told.{recognised_begins}
@@ -33,12 +35,12 @@ place E.Guarded = (14, (omega arith, refl))
 place E.Full = (15, (omega arith, refl))
 place E.Stores = (16, (omega arith, refl))
 
+pub none_begins : (ws : List ℕ) (at : ℕ) → All (λ end. NoneBegins end ws at) kinds.KINDS → (u : U.Unit) → Begins ws at u → ⊥
+none_begins ws at none u b = let (k, (few, is)) = place (shape_of u at).end in none k (shape_of u at).end few u b is
+
 pub none_recognised : (ws : List ℕ) (at : ℕ) → AreWords ws → All (λ end. NoneBegins end ws at) kinds.KINDS → recognised ws at ≡ None
 none_recognised ws at words none =
     elim (cases_Option (recognised ws at)) [
       | inl nothing ↦ nothing
-      | inr some ↦
-          let end = (shape_of some.0 at).end in
-          let (k, (few, is)) = place end in
-          absurd (none k end few some.0 (recognised_begins ws at some.0 words some.1) is)
+      | inr some ↦ absurd (none_begins ws at none some.0 (recognised_begins ws at some.0 words some.1))
     ]

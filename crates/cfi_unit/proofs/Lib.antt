@@ -1,7 +1,7 @@
-pub mod Stand
 pub mod MemberWords
 pub mod GuardedWords
 pub mod Counts
+mod ReadEach
 pub mod Flows
 pub mod UnitInList
 pub mod Further

@@ -27,7 +27,7 @@ use Rattle.cfi_unit.proofs.Forms.{IsBranch, address_hole, gate_hole, goto_hole, 
 use Rattle.cfi_unit.proofs.Holes.{Fill, filled, holes_in}
 use Rattle.cfi_unit.proofs.LedBack.{near_back}
 use Rattle.cfi_unit.proofs.Listed.{among_either, guarded_of, stores_of}
-use Rattle.cfi_unit.proofs.Stand.{told}
+use Rattle.cfi_unit.proofs.Jumps.{told}
 use Rattle.cfi_unit.proofs.UnitHoles.{holes_of, load_word, member_word, unit_filled}
 
 -- the unit with these words in the holes

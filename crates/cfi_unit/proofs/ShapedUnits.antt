@@ -26,8 +26,7 @@ use Rattle.cfi_unit.specs.ShapeOf.{shape_of}
 use Rattle.cfi_unit.specs.Opens.{Among, Opens}
 use Rattle.cfi_unit.proofs.Forms.{passes}
 use Rattle.cfi_unit.proofs.GuardedWords.{is_load}
-use Rattle.cfi_unit.proofs.Jumps.{is_jump_instr}
-use Rattle.cfi_unit.proofs.Stand.{tested}
+use Rattle.cfi_unit.proofs.Jumps.{is_jump_instr, tested}
 use Rattle.cfi_unit.proofs.UnitInList.{words_counted}
 use Rattle.cfi_unit.proofs.Holes.{Fill, filled_opens, opened_length}
 use Rattle.cfi_unit.proofs.Listed.{among_back, among_front, guarded_listed, listed, stores_listed}

@@ -1,6 +1,6 @@
 -- The unit that is recognised begins the list.
 use Rattle.std.proofs.Common.{◌≡◌, ℕ, ◌<◌, ◌^◌, ap, sym, subst, ◌∙◌, inl, inr, List}
-use Rattle.std.specs.Prelude.{Some, None, option_and_then}
+use Rattle.std.specs.Prelude.{Some, option_and_then}
 use Rattle.std.proofs.lemmas.List.Elements.{recursion_from_All}
 use Rattle.std.proofs.lemmas.Option.{same_Some}
 use Rattle.rv_word.proofs.Cases.{cases_Option}
@@ -22,6 +22,3 @@ recognised_begins ws at u words e =
           let (v, (begun, is)) = found_begins ws at some.0 some.1 (recursion_from_All (λ (w : ℕ). w < 2 ^ 32) ws words) in
           subst (λ (w : U.Unit). Begins ws at w) (same_Some v u (sym (begins_recognised ws at v begun) ∙ e)) begun
     ]
-
-pub none_begins : (ws : List ℕ) (at : ℕ) → recognised ws at ≡ None → (u : U.Unit) → Begins ws at u → ⊥
-none_begins ws at none u b = let some : recognised ws at ≡ Some u = begins_recognised ws at u b in cc

@@ -6,7 +6,7 @@ use Rattle.rv_code.specs.Decode.{decoded}
 use Rattle.rv_code.specs.Encode.{code_of}
 use Rattle.cfi_unit.specs.declared.unit.Unit.TheVariants as V
 use Rattle.cfi_unit.specs.UnitWords.{words_of}
-use Rattle.cfi_unit.specs.Recognise.{numbers_in, recognised}
+use Rattle.cfi_unit.specs.Recognise.{read_each, recognised}
 use Rattle.cfi_unit.specs.Prologue.{prologue_instrs}
 
 prologue_words : map code_of (prologue_instrs version_1 0x40000040) ≡
@@ -35,14 +35,14 @@ unfolding words_of code_of
 guarded_eight = refl
 
 one_found : recognised (0x04000f93 ∷ 0x011f8463 ∷ 0xf51ff06f ∷ 0x00000073 ∷ []) 0x400000a8 ≡ Some (V.Guarded (64 ∷ []))
-unfolding recognised numbers_in words_of code_of decoded
+unfolding recognised read_each words_of code_of decoded
 one_found = refl
 
 -- a number above 2047 is none, nor is a branch to another word
 not_above : recognised (0x80000f93 ∷ 0x011f8463 ∷ 0xf51ff06f ∷ 0x00000073 ∷ []) 0x400000a8 ≡ None
-unfolding recognised numbers_in words_of code_of decoded
+unfolding recognised read_each words_of code_of decoded
 not_above = refl
 
 not_elsewhere : recognised (0x04000f93 ∷ 0x011f8263 ∷ 0xf51ff06f ∷ 0x00000073 ∷ []) 0x400000a8 ≡ None
-unfolding recognised numbers_in words_of code_of decoded
+unfolding recognised read_each words_of code_of decoded
 not_elsewhere = refl

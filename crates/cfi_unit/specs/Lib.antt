@@ -3,7 +3,6 @@ pub mod Guarded
 pub mod UnitWords
 pub mod InRange
 pub mod Reach
-pub mod CanStand
 pub mod Patterns
 pub mod Shapes
 pub mod ShapeOf

@@ -1,11 +1,10 @@
 -- The stores behind one mask: each stores off x31, which holds the masked address, at a distance
 -- below 2^11; as many as follow belong to it, up to sixteen.
-use Rattle.std.specs.Prelude.{ℕ, ◌<◌, ◌≤◌, ◌^◌, ◌==◌, ◌&&◌, List, [], ◌∷◌, Option, Some, None, length, if◌then◌else◌, nat_lt}
+use Rattle.std.specs.Prelude.{ℕ, ◌<◌, ◌≤◌, ◌^◌, ◌==◌, ◌&&◌, List, Option, Some, None, length, if◌then◌else◌, nat_lt}
 use Rattle.std.specs.List.{AllByRecursion}
 use Rattle.rv_instr.specs.declared.instr.Instr.{Instr}
 use Rattle.rv_instr.specs.declared.instr.Instr.TheVariants.{Store}
 use Rattle.rv_instr.specs.declared.instr.StoreOp.TheVariants.{Sb}
-use Rattle.rv_code.specs.Decode.{decoded}
 use Rattle.cfi_unit.specs.declared.members.Member.{Member}
 use Rattle.cfi_unit.specs.declared.members.TheConstants as counts
 
@@ -36,12 +35,3 @@ abbrev pub member_of : Option Instr → Option Member
 member_of (Some (Store op rs1 rs2 imm)) =
     if (rs1 == 31) && nat_lt imm 2048 then Some (record { op = op; value = rs2; distance = imm }) else None
 member_of other = None
-
-abbrev pub with_member : Option Member → List Member → List Member
-with_member None members = []
-with_member (Some member) members = member ∷ members
-
--- the members with which a list of words begins
-abbrev pub members_in : List ℕ → List Member
-members_in [] = []
-members_in (word ∷ words) = with_member (member_of (decoded word)) (members_in words)

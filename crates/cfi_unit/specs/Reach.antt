@@ -1,10 +1,10 @@
--- Where a jump and a branch lead from an address by their offset fields, and whether one reaches another address.
+-- Where a jump and a branch lead from an address by their offset fields, and whether a jump reaches another address.
 use Rattle.std.specs.Prelude.{ℕ, ◌+◌, ◌*◌, ◌==◌, Bool, Option, Some, None}
 use Rattle.rv_word.specs.Bits.{wrap}
 use Rattle.rv_instr.specs.declared.instr.Instr.{Instr}
 use Rattle.rv_instr.specs.declared.instr.Instr.TheVariants.{Jal}
 use Rattle.rv_code.specs.Step.{offset}
-use Rattle.cfi_unit.specs.UnitWords.{jump_offset, near_offset}
+use Rattle.cfi_unit.specs.UnitWords.{jump_offset}
 
 -- where a jump at an address leads
 abbrev pub led_to : ℕ → ℕ → ℕ
@@ -22,7 +22,3 @@ target_in at other = None
 -- a jump from one address reaches another, as a test
 abbrev pub reaches : ℕ → ℕ → Bool
 reaches from to = led_to from (jump_offset from to) == to
-
--- and a branch
-abbrev pub is_near : ℕ → ℕ → Bool
-is_near from to = near_to from (near_offset from to) == to

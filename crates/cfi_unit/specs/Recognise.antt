@@ -1,6 +1,6 @@
 -- The unit that begins a list of words: one of the first shape of the table that the words begin as, whose fields are
 -- read from the words that the shape leaves open. It is the unit that `Begins` the list.
-use Rattle.std.specs.Prelude.{ℕ, zero, suc, ◌+◌, List, [], ◌∷◌, Option, Some, None, option_map, if◌then◌else◌, nat_lt, drop, take, option_and_then}
+use Rattle.std.specs.Prelude.{ℕ, zero, suc, ◌+◌, List, [], ◌∷◌, Option, Some, None, option_map, if◌then◌else◌, nat_lt, option_and_then}
 use Rattle.rv_word.specs.Numbers.{MOST_NUMBERS}
 use Rattle.rv_instr.specs.declared.instr.Instr.{Instr}
 use Rattle.rv_instr.specs.declared.instr.Instr.TheVariants.{Upper, Branch, Immediate}
@@ -9,7 +9,8 @@ use Rattle.cfi_unit.specs.declared.pattern.End.TheVariants as E
 use Rattle.cfi_unit.specs.declared.unit.Unit as U
 use Rattle.cfi_unit.specs.declared.unit.Unit.TheVariants as V
 use Rattle.cfi_unit.specs.declared.unit.SystemOp.TheVariants as S
-use Rattle.cfi_unit.specs.Members.{MOST_MEMBERS, members_in}
+use Rattle.cfi_unit.specs.declared.members.Member.{Member}
+use Rattle.cfi_unit.specs.Members.{MOST_MEMBERS, member_of}
 use Rattle.cfi_unit.specs.UnitWords.{instr_at}
 pub use Rattle.cfi_unit.specs.Reach.{led_to, near_to, target_in}
 use Rattle.cfi_unit.specs.FoundShape.{found_shape}
@@ -33,23 +34,25 @@ abbrev pub address_in : Option Instr → Option (ℕ × ℕ)
 address_in (Some (Immediate op rd rs1 imm)) = Some (rs1, imm)
 address_in other = None
 
--- the number that two instructions test: one loads it, and a branch follows
-abbrev pub loaded_by : Option Instr → Option ℕ
-loaded_by (Some (Immediate op rd rs1 n)) = if nat_lt n 2048 then Some n else None
-loaded_by other = None
+-- the number that a test loads
+abbrev pub number_in : Option Instr → Option ℕ
+number_in (Some (Immediate op rd rs1 n)) = if nat_lt n 2048 then Some n else None
+number_in other = None
 
-abbrev pub number_of : Option Instr → Option Instr → Option ℕ
-number_of first (Some (Branch op a b field)) = loaded_by first
-number_of first other = None
+abbrev pub put_first : {A : Type 0} → Option A → List A → List A
+put_first None items = []
+put_first (Some item) items = item ∷ items
 
-abbrev pub with_number : Option ℕ → List ℕ → List ℕ
-with_number None numbers = []
-with_number (Some n) numbers = n ∷ numbers
+-- what is read of the word at a place, and of each so-manieth behind it, as long as something is, at most so often
+unfoldable pub read_each : {A : Type 0} → (Option Instr → Option A) → ℕ → List ℕ → ℕ → ℕ → List A
+read_each read step words k zero = []
+read_each read step words k (suc most) = put_first (read (instr_at words k)) (read_each read step words (k + step) most)
 
--- the numbers that a list of words begins by testing, at most so many
-unfoldable pub numbers_in : ℕ → List ℕ → List ℕ
-numbers_in zero words = []
-numbers_in (suc most) words = with_number (number_of (instr_at words 0) (instr_at words 1)) (numbers_in most (drop 2 words))
+abbrev pub numbers_in : List ℕ → List ℕ
+numbers_in words = read_each number_in 2 words 0 MOST_NUMBERS
+
+abbrev pub members_in : List ℕ → List Member
+members_in words = read_each member_of 1 words 3 MOST_MEMBERS
 
 -- the same of a computed transfer, and its label
 abbrev pub transfer_in : List ℕ → Option (ℕ × ℕ × ℕ)
@@ -57,7 +60,7 @@ transfer_in words =
     option_and_then (λ label. option_map (λ a. (a.0, a.1, label)) (address_in (instr_at words 0))) (label_in (instr_at words 8))
 
 abbrev pub stores_in : List ℕ → Option U.Unit
-stores_in words = option_map (λ a. V.Stores a.0 a.1 (members_in (take MOST_MEMBERS (drop 3 words)))) (address_in (instr_at words 0))
+stores_in words = option_map (λ a. V.Stores a.0 a.1 (members_in words)) (address_in (instr_at words 0))
 
 -- the unit of a kind whose words these are
 abbrev pub unit_of : End → List ℕ → ℕ → Option U.Unit
@@ -74,7 +77,7 @@ unit_of E.Call words at = option_map V.Call (target_in (at + 28) (instr_at words
 unit_of (E.Ijump which) words at = option_map (λ t. V.Ijump which t.0 t.1 t.2) (transfer_in words)
 unit_of E.Icall words at = option_map (λ t. V.Icall t.0 t.1 t.2) (transfer_in words)
 unit_of E.Return words at = Some V.Return
-unit_of E.Guarded words at = Some (V.Guarded (numbers_in MOST_NUMBERS words))
+unit_of E.Guarded words at = Some (V.Guarded (numbers_in words))
 unit_of E.Stores words at = stores_in words
 unit_of E.Full words at = stores_in words
 

@@ -2,10 +2,8 @@
 
 ghost use Rattle.std.specs.Prelude.{◌≡◌, ◌+◌, ◌*◌, ◌<◌, ◌↔◌, ◌++◌, IfOk, IsTrue, List, Some, length, ℕ};
 ghost use Rattle.rv_word.specs.MemoryMap.{CODE_START, CODE_SIZE};
-ghost use Rattle.cfi_unit.specs.CanStand.{can_stand, check_reaches};
 ghost use Rattle.cfi_unit.specs.Recognise.{recognised};
-ghost use Rattle.cfi_unit.specs.UnitWords.{Fits, is_plain, may_precede, word_count, words_of};
-ghost use Rattle.cfi_unit.specs.declared.unit.Unit.TheVariants as V;
+ghost use Rattle.cfi_unit.specs.UnitWords.{BAD_TARGET, Fits, Reaches, is_plain, may_precede, word_count, words_of};
 
 use crate::handlers::{BAD_RETURN, BAD_TARGET, DEEP};
 use crate::jump::{is_close, is_reached};
@@ -60,20 +58,11 @@ pub(crate) fn count(unit: &Unit) -> u32
 
 /// Whether a unit may stand at an address: a plain unit's instruction may stand alone, and every
 /// jump reaches its target.
-#[tactic(auto, using(crate::proofs::Stand::stand_fits, crate::proofs::Stand::fits_stand))]
 pub fn fits(unit: &Unit, at: u64) -> bool
     requires { at < CODE_START + CODE_SIZE }
     ensures { IsTrue result ↔ Fits unit.now at }
 {
     unit.in_range();
-    may_stand(unit, at)
-}
-
-/// Whether a unit whose fields are in range may stand at an address.
-pub(crate) fn may_stand(unit: &Unit, at: u64) -> bool
-    requires { at < CODE_START + CODE_SIZE }
-    ensures { result ≡ can_stand unit.now at }
-{
     match *unit {
         Unit::Gate(_) | Unit::System(_) => true,
         Unit::Guarded(numbers) => guards_reach(&numbers, at),
@@ -94,7 +83,7 @@ pub(crate) fn may_stand(unit: &Unit, at: u64) -> bool
 #[inline(never)]
 fn guards_reach(numbers: &Numbers, at: u64) -> bool
     requires { at < CODE_START + CODE_SIZE }
-    ensures { result ≡ can_stand (V.Guarded numbers.now) at }
+    ensures { IsTrue result ↔ ((0 < length numbers.now) × Reaches (at + 8 * length numbers.now) BAD_TARGET) }
 {
     let count = numbers.len();
     count > 0 && is_reached(at + 8 * count as u64, BAD_TARGET)
@@ -103,7 +92,7 @@ fn guards_reach(numbers: &Numbers, at: u64) -> bool
 /// Whether the jumps of a check reach their handler.
 fn halts_reach(at: u64) -> bool
     requires { at < CODE_START + CODE_SIZE }
-    ensures { result ≡ check_reaches at }
+    ensures { IsTrue result ↔ (Reaches (at + 24) BAD_TARGET × Reaches (at + 44) BAD_TARGET) }
 {
     is_reached(at + 24, BAD_TARGET) && is_reached(at + 44, BAD_TARGET)
 }

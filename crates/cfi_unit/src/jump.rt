@@ -1,8 +1,8 @@
 //! Offsets of jumps and branches: where they lead and what they reach.
 
-ghost use Rattle.std.specs.Prelude.{◌≡◌};
-ghost use Rattle.cfi_unit.specs.Reach.{is_near, led_to, near_to, reaches};
-ghost use Rattle.cfi_unit.specs.UnitWords.{jump, jump_offset, near_offset};
+ghost use Rattle.std.specs.Prelude.{◌≡◌, ◌↔◌, IsTrue};
+ghost use Rattle.cfi_unit.specs.Reach.{led_to, near_to};
+ghost use Rattle.cfi_unit.specs.UnitWords.{IsNear, Reaches, jump, jump_offset, near_offset};
 
 use rv_instr::{Immediate, Instr, Reg};
 use rv_word::sext;
@@ -37,7 +37,7 @@ pub(crate) fn near_between(from: u64, to: u64) -> Immediate<12>
 
 /// Whether a branch from one address can reach another.
 pub(crate) fn is_close(from: u64, to: u64) -> bool
-    ensures { result ≡ is_near from to }
+    ensures { IsTrue result ↔ IsNear from to }
 {
     led_near(from, near_between(from, to)) == to
 }
@@ -51,7 +51,7 @@ pub(crate) fn jump_between(from: u64, to: u64) -> Instr
 
 /// Whether a jump from one address can reach another.
 pub(crate) fn is_reached(from: u64, to: u64) -> bool
-    ensures { result ≡ reaches from to }
+    ensures { IsTrue result ↔ Reaches from to }
 {
     led(from, field_between(from, to)) == to
 }

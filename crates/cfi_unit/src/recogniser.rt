@@ -1,19 +1,19 @@
 //! The unit that begins a list of words.
 
-ghost use Rattle.std.specs.Prelude.{◌≡◌, ◌↔◌, ◌+◌, ◌<◌, ◌≤◌, ◌||◌, None, Some, drop, if◌then◌else◌, is_none, nat_le, nat_lt, option_map, take, IfSome, IsNone, IsTrue};
+ghost use Rattle.std.specs.Prelude.{◌≡◌, ◌↔◌, ◌+◌, ◌<◌, ◌≤◌, ◌||◌, None, Some, drop, if◌then◌else◌, is_none, nat_le, nat_lt, option_map, IfSome, IsNone, IsTrue};
 ghost use Rattle.std.specs.List.{All};
 ghost use Rattle.rv_word.specs.MemoryMap.{CODE_START, CODE_SIZE};
-ghost use Rattle.rv_word.specs.Numbers.{IsNumber, MOST_NUMBERS};
-ghost use Rattle.cfi_unit.specs.Members.{MOST_MEMBERS, member_of, members_in};
+ghost use Rattle.rv_word.specs.Numbers.{IsNumber};
+ghost use Rattle.cfi_unit.specs.Members.{MOST_MEMBERS, member_of};
 ghost use Rattle.cfi_unit.specs.UnitWords.{Begins, instr_at, is_jump, may_precede, skips_jump, word_count};
 ghost use Rattle.cfi_unit.specs.Reach.{target_in};
 ghost use Rattle.cfi_unit.specs.Recognise.{
   address_in,
   branch_in,
   label_in,
-  loaded_by,
+  members_in,
   near_in,
-  number_of,
+  number_in,
   numbers_in,
   recognised,
   stores_in,
@@ -64,23 +64,15 @@ pub fn recognise(words: &[u32], at: u64) -> Option<(Unit, u32)>
     ensures count { IfSome result (λ found. found.1 ≡ word_count found.0) }
     ensures none { IsNone result → (unit : U.Unit) → Begins words.now at unit → ⊥ }
 {
-    let unit = first_unit(words, at)?;
+    let unit = unit_of_kinds(&KINDS, words, at)?;
     let words = count(&unit);
     Some((unit, words))
-}
-
-/// The unit that begins the list.
-fn first_unit(words: &[u32], at: u64) -> Option<Unit>
-    requires { at < CODE_START + CODE_SIZE }
-    ensures { result ≡ recognised words.now at }
-{
-    unit_of_kinds(&KINDS, words, at)
 }
 
 /// The unit of one of some kinds that begins the list.
 fn unit_of_kinds(kinds: &[End], words: &[u32], at: u64) -> Option<Unit>
     requires { at < CODE_START + CODE_SIZE }
-    ensures found { IfSome result (λ unit. recognised words.now at ≡ Some unit) }
+    ensures found { IfSome result (Begins words.now at) }
     ensures none { IsNone result → All (λ end. NoneBegins end words.now at) kinds.now }
 {
     for end in kinds {
@@ -94,7 +86,7 @@ fn unit_of_kinds(kinds: &[End], words: &[u32], at: u64) -> Option<Unit>
 /// The unit of a kind that begins the list.
 fn unit_of_kind(end: End, words: &[u32], at: u64) -> Option<Unit>
     requires { at < CODE_START + CODE_SIZE }
-    ensures found { IfSome result (λ unit. recognised words.now at ≡ Some unit) }
+    ensures found { IfSome result (Begins words.now at) }
     ensures none { IsNone result → NoneBegins end words.now at }
 {
     let unit = read(end, words, at)?;
@@ -252,7 +244,7 @@ fn target(at: u64, jump: Option<Instr>) -> Option<u64>
 
 /// The stores behind a mask that begins the list: as many as follow, up to sixteen.
 fn members_behind(words: &[u32]) -> Members
-    ensures { result ≡ members_in (take MOST_MEMBERS (drop 3 words.now)) }
+    ensures { result ≡ members_in words.now }
 {
     let mut members = Members::new();
     for index in 3..19 {
@@ -268,11 +260,11 @@ fn members_behind(words: &[u32]) -> Members
 /// locals.
 #[inline(never)]
 fn numbers_tested(words: &[u32]) -> Numbers
-    ensures { result ≡ numbers_in MOST_NUMBERS words.now }
+    ensures { result ≡ numbers_in words.now }
 {
     let mut numbers = Numbers::new();
     for index in 0..8 {
-        match number(instr(words, 2 * index), instr(words, 2 * index + 1)) {
+        match number(instr(words, 2 * index)) {
             Some(number) => numbers.push(number),
             None => return numbers,
         }
@@ -280,23 +272,12 @@ fn numbers_tested(words: &[u32]) -> Numbers
     numbers
 }
 
-/// The number that two instructions test.
-fn number(first: Option<Instr>, second: Option<Instr>) -> Option<u16>
-    ensures value { result ≡ number_of first second }
+/// The number that a test loads.
+fn number(load: Option<Instr>) -> Option<u16>
+    ensures value { result ≡ number_in load }
     ensures small { IfSome result IsNumber }
 {
-    match second? {
-        Instr::Branch(..) => loaded(first),
-        _ => None,
-    }
-}
-
-/// The number that an instruction loads.
-fn loaded(instr: Option<Instr>) -> Option<u16>
-    ensures value { result ≡ loaded_by instr }
-    ensures small { IfSome result IsNumber }
-{
-    match instr? {
+    match load? {
         Instr::Immediate(_, _, _, field) => small(field),
         _ => None,
     }

@@ -2,17 +2,13 @@ use Rattle.std.proofs.Common.{◌≡◌, ◌∙◌, sym, subst, Some}
 use Rattle.std.proofs.lemmas.Option.{same_Some}
 use Rattle.cfi_unit.specs.declared.unit.Unit as U
 use Rattle.cfi_unit.specs.UnitWords.{Begins}
-use Rattle.cfi_unit.proofs.Found.{begins_recognised, kind_read}
+use Rattle.cfi_unit.proofs.Found.{kind_read}
 use Rattle.cfi_unit.proofs.recogniser.unit_of_kind.Goals as goal
 
 pub returns-in_err-unit-clause-none : goal.returns-in_err-unit-clause-none
 returns-in_err-unit-clause-none c = λ none u b e.
     let some = sym c.in_err-unit.was ∙ c.read.ensures ∙ kind_read c.args.end c.args.words.now c.args.at u b e in
     absurd (cc)
-
-pub returns-then-begins-clause-found : goal.returns-then-begins-clause-found
-returns-then-begins-clause-found c =
-    begins_recognised c.args.words.now c.args.at c.in_ok-unit.unit (c.begins.ensures.0 c.if-begins.true)
 
 pub returns-else-begins-clause-none : goal.returns-else-begins-clause-none
 returns-else-begins-clause-none c = λ none u b e.
