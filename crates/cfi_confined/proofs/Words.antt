@@ -1,10 +1,12 @@
 -- The word at which a hart is, of what stands at an address: its instruction, where that leads, and what it
 -- stores.
-use Rattle.std.proofs.Common.{◌≡◌, ℕ, suc, ◌+◌, ◌-◌, ◌*◌, ◌^◌, ◌<◌, ◌≤◌, ◌⊎◌, inl, inr, true, List, [], ◌∷◌, ◌++◌, length, refl, sym, ap, subst, ◌∙◌, Some, arith, lit<, lit≤}
+use Rattle.std.proofs.Common.{◌≡◌, ℕ, suc, ◌+◌, ◌-◌, ◌*◌, ◌^◌, ◌<◌, ◌≤◌, ◌⊎◌, inl, inr, true, List, [], ◌∷◌, ◌++◌, length, refl, sym, ap, subst, ◌∙◌, Some, arith, lit<, lit≤, Bool, false, zero}
 use Rattle.std.specs.Prelude.{slice_get}
-use Rattle.std.proofs.lemmas.Option.{slice_get_within}
+use Rattle.std.specs.List.{list_all}
+use Rattle.std.proofs.lemmas.Bool.{and_parts}
+use Rattle.std.proofs.lemmas.Option.{same_Some, slice_get_cases, slice_get_within}
 use Rattle.rv_word.specs.Bits.{wrap}
-use Rattle.rv_word.specs.MemoryMap.{IsProfile, Profile, version_1, version_2}
+use Rattle.rv_word.specs.MemoryMap.{IsProfile, Profile}
 use Rattle.rv_word.specs.Memory.{Memory}
 use Rattle.rv_word.proofs.Versions.{laid_out}
 use Rattle.rv_instr.specs.Registers.{Registers}
@@ -25,7 +27,7 @@ use Rattle.cfi_unit.specs.declared.unit.Unit as U
 use Rattle.cfi_unit.specs.declared.unit.Unit.TheVariants as V
 use Rattle.cfi_unit.specs.Flow as F
 use Rattle.cfi_unit.specs.Flow.{flow_of}
-use Rattle.cfi_unit.specs.InPlace.{InWord, only, InBranch, branch_test, branch_jump, InGuarded, guarded_load, guarded_test, guarded_other, guarded_call, InStores, stores_addi, stores_slli, stores_srli, stores_store, InPush, push_slli, push_bne, push_deep, push_auipc, push_addi, push_store, push_grow, InCall, call_push, call_jump, InCheck, check_addi, check_andi, check_lui, check_sub, check_srli, check_region, check_outside, check_lw, check_label, check_opcode, check_word, check_other, InIjump, ijump_check, ijump_jump, InIcall, icall_check, icall_push, icall_jump, InReturn, return_ld, return_addi, return_beq, return_other, return_jump, InLoneSetUp, lone_stack, lone_shadow, lone_slot, InOwnSetUp, own_stack, own_stack_offset, own_stack_end, own_shadow, own_offset, own_part, own_slot, InOpening, opening_lone, opening_own, opening_call, InClosing, closing_number, closing_ecall, InUnit, InPlace}
+use Rattle.cfi_unit.specs.InPlace.{InWord, only, InBranch, branch_test, branch_jump, InGuarded, guarded_load, guarded_test, guarded_other, guarded_call, InStores, stores_addi, stores_slli, stores_srli, stores_store, InPush, push_slli, push_bne, push_deep, push_auipc, push_addi, push_store, push_grow, InCall, call_push, call_jump, InCheck, check_addi, check_andi, check_lui, check_sub, check_srli, check_region, check_outside, check_lw, check_label, check_opcode, check_word, check_other, InIjump, ijump_check, ijump_jump, InIcall, icall_check, icall_push, icall_jump, InReturn, return_ld, return_addi, return_beq, return_other, return_jump, InOpening, opening_lone, opening_own, opening_call, InClosing, closing_number, closing_ecall, InUnit, InPlace}
 use Rattle.cfi_unit.specs.Leads.{HasLabel, destination}
 use Rattle.cfi_unit.specs.Members.{member_instr}
 use Rattle.cfi_unit.specs.Place.{place_instrs, place_size}
@@ -36,6 +38,7 @@ use Rattle.cfi_unit.specs.UnitWords.{BAD_TARGET, BAD_RETURN, DEEP, CheckFits, Fi
 use Rattle.cfi_unit.proofs.Context.{slice_get-back, slice_get-front}
 use Rattle.cfi_unit.proofs.GuardedWords.{test_leads, unit_call, unit_jump, unit_load, unit_test}
 use Rattle.cfi_unit.proofs.MemberWords.{member_at}
+use Rattle.cfi_unit.proofs.PlaceWords.{lone_word, own_word}
 use Rattle.cfi_unit.proofs.Parts.{call_site, set_up_length}
 use Rattle.cfi_unit.proofs.StoreUnit.{member_address}
 use Rattle.cfi_rules.specs.Rules.{edge_of}
@@ -56,6 +59,21 @@ Kept p place k = (4 * k < place_size p place) ⊎ Keeps place
 abbrev pub AreNewest : List ℕ → ℕ → ℕ → Type 0
 AreNewest [] x1 x31 = ⊥
 AreNewest (site ∷ pending) x1 x31 = (x1 ≡ site) × (x31 ≡ site)
+
+-- no branch, no jump and no store
+abbrev is_quiet : Instr → Bool
+is_quiet (Branch op rs1 rs2 imm) = false
+is_quiet (Jal rd imm) = false
+is_quiet (Jalr rd rs1 imm) = false
+is_quiet (Store op rs1 rs2 imm) = false
+is_quiet other = true
+
+plain_quiet : (i : Instr) → is_plain i ≡ true → is_quiet i ≡ true
+plain_quiet (Branch op rs1 rs2 imm) plain = absurd (cc)
+plain_quiet (Jal rd imm) plain = absurd (cc)
+plain_quiet (Jalr rd rs1 imm) plain = absurd (cc)
+plain_quiet (Store op rs1 rs2 imm) plain = absurd (cc)
+plain_quiet other plain = refl
 
 halted : (a to : ℕ) → a ≡ to → IsHandler to → IsHandler a
 halted a to e is = subst IsHandler (sym e) is
@@ -105,6 +123,13 @@ module _ (p : Profile) (part : ℕ) (image : Memory) (at : ℕ) (pending : List 
   Fact place k (Jalr rd rs1 imm) = (rs1 ≡ 31) × (imm ≡ 0) × ComputedFact place k rd
   Fact place k (Store op rs1 rs2 imm) = Kept p place (k + 1) × StoreFact (address h rs1 imm)
   Fact place k other = Kept p place (k + 1)
+
+  quiet_fact : (place : Place) (k : ℕ) (i : Instr) → is_quiet i ≡ true → Kept p place (k + 1) → Fact place k i
+  quiet_fact place k (Branch op rs1 rs2 imm) quiet kept = absurd (cc)
+  quiet_fact place k (Jal rd imm) quiet kept = absurd (cc)
+  quiet_fact place k (Jalr rd rs1 imm) quiet kept = absurd (cc)
+  quiet_fact place k (Store op rs1 rs2 imm) quiet kept = absurd (cc)
+  quiet_fact place k other quiet kept = kept
 
   pub record Here (place : Place) : Type 0 where
     pub word : ℕ
@@ -220,13 +245,6 @@ module _ (p : Profile) (part : ℕ) (image : Memory) (at : ℕ) (pending : List 
     icall_here rs1 imm label fits (icall_jump e legal pushed) =
         here (body (V.Icall rs1 imm label)) 19 _ refl e (refl, refl, (refl, refl, legal, pushed.kept))
 
-    plain_fact : (i : Instr) → is_plain i ≡ true → Fact (body (V.Plain i)) 0 i
-    plain_fact (Branch op rs1 rs2 imm) plain = absurd (cc)
-    plain_fact (Jal rd imm) plain = absurd (cc)
-    plain_fact (Jalr rd rs1 imm) plain = absurd (cc)
-    plain_fact (Store op rs1 rs2 imm) plain = absurd (cc)
-    plain_fact other plain = inr refl
-
     first : (bits imm to : ℕ) → wrap (at + offset bits imm) ≡ to → wrap (at + 4 * 0 + offset bits imm) ≡ to
     first bits imm to e = ap (λ a. wrap (a + offset bits imm)) (let z : at + 4 * 0 ≡ at = omega arith in z) ∙ e
 
@@ -239,7 +257,7 @@ module _ (p : Profile) (part : ℕ) (image : Memory) (at : ℕ) (pending : List 
 
     unit_here : (unit : U.Unit) (m : Memory) → Fits unit at → InUnit part image unit at pending r h m → Here (body unit)
     unit_here (V.Gate label) m fits i = word_here (V.Gate label) _ refl (inr refl) i
-    unit_here (V.Plain instr) m fits i = word_here (V.Plain instr) instr refl (plain_fact instr fits.1) i
+    unit_here (V.Plain instr) m fits i = word_here (V.Plain instr) instr refl (quiet_fact (body (V.Plain instr)) 0 instr (plain_quiet instr fits.1) (inr refl)) i
     unit_here (V.Branch op rs1 rs2 target) m fits i = branch_here op rs1 rs2 target fits i
     unit_here (V.Near op rs1 rs2 target) m fits i =
         word_here (V.Near op rs1 rs2 target) _ refl (inr refl, inr (inr (refl, ap Some (sym (first 13 (near_offset at target * 2) target fits.2))), refl)) i
@@ -263,49 +281,56 @@ module _ (p : Profile) (part : ℕ) (image : Memory) (at : ℕ) (pending : List 
     handler_here : h.pc ≡ at → Here handler
     handler_here e = here handler 0 Ebreak refl (omega arith) (inr tt)
 
+-- the words of an opening's set-up lead to the next one
+set_up_quiet : (p : Profile) → IsProfile p → list_all is_quiet (set_up p) ≡ true
+set_up_quiet p (inl e) = subst (λ (q : Profile). list_all is_quiet (set_up q) ≡ true) (sym e) refl
+set_up_quiet p (inr e) = subst (λ (q : Profile). list_all is_quiet (set_up q) ≡ true) (sym e) refl
+
+one_quiet : (instrs : List Instr) (k : ℕ) (i : Instr) → list_all is_quiet instrs ≡ true → slice_get instrs k ≡ Some i → is_quiet i ≡ true
+one_quiet [] k i all is = absurd (cc)
+one_quiet (j ∷ instrs) zero i all is = ap is_quiet (sym (same_Some j i is)) ∙ (and_parts _ _ all).0
+one_quiet (j ∷ instrs) (suc k) i all is = one_quiet instrs k i (and_parts _ _ all).1 is
+
 -- the opening's words
-module _ (part : ℕ) (low : part < 2 ^ 32) (image : Memory) (r : Registers) (h : Hart) (entry : ℕ) where
-  abbrev InOpeningHere : Profile → Type 0
-  InOpeningHere p = Here p part image OPENING [] r h (opening entry)
+module _ (p : Profile) (is : IsProfile p) (part : ℕ) (low : part < 2 ^ 32) (image : Memory) (r : Registers) (h : Hart) (entry : ℕ) (fits : Fits (V.Call entry) (call_at p)) where
+  abbrev OpeningHere : Type 0
+  OpeningHere = Here p part image OPENING [] r h (opening entry)
 
-  lone_here : InLoneSetUp h → InOpeningHere version_1
-  lone_here (lone_stack e) = here version_1 part image OPENING [] r h (opening entry) 0 _ refl e (inl (lit< tt))
-  lone_here (lone_shadow e) = here version_1 part image OPENING [] r h (opening entry) 1 _ refl e (inl (lit< tt))
-  lone_here (lone_slot e x3) = here version_1 part image OPENING [] r h (opening entry) 2 _ refl e (inl (lit< tt))
+  set_up_here : (k : ℕ) → k < length (set_up p) → h.pc ≡ OPENING + 4 * k → OpeningHere
+  set_up_here k below e =
+      let site = call_site p is in let set = set_up_length p is in
+      elim (slice_get_cases (set_up p) k).1 [
+        | inl (i, within, found, same) ↦
+            here p part image OPENING [] r h (opening entry) k i (slice_get-front (set_up p) _ k i found) e
+            (quiet_fact p part image OPENING [] r h (opening entry) k i (one_quiet (set_up p) k i (set_up_quiet p is) found) (inl (omega arith)))
+        | inr past ↦ let beyond = past.0 in absurd (omega arith)
+      ]
 
-  own_here : InOwnSetUp part h → InOpeningHere version_2
-  own_here (own_stack e is) = here version_2 part image OPENING [] r h (opening entry) 0 _ refl e (inl (lit< tt))
-  own_here (own_stack_offset e is) = here version_2 part image OPENING [] r h (opening entry) 1 _ refl e (inl (lit< tt))
-  own_here (own_stack_end e is) = here version_2 part image OPENING [] r h (opening entry) 2 _ refl e (inl (lit< tt))
-  own_here (own_shadow e is) = here version_2 part image OPENING [] r h (opening entry) 3 _ refl e (inl (lit< tt))
-  own_here (own_offset e is x3) = here version_2 part image OPENING [] r h (opening entry) 4 _ refl e (inl (lit< tt))
-  own_here (own_part e is x3) = here version_2 part image OPENING [] r h (opening entry) 5 _ refl e (inl (lit< tt))
-  own_here (own_slot e x3) = here version_2 part image OPENING [] r h (opening entry) 6 _ refl e (inl (lit< tt))
+  calling_here : {v : ℕ} {m : Memory} → InCall part (call_at p) v 0 h m → OpeningHere
+  calling_here (call_push i) =
+      let site = call_site p is in let set = set_up_length p is in let layout = laid_out p is in
+      push_here p part image OPENING [] r h (lit< tt) low (opening entry) (set_up p) (Jal 1 (jump_offset (call_at p + 28) entry)) (call_at p) refl (sym set)
+      (omega arith) (omega arith) fits.0 i
+  calling_here (call_jump e pushed) =
+      let site = call_site p is in let set = set_up_length p is in let layout = laid_out p is in
+      let to : OPENING + 4 * (length (set_up p) + 7) ≡ call_at p + 28 = omega arith in
+      let leads : wrap (OPENING + 4 * (length (set_up p) + 7) + offset 21 (jump_offset (call_at p + 28) entry * 2)) ≡ entry =
+      ap (λ a. wrap (a + offset 21 (jump_offset (call_at p + 28) entry * 2))) to ∙ fits.1 in
+      here p part image OPENING [] r h (opening entry) (length (set_up p) + 7) (Jal 1 (jump_offset (call_at p + 28) entry))
+      (slice_get-back (set_up p) (push (call_at p) ++ Jal 1 (jump_offset (call_at p + 28) entry) ∷ []) 7) (omega arith) (inr (refl, (sym leads, omega arith)))
 
-  module _ (p : Profile) (is : IsProfile p) (fits : Fits (V.Call entry) (call_at p)) where
-    calling_here : {v : ℕ} {m : Memory} → InCall part (call_at p) v 0 h m → InOpeningHere p
-    calling_here (call_push i) =
-        let site = call_site p is in let set = set_up_length p is in let layout = laid_out p is in
-        push_here p part image OPENING [] r h (lit< tt) low (opening entry) (set_up p) (Jal 1 (jump_offset (call_at p + 28) entry)) (call_at p) refl (sym set)
-        (omega arith) (omega arith) fits.0 i
-    calling_here (call_jump e pushed) =
-        let site = call_site p is in let set = set_up_length p is in let layout = laid_out p is in
-        let to : OPENING + 4 * (length (set_up p) + 7) ≡ call_at p + 28 = omega arith in
-        let leads : wrap (OPENING + 4 * (length (set_up p) + 7) + offset 21 (jump_offset (call_at p + 28) entry * 2)) ≡ entry =
-        ap (λ a. wrap (a + offset 21 (jump_offset (call_at p + 28) entry * 2))) to ∙ fits.1 in
-        here p part image OPENING [] r h (opening entry) (length (set_up p) + 7) (Jal 1 (jump_offset (call_at p + 28) entry))
-        (slice_get-back (set_up p) (push (call_at p) ++ Jal 1 (jump_offset (call_at p + 28) entry) ∷ []) 7) (omega arith) (inr (refl, (sym leads, omega arith)))
-
-    opening_here : {m : Memory} → InOpening p part h m → InOpeningHere p
-    opening_here (opening_lone version i) = subst InOpeningHere (sym version) (lone_here i)
-    opening_here (opening_own version i) = subst InOpeningHere (sym version) (own_here i)
-    opening_here (opening_call v i) = calling_here i
+  opening_here : {m : Memory} → InOpening p part h m → OpeningHere
+  opening_here (opening_lone version i) =
+      let (k, below, e) = lone_word i in let call = ap call_at version in let set = set_up_length p is in set_up_here k (omega arith) e
+  opening_here (opening_own version i) =
+      let (k, below, e) = own_word i in let call = ap call_at version in let set = set_up_length p is in set_up_here k (omega arith) e
+  opening_here (opening_call v i) = calling_here i
 
 pub place_here : (p : Profile) (part : ℕ) (image : Memory) (place : Place) (at : ℕ) (pending : List ℕ) (r : Registers) (h : Hart) (m : Memory) → at < 2 ^ 32 →
     part < 2 ^ 32 → MayStand p place at pending → InPlace p part image place at pending r h m → Here p part image at pending r h place
 place_here p part image handler at pending r h m small low may i = handler_here p part image at pending r h small low i
 place_here p part image (opening entry) at [] r h m small low may i =
-    subst (λ (a : ℕ). Here p part image a [] r h (opening entry)) (sym may.1) (opening_here part low image r h entry p may.0 may.3 i)
+    subst (λ (a : ℕ). Here p part image a [] r h (opening entry)) (sym may.1) (opening_here p may.0 part low image r h entry may.3 i)
 place_here p part image (opening entry) at (site ∷ pending) r h m small low may i = let none = may.2 in absurd (cc)
 place_here p part image closing at pending r h m small low may i = closing_here p part image at pending r h small low i
 place_here p part image (body unit) at pending r h m small low may i = unit_here p part image at pending r h small low unit m may.0 i

@@ -26,13 +26,13 @@ closing_word : {at : ℕ} {h : Hart} → InClosing at h → Among 2 at h.pc
 closing_word (closing_number e) = (0, omega arith, omega arith)
 closing_word (closing_ecall e x17) = (1, omega arith, e)
 
-lone_word : {h : Hart} → InLoneSetUp h → Among 3 OPENING h.pc
+pub lone_word : {h : Hart} → InLoneSetUp h → Among 3 OPENING h.pc
 lone_word (lone_stack e) = (0, omega arith, e)
 lone_word (lone_shadow e) = (1, omega arith, e)
 lone_word (lone_slot e x3) = (2, omega arith, e)
 
 module _ {part : ℕ} {h : Hart} where
-  own_word : InOwnSetUp part h → Among 7 OPENING h.pc
+  pub own_word : InOwnSetUp part h → Among 7 OPENING h.pc
   own_word (own_stack e own) = (0, omega arith, e)
   own_word (own_stack_offset e own) = (1, omega arith, e)
   own_word (own_stack_end e own) = (2, omega arith, e)
