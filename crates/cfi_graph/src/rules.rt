@@ -32,11 +32,12 @@ fn is_label(label: u32) -> bool
     0 < label && label < 0x10_0000
 }
 
-/// Whether an address is that of a word of `len` bytes of code.
+/// Whether an address is that of a word of `len` bytes of code. Of one before these the difference wraps, to more
+/// than each length.
 fn is_code_address(len: u32, address: u64) -> bool
     ensures { result ≡ is_code_address len address }
 {
-    address % 4 == 0 && CODE_START <= address && address < CODE_START + u64::from(len)
+    address % 4 == 0 && address.wrapping_sub(CODE_START) < u64::from(len)
 }
 
 fn are_code_addresses(len: u32, addresses: &[u64]) -> bool
