@@ -1,8 +1,9 @@
 use Rattle.std.proofs.Common.{◌≡◌, ◌+◌, ◌*◌, ◌<◌, ℕ, true, refl, sym, ◌∙◌, arith, length, ◌++◌, ◌∷◌, []}
 use Rattle.rv_word.specs.MemoryMap.{profile_of}
+use Rattle.rv_word.proofs.Versions.{is_profile, laid_out}
 use Rattle.cfi_unit.specs.Opens.{InCode}
 use Rattle.cfi_reader.specs.Reading.{is_stuck}
-use Rattle.cfi_scan.proofs.Ended.{as_ended, splits_before, splits_on, splits_stuck, units_low, units_round}
+use Rattle.cfi_scan.proofs.Ended.{as_ended, splits_before, splits_on, splits_stuck}
 use Rattle.cfi_scan.proofs.splitter.Splitter.take.Goals as goal
 
 pub returns-then-is_new-clause-splits : goal.returns-then-is_new-clause-splits
@@ -14,8 +15,9 @@ pub returns-then-pass-clause-splits : goal.returns-then-pass-clause-splits
 returns-then-pass-clause-splits c words len s =
     let k = c.args.self.now in
     let from : ℕ = (profile_of k.front).units_from in
-    let low = units_low k.front in
-    let round = units_round k.front in
+    let laid = laid_out (profile_of k.front) (is_profile k.front) in
+    let low = laid.low in
+    let round = laid.round in
     let place : InCode (from + 4 * length words) 1 = record { low = omega arith; high = omega (arith, len, c.requires.room, c.requires.small); round = omega arith } in
     splits_on k.calls from c.args.word k.entries.items k.done k.last k.reader c.pass.new.self words
     (c.if-pass.ensures.on refl k.calls (from + 4 * length words) c.len-few.ensures.most place)
