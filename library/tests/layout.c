@@ -31,6 +31,7 @@ IS_AT(rvcfi_image_plan, data_end, 72);
 IS_AT(rvcfi_image_plan, shadow_address, 80);
 IS_AT(rvcfi_image_plan, shadow_size, 88);
 
+#define DATA_LENGTH_AT 96  /* the field of an image that says how long its data are */
 #define SHADOW_SIZE_AT 216 /* the field of an image by which its versions differ */
 
 static uint32_t verify(const struct file *image, const struct file *graph, struct rvcfi_verdict *verdict)
@@ -79,6 +80,18 @@ static void plans(struct file *image)
     CHECK(it.plan.version == 1 && it.plan.harts == 1 && it.plan.shadow_size == 0x10000);
 }
 
+/* An image without data: the plan's offset of data is the end of the file. */
+static void no_data(const struct file *image)
+{
+    struct file cut = *image;
+    struct rvcfi_image_plan plan;
+
+    cut.length = 0x2000;
+    cut.bytes[DATA_LENGTH_AT] = 0;
+    CHECK(rvcfi_plan(cut.bytes, cut.length, &plan) == 0 && plan.data_offset == 0x2000 && plan.data_length == 0);
+    cut.bytes[DATA_LENGTH_AT] = 151;
+}
+
 /* The list 63 64 93, as much of it as there is room for, and the places behind that stay as they are. */
 static void lists(const struct file *without, const struct file *with)
 {
@@ -110,6 +123,7 @@ int main(int argc, char **argv)
         return STATUS_USAGE;
     verdicts(&visitors[0], &visitors[1], &plugin[0]);
     plans(&visitors[0]);
+    no_data(&visitors[0]);
     lists(&visitors[1], &plugin[1]);
     free(visitors[0].bytes);
     free(visitors[1].bytes);

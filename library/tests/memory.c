@@ -94,11 +94,9 @@ static unsigned long lists(const struct file *graph)
     uint16_t calls[2] = {7, 8};
     uint32_t count = 9;
     unsigned long all, k;
-    uint32_t answer;
 
     begin(0, false);
-    answer = rvcfi_calls(graph->bytes, graph->length, calls, 0, &count);
-    CHECK(answer == RVCFI_CALLS_LISTED || answer == RVCFI_CALLS_FREE);
+    CHECK(rvcfi_calls(graph->bytes, graph->length, calls, 0, &count) != RVCFI_CALLS_NO_MEMORY);
     all = requests;
     count = 9;
     for (k = 1; k <= all; k++) {

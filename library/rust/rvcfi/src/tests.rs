@@ -51,6 +51,14 @@ fn accepted_pair_has_the_parts_of_its_file() {
 }
 
 #[test]
+fn image_without_data_has_an_empty_part() {
+    let image = &changed(96, &[0])[..0x2000];
+    let accepted = verify(image, GRAPH).unwrap();
+    assert_eq!(accepted.data().bytes, &[]);
+    assert_eq!(accepted.code().bytes.len(), CODE_LENGTH);
+}
+
+#[test]
 fn list_is_the_graphs() {
     assert_eq!(verify(IMAGE, GRAPH).unwrap().calls(), None);
     let plugin = verify(LISTED_IMAGE, LISTED_GRAPH).unwrap();
