@@ -59,18 +59,18 @@ class Machine:
             self.told.skip(self.named(what), "this machine has not what %s needs" % " ".join(options or ["it"]))
         return not status
 
-    def built(self, name, sources, options=(), standard="c99", heap="librvcfi_heap.a", parts=()):
+    def built(self, name, sources, options=(), standard="c99", heap="librvcfi_heap.a"):
         """The command that runs a program of these files, or None where it does not compile."""
         path = self.folder / ("%s_%s" % (name, os.path.basename(self.compiler)))
         archives = [self.archives / "librvcfi_c.a"] + ([self.archives / heap] if heap else [])
-        command = [self.compiler, "-std=" + standard, "-O2", *WARNINGS, *MORE, *FOLDERS, *options, *sources, *HELPERS, *archives, *parts, "-o", path]
+        command = [self.compiler, "-std=" + standard, "-O2", *WARNINGS, *MORE, *FOLDERS, *options, *sources, *HELPERS, *archives, "-o", path]
         if self.told.ends_well(self.named("compiling %s %s" % (name, " ".join(options))), list(map(str, command))):
             return self.runner + [str(path)]
         return None
 
-    def test(self, name, words, options=(), standard="c99", heap="librvcfi_heap.a", parts=()):
+    def test(self, name, words, options=(), standard="c99", heap="librvcfi_heap.a"):
         """Compiles a test of the folder tests and runs it with these words."""
-        command = self.built(name, [TESTS / (name + ".c")], options, standard, heap, parts)
+        command = self.built(name, [TESTS / (name + ".c")], options, standard, heap)
         if command:
             self.told.ends_well(self.named("%s %s" % (name, " ".join(options))), command + list(map(str, words)))
 
@@ -126,9 +126,9 @@ def threads(machine):
         machine.test("threads", [200, *pairs], options)
 
 
-def stack(machine):
+def stack(machine, options=()):
     """How much of its stack each call writes."""
-    command = machine.built("stack", [TESTS / "stack.c"], ["-pthread"])
+    command = machine.built("stack", [TESTS / "stack.c"], ["-pthread", *options])
     for name in FUNCTIONS if command else []:
         status, out, err = ended(command + [name, *VISITORS])
         print(machine.named(out.decode().strip()))
@@ -140,7 +140,8 @@ def bare(machine):
     path = machine.folder / "bare"
     names = ['-D%s="%s"' % (name, each) for name, each in zip(("IMAGE", "GRAPH"), PLUGIN)]
     sources = [TESTS / "bare.c", HERE / "c" / "arena.c", machine.archives / "librvcfi_c.a"]
-    command = [machine.compiler, "-std=c99", "-O2", *WARNINGS, *MORE, *FOLDERS, *names, "-ffreestanding", "-nostdlib", "-static", *sources, "-o", path]
+    options = ["-std=c99", "-O2", *WARNINGS, *MORE, "-ffreestanding", "-nostdlib", "-static"]
+    command = [machine.compiler, *options, *FOLDERS, *names, *sources, "-o", path]
     if machine.told.ends_well(machine.named("compiling bare"), list(map(str, command))):
         machine.told.ends_well(machine.named("bare"), machine.runner + [str(path)])
 
@@ -269,6 +270,7 @@ def for_aarch64(told, folder):
     machine.test("memory", [0, *PLUGIN], options, heap=None)
     machine.test("layout", VISITORS + PLUGIN, options, standard="c11")
     machine.test("threads", [20, "accepted", *VISITORS, "accepted", *PLUGIN], ["-pthread", *options])
+    stack(machine, options)
     bare(machine)
     ask = machine.built("ask", [HERE / "examples" / "ask.c"], options)
     if ask:

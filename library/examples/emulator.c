@@ -1,7 +1,8 @@
 /* emulator.c: hart 0 of an image that was verified, run in Unicorn.
  *
- * The engine maps nothing but the image's three regions and one page of zeros behind the code. It has more instructions
- * than the machine of docs/MACHINE.md, compressed ones among them; an accepted image has none of these and jumps to none. */
+ * The engine maps nothing but the image's three regions and one page of zeros behind the code; of these the machine of
+ * docs/MACHINE.md has eight bytes, so a load further behind, which stops there, answers zeros here. The engine has more
+ * instructions than the machine, compressed ones among them; an accepted image has none of these and jumps to none. */
 #define _DEFAULT_SOURCE
 #include "emulator.h"
 
@@ -12,7 +13,7 @@
 #include <unicorn/unicorn.h>
 
 #define EBREAK 0x00100073u
-#define PAGE 4096u                 /* only its first eight bytes are the machine's */
+#define PAGE 4096u
 #define WINDOW ((uint64_t)1 << 28) /* where the bytes of a system call end at most */
 #define ANSWER_BAD_FILE ((uint64_t)-9)
 #define ANSWER_BAD_POINTER ((uint64_t)-14)
@@ -172,27 +173,52 @@ static bool watch(uc_engine *engine, struct run *run)
            uc_hook_add(engine, &accesses, UC_HOOK_MEM_INVALID, access.pointer, run, 1, 0) == UC_ERR_OK;
 }
 
-/* Whether the word at the pc is an EBREAK: Unicorn tells one as an instruction that is none. */
-static bool is_at_break(const struct run *run, uint64_t pc)
+/* The word of code at the pc. */
+static uint32_t word_at(const struct run *run, uint64_t pc)
 {
     uint64_t offset = pc - run->plan->code_address;
     uint32_t word = 0;
 
     if (pc >= run->plan->code_address && offset <= run->plan->code_size - sizeof word)
         memcpy(&word, run->at.code + offset, sizeof word);
-    return word == EBREAK;
+    return word;
 }
 
-/* Starts hart 0, whose registers are all 0, and tells how it stopped. */
+/* The address of a load that failed. Unicorn tells that of the page that is not there, which may lie behind it. */
+static uint64_t address_of_load(uc_engine *engine, uint32_t word)
+{
+    uint64_t offset = word >> 20;
+
+    if (offset >= 2048)
+        offset -= 4096;
+    return get(engine, UC_RISCV_REG_X0 + (int)(word >> 15 & 31)) + offset;
+}
+
+static bool clear_registers(uc_engine *engine)
+{
+    const uint64_t zero = 0;
+    int name;
+
+    for (name = UC_RISCV_REG_X1; name <= UC_RISCV_REG_X31; name++)
+        if (uc_reg_write(engine, name, &zero) != UC_ERR_OK)
+            return false;
+    return true;
+}
+
+/* Starts hart 0, whose registers are all 0, and tells how it stopped. Unicorn tells an EBREAK as an instruction that is
+ * none. */
 static void start(uc_engine *engine, struct run *run, uint64_t steps)
 {
-    uint64_t never = run->plan->code_address + run->plan->code_size; /* no fetch there comes to an end */
+    uint64_t never = run->plan->code_address + run->plan->code_size; /* where no accepted image comes to */
     uc_err error = uc_emu_start(engine, run->plan->entry, never, 0, (size_t)steps);
+    uint64_t pc = get(engine, UC_RISCV_REG_PC);
 
-    run->stop.pc = get(engine, UC_RISCV_REG_PC);
+    run->stop.pc = pc;
+    if (run->is_over && run->stop.kind == STOP_LOAD)
+        run->stop.number = address_of_load(engine, word_at(run, pc));
     if (!run->is_over && error == UC_ERR_OK)
         run->stop.kind = STOP_LIMIT;
-    if (!run->is_over && error == UC_ERR_INSN_INVALID && is_at_break(run, run->stop.pc))
+    if (!run->is_over && error == UC_ERR_INSN_INVALID && word_at(run, pc) == EBREAK)
         run->stop.kind = STOP_BREAK;
 }
 
@@ -203,7 +229,7 @@ struct stop emulator_run(const uint8_t *image, const struct rvcfi_image_plan *pl
 
     if (take_memory(&run.at, plan) && fill(&run.at, image, plan) &&
         uc_open(UC_ARCH_RISCV, UC_MODE_RISCV64, &engine) == UC_ERR_OK) {
-        if (map(engine, &run.at, plan) && watch(engine, &run))
+        if (map(engine, &run.at, plan) && watch(engine, &run) && clear_registers(engine))
             start(engine, &run, steps);
         uc_close(engine);
     }

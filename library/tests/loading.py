@@ -101,6 +101,23 @@ def of_pointers(loader):
         loader.expect(what, (built.image, built.graph), (0, b"", b"stop exit %d\n" % (told % 256)), calls="5,63,64,93", given=b"123456789")
 
 
+def of_loads(loader):
+    """Loads at the edges of memory, of eight bytes each: from the last bytes of each region, and from outside."""
+    edges = [(0, True), (0x10000FF8, True), (0x10000FF9, False), (0x10001000, False), (0x3FFFFFFC, False), (0x40100000, True), (0x5FFFFFFF, False),
+             (0x6000FFF8, True), (0x6000FFFC, False), (0x60010000, False), (2**63, False), (2**64 - 8, False), (2**64 - 4, False)]
+    for address, is_there in edges:
+        p = Program(1, calls=[93])
+        p.label("main")
+        p.plain(u_form(0x37, 5, 0x10), i_form(0x03, 3, 5, 5, 0))
+        at = p.at
+        p.plain(i_form(0x03, 3, 6, 5, 0), addi(17, 0, 93))
+        p.ecall()
+        p.stop()
+        built = p.built("main", address.to_bytes(8, "little"))
+        wanted = (0, b"", b"stop exit 0\n") if is_there else (11, b"", b"stop load %08x %016x\n" % (at, address))
+        loader.expect("a load from %x" % address, (built.image, built.graph), wanted, calls="93")
+
+
 def of_drawn_programs(loader, count, seed):
     """Programs for one hart and for several, of which hart 0 runs, against the model of tests/harts."""
     rng, left, wrong = random.Random(seed), count, []
@@ -124,4 +141,5 @@ def load_all(told, command, folder, count, seed=1):
     of_the_tutorial(loader)
     of_hostile_copies(loader)
     of_pointers(loader)
+    of_loads(loader)
     of_drawn_programs(loader, count, seed)
