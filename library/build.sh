@@ -5,25 +5,24 @@
 # (c/heap.c); in library/lib/aarch64 the same two for aarch64, where aarch64-linux-gnu-gcc is there; in library/out the examples ask
 # and loader. CC names another compiler than cc. What is missing is told, and left out.
 set -eu
-here=$(cd "$(dirname "$0")" && pwd)
-crate=$here/../crates/rvcfi_c
+cd "$(dirname "$0")"
 cc=${CC:-cc}
-flags="-std=c99 -O2 -Wall -Wextra -pedantic -I$here/include"
+flags="-std=c99 -O2 -Wall -Wextra -pedantic -Iinclude"
 
 # archives FOLDER COMPILER ARCHIVER WORD ..: both archives, by `rt lib` with these words
 archives() {
     folder=$1 compiler=$2 archiver=$3
     shift 3
     mkdir -p "$folder"
-    (cd "$crate" && rt lib "$@" >"$here/out/rt.txt" 2>&1) || {
-        cat "$here/out/rt.txt"
+    (cd ../crates/rvcfi_c && rt lib "$@") >out/rt.txt 2>&1 || {
+        cat out/rt.txt
         exit 1
     }
-    grep '^logic=' "$here/out/rt.txt"
-    cp "$crate/out/librvcfi_c.a" "$folder"
-    $compiler $flags -fPIC -c "$here/c/heap.c" -o "$here/out/heap.o"
+    grep '^logic=proved' out/rt.txt
+    cp ../crates/rvcfi_c/out/librvcfi_c.a "$folder"
+    $compiler $flags -fPIC -c c/heap.c -o out/heap.o
     rm -f "$folder/librvcfi_heap.a"
-    $archiver rc "$folder/librvcfi_heap.a" "$here/out/heap.o"
+    $archiver rc "$folder/librvcfi_heap.a" out/heap.o
 }
 
 # example NAME FILE .. -- WORD ..: a program of these files of the folder examples, compiled with these words
@@ -31,23 +30,24 @@ example() {
     name=$1 files=
     shift
     while [ "$1" != -- ]; do
-        files="$files $here/examples/$1"
+        files="$files examples/$1"
         shift
     done
     shift
-    $cc $flags $files "$here/lib/librvcfi_c.a" "$here/lib/librvcfi_heap.a" "$@" -o "$here/out/$name"
+    $cc $flags $files lib/librvcfi_c.a lib/librvcfi_heap.a "$@" -o "out/$name"
     echo "built library/out/$name"
 }
 
-mkdir -p "$here/out"
+mkdir -p out
 if command -v aarch64-linux-gnu-gcc >/dev/null; then
-    archives "$here/lib/aarch64" aarch64-linux-gnu-gcc aarch64-linux-gnu-ar --target aarch64-unknown-linux-gnu
+    archives lib/aarch64 aarch64-linux-gnu-gcc aarch64-linux-gnu-ar --target aarch64-unknown-linux-gnu
 else
     echo "not built, since there is no aarch64-linux-gnu-gcc: library/lib/aarch64"
 fi
-archives "$here/lib" "$cc" ar
+archives lib "$cc" ar
 example ask ask.c file.c words.c --
-if printf '#include <unicorn/unicorn.h>\n' | $cc -E - >/dev/null 2>&1; then
+printf '#include <unicorn/unicorn.h>\nint main(void) { return 0; }\n' >out/unicorn.c
+if $cc out/unicorn.c -lunicorn -o out/unicorn 2>/dev/null; then
     example loader loader.c emulator.c file.c words.c -- -DRVCFI_UNICORN -lunicorn
 else
     echo "library/out/loader runs nothing, since there is no libunicorn-dev"

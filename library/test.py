@@ -3,7 +3,7 @@
 
     python3 library/test.py [--program PATH] [--pairs 1000]
 
-The header, the C files by each compiler that is there, memory, threads, stack, layout and the arena; `ask` beside tests/expected.py
+The header, the C files by each compiler that is there, memory, threads, stack, layout, bounds and the arena; `ask` beside tests/expected.py
 and the program (crates/rvcfi/out/rvcfi where none is named; a line says where it is not built) on changed pairs; the loader on the
 tutorial's plugin and its attacks; the Rust crate; and what is built for aarch64. What this machine lacks is told as skipped.
 The last line counts the checks, and the status is 1 where one failed.
@@ -63,8 +63,9 @@ class Machine:
         """The command that runs a program of these files, or None where it does not compile."""
         path = self.folder / ("%s_%s" % (name, os.path.basename(self.compiler)))
         archives = [self.archives / "librvcfi_c.a"] + ([self.archives / heap] if heap else [])
-        command = [self.compiler, "-std=" + standard, "-O2", *WARNINGS, *MORE, *FOLDERS, *options, *sources, *HELPERS, *archives, "-o", path]
-        if self.told.ends_well(self.named("compiling %s %s" % (name, " ".join(options))), list(map(str, command))):
+        given = ["-std=" + standard, "-O2", *WARNINGS, *MORE, *FOLDERS, *options]
+        command = [self.compiler, *given, *sources, *HELPERS, *archives, "-o", path]
+        if self.told.ends_well(self.named("compiling %s" % " ".join([name, *options])), list(map(str, command))):
             return self.runner + [str(path)]
         return None
 
@@ -210,8 +211,8 @@ def loader(told, folder):
         told.same("the loader without Unicorn", ended(command + [*PLUGIN, "63,64,93", "1000"]),
                   (20, b"", b"not run: this loader was built without Unicorn\n"))
     built = [str(OUT / "loader")]
-    for words in ([], [*PLUGIN, "63,,64", "9"], [*PLUGIN, "63,2048", "9"], [*PLUGIN, "63", "0"], [*PLUGIN, "63", "1000000001"], [*PLUGIN, "63", "9x"]):
-        told.same("the loader: wrong words", ended(built + words), (2, b"", b"usage: loader IMAGE GRAPH CALLS STEPS\n"))
+    for words in [], ["63,,64", "9"], ["63,2048", "9"], ["63", "0"], ["63", "1000000001"], ["63", "9x"], ["63"]:
+        told.same("the loader: wrong words", ended([*built, *PLUGIN, *words]), (2, b"", b"usage: loader IMAGE GRAPH CALLS STEPS\n"))
     if ended(built + [*PLUGIN, "63,64,93", "1"])[0] == 20:
         told.skip("runs of the loader", "it was built without Unicorn (libunicorn-dev)")
     else:
@@ -230,8 +231,8 @@ def rust(told, folder):
     hostile = Path(folder) / "hostile_for_rust"
     loading.hostile.main(*PLUGIN, hostile)
     copy = [str(hostile / ("01_bare_call" + end)) for end in (".img", ".graph")]
-    told.same("the host in Rust", ended(["cargo", "run", "-q", "--offline", "--example", "host", "--", "63,64,93", *PLUGIN, *copy, *VISITORS],
-                                        cwd=crate, env=options)[:2], (1, HOSTED))
+    host = ["cargo", "run", "-q", "--offline", "--example", "host", "--", "63,64,93", *PLUGIN, *copy, *VISITORS]
+    told.same("the host in Rust", ended(host, cwd=crate, env=options)[:2], (1, HOSTED))
 
 
 HOSTED = b"""plugin.img: accepted, code 1048576 data 268439552 shadow 65536 bytes, data end at 10001000, starts at 4000000c
@@ -252,6 +253,7 @@ def natively(told, folder):
         for test in header, memory, threads, stack, bare, arenas, links:
             test(machine)
         machine.test("layout", VISITORS + PLUGIN, standard="c11")
+        machine.test("bounds", VISITORS)
     if shutil.which("musl-gcc"):
         machine = Machine(told, folder, "musl-gcc")
         machine.test("layout", VISITORS + PLUGIN, ["-static"], standard="c11")
@@ -269,6 +271,7 @@ def for_aarch64(told, folder):
     options = ["-static"]
     machine.test("memory", [0, *PLUGIN], options, heap=None)
     machine.test("layout", VISITORS + PLUGIN, options, standard="c11")
+    machine.test("bounds", VISITORS, options)
     machine.test("threads", [20, "accepted", *VISITORS, "accepted", *PLUGIN], ["-pthread", *options])
     stack(machine, options)
     bare(machine)

@@ -4,17 +4,39 @@
 #include <inttypes.h>
 #include <stdio.h>
 
-static const char *const faults[] = {"", "Short", "Byte", "Long"};
-static const char *const reasons[] = {"", "Form", "Range", "Order"};
-static const char *const rules[] = {"",     "Length", "Prologue", "Unit", "Target", "Unlisted",
-                                    "Unused", "Site",   "Gate",     "Astray", "End"};
+static const char *const faults[] = {
+    [RVCFI_SHORT] = "Short",
+    [RVCFI_BYTE] = "Byte",
+    [RVCFI_LONG] = "Long",
+};
+
+static const char *const reasons[] = {
+    [RVCFI_FORM] = "Form",
+    [RVCFI_RANGE] = "Range",
+    [RVCFI_ORDER] = "Order",
+};
+
+static const char *const rules[] = {
+    [RVCFI_RULE_LENGTH] = "Length",
+    [RVCFI_RULE_PROLOGUE] = "Prologue",
+    [RVCFI_RULE_UNIT] = "Unit",
+    [RVCFI_RULE_TARGET] = "Target",
+    [RVCFI_RULE_UNLISTED] = "Unlisted",
+    [RVCFI_RULE_UNUSED] = "Unused",
+    [RVCFI_RULE_SITE] = "Site",
+    [RVCFI_RULE_GATE] = "Gate",
+    [RVCFI_RULE_ASTRAY] = "Astray",
+    [RVCFI_RULE_END] = "End",
+};
 
 static void words_of_reject(const struct rvcfi_verdict *verdict, char words[WORDS_MOST])
 {
+    const char *rule = rules[verdict->reason];
+
     if (verdict->reason == RVCFI_RULE_LENGTH)
-        snprintf(words, WORDS_MOST, "rejected Length %" PRIu64 " %" PRIu64, verdict->first, verdict->second);
+        snprintf(words, WORDS_MOST, "rejected %s %" PRIu64 " %" PRIu64, rule, verdict->first, verdict->second);
     else
-        snprintf(words, WORDS_MOST, "rejected %s %08" PRIx64, rules[verdict->reason], verdict->first);
+        snprintf(words, WORDS_MOST, "rejected %s %08" PRIx64, rule, verdict->first);
 }
 
 void words_of_verdict(const struct rvcfi_verdict *verdict, char words[WORDS_MOST])

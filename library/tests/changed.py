@@ -14,8 +14,8 @@ PAGE, HEADERS, CODE = 0x1000, 232, 0x40000000
 MOST_CODE = 1 << 18  # words of code at most
 UNITS = 16  # words before the first unit, of an image for one hart
 PAIRS = Path(__file__).resolve().parent / "pairs"
-LINES = [b"", b"end", b"class 00001", b"class 00002 4000042c", b"edge 40000968 40000758", b"call 4000005c 400002a0", b"calls 63 64 93", b"calls 64 63",
-         b"calls 2048", b"rvcfi-graph 2", b"site 400006fc jump 00001", b"site 400006fc call 00002", b"code 40000000 00000978"]
+LINES = [b"", b"end", b"class 00001", b"class 00002 4000042c", b"edge 40000968 40000758", b"call 4000005c 400002a0", b"calls 63 64 93",
+         b"calls 64 63", b"calls 2048", b"rvcfi-graph 2", b"site 400006fc jump 00001", b"site 400006fc call 00002", b"code 40000000 00000978"]
 WORDS = [0x00000073, 0x00100073, 0x00008067, 0x00000013, 0x000F8067, 0x00001037, 0x00002037, 0xFFFFFFFF, 0]
 
 

@@ -16,7 +16,8 @@ GCC, VERSION = "riscv64-linux-gnu-gcc", "12.2.0"
 FILES = ["door.c", "memory.c", "start.s", "text.c", "visitors.c"]
 OPTIONS = ["-O2", "-march=rv64im", "-mabi=lp64", "-mcmodel=medlow", "-ffixed-t5", "-ffixed-t6", "-fno-pic", "-ffreestanding"]
 CALLS = 63, 64, 93
-PAIRS = [("visitors", "", b"rewritten code 2420 data 151 classes 1 sites 1\n"), ("plugin", policy_text(CALLS), b"rewritten code 2532 data 151 classes 1 sites 1\n")]
+PAIRS = [("visitors", "", b"rewritten code 2420 data 151 classes 1 sites 1\n"),
+         ("plugin", policy_text(CALLS), b"rewritten code 2532 data 151 classes 1 sites 1\n")]
 
 
 def objects(folder):
