@@ -180,10 +180,25 @@ def shared(told, folder):
         told.same("a shared object", (answer, verdict.outcome, verdict.reason, verdict.first, verdict.second), (3, 3, 1, 2532, 2420))
 
 
-def words_of_ask(told, ask):
+def large_files(folder):
+    """A pair of a megabyte, a file of as many bytes as are allowed, and one of one more."""
+    image, graph, most, over = [os.path.join(folder, name) for name in ("image", "graph", "most", "over")]
+    for name, content in zip((image, graph), images.pair(1 << 20)):
+        Path(name).write_bytes(content)
+    for name, length in (most, 1 << 26), (over, (1 << 26) + 1):
+        Path(name).touch()
+        os.truncate(name, length)
+    return [image, graph], most, over
+
+
+def words_of_ask(told, ask, folder):
     """What `ask` says of its words and files, as docs/COMMANDS.md has it of `rvcfi verify`."""
     absent = str(OUT / "absent")
+    large, most, over = large_files(folder)
     for what, words, wanted in [
+        ("a large pair", large, (0, b"accepted\n")),
+        ("a file of 2^26 bytes", [most, VISITORS[1]], (1, b"refused 22 Byte 0\n")),
+        ("a file of 2^26 + 1 bytes", [VISITORS[0], over], (6, b"too long %s\n" % over.encode())),
         ("two files", VISITORS, (0, b"accepted\n")),
         ("one word", VISITORS[:1], (2, b"usage: ask IMAGE GRAPH\n")),
         ("no image", [absent, VISITORS[1]], (3, b"read fault %s\n" % absent.encode())),
@@ -295,7 +310,7 @@ def main():
         is_the_tutorials(told, folder)
         natively(told, folder)
         shared(told, folder)
-        words_of_ask(told, [str(OUT / "ask")])
+        words_of_ask(told, [str(OUT / "ask")], folder)
         changed_pairs(told, [str(OUT / "ask")], program, options.pairs, "changed pairs")
         loader(told, folder)
         rust(told, folder)
