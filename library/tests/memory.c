@@ -1,6 +1,7 @@
 /* memory.c: each request of memory fails in turn: memory OUTCOME IMAGE GRAPH
  *
- * OUTCOME is what rvcfi_verify answers where none fails. Each time the answer is RVCFI_NO_MEMORY, and no block is left. */
+ * OUTCOME is what rvcfi_verify answers where none fails. Each time the answer is RVCFI_NO_MEMORY, and no block is left. The archive
+ * is compiled without sanitizers: of it AddressSanitizer sees what it asks of the heap; bounds.c looks at what it reads. */
 #include "check.h"
 #include "file.h"
 #include "rvcfi.h"

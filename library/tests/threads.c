@@ -1,6 +1,7 @@
 /* threads.c: a thread for each pair asks of it many times, all at once: threads TURNS (WORDS IMAGE GRAPH) ..
  *
- * WORDS are what `rvcfi verify` says of the pair. */
+ * WORDS are what `rvcfi verify` says of the pair. The archive is compiled without sanitizers: of it ThreadSanitizer sees what it
+ * asks of the heap, and the answers tell the rest. */
 #include "check.h"
 #include "file.h"
 #include "rvcfi.h"
