@@ -1,0 +1,40 @@
+"""Whether the recorded pairs are those of docs/TUTORIAL.md: made anew by the model of tests/harts from the objects of its section 1."""
+
+import shutil
+import sys
+from pathlib import Path
+
+REPOSITORY = Path(__file__).resolve().parents[2]
+sys.path[:0] = [str(REPOSITORY / "tests" / "harts")]
+
+from changed import recorded
+from hardener import Hardening, Source, policy_text
+from joiner import Joined
+from told import ended
+
+GCC, VERSION = "riscv64-linux-gnu-gcc", "12.2.0"
+FILES = ["door.c", "memory.c", "start.s", "text.c", "visitors.c"]
+OPTIONS = ["-O2", "-march=rv64im", "-mabi=lp64", "-mcmodel=medlow", "-ffixed-t5", "-ffixed-t6", "-fno-pic", "-ffreestanding"]
+CALLS = 63, 64, 93
+PAIRS = [("visitors", "", b"rewritten code 2420 data 151 classes 1 sites 1\n"),
+         ("plugin", policy_text(CALLS), b"rewritten code 2532 data 151 classes 1 sites 1\n")]
+
+
+def objects(folder):
+    """The objects of the tutorial's program, in the order of their names."""
+    for name in FILES:
+        path = Path(folder) / (name[:-2] + ".o")
+        options = OPTIONS if name.endswith(".c") else OPTIONS[1:3]
+        status, _, err = ended([GCC, *options, "-c", str(REPOSITORY / "tests" / "real" / name), "-o", str(path)])
+        if status:
+            raise RuntimeError(err.decode())
+        yield Source(path.read_bytes())
+
+
+def is_the_tutorials(told, folder):
+    if not shutil.which(GCC) or VERSION not in ended([GCC, "-dumpfullversion"])[1].decode():
+        told.skip("the recorded pairs", "made anew they need %s %s" % (GCC, VERSION))
+        return
+    for name, policy, line in PAIRS:
+        made = Hardening(Joined(list(objects(folder))), "_start", "plain", policy)
+        told.same("the recorded pair %s" % name, (made.told(), made.image, made.graph), (line, *recorded(name)))
