@@ -192,26 +192,22 @@ const NONE: u64 = 1 << 32;
 
 /// Of each node the code with which alone a unit goes on to another one.
 const CODES: [u64; 82] = [
-    NONE, NONE, NONE, 0x051f8063, 0x031f8c63, 0x031f8863, 0x031f8463, 0x031f8063,
-    0x011f8c63, 0x011f8863, 0x011f8463, 0x024f9f93, 0xffcfff93, NONE, 0x031f8c63, NONE,
-    0x031f8863, NONE, 0x031f8463, NONE, 0x031f8063, NONE, 0x011f8c63, NONE,
-    0x011f8863, NONE, 0x011f8463, NONE, NONE, 0x024fdf93, NONE, NONE,
-    NONE, NONE, NONE, NONE, NONE, NONE, NONE, NONE,
-    NONE, NONE, NONE, NONE, NONE, NONE, 0x000f1463, NONE,
-    0x00000f17, 0x014f0f13, 0x01e1b023, 0x00818193, NONE, 0x40000f37, 0x41ef8f33, 0x014f5f13,
-    0x000f0463, NONE, 0x000faf03, 0x004faf03, NONE, 0x03720213, 0x004f0463, NONE,
-    NONE, 0x03019f13, NONE, 0x03720213, 0x004f0463, NONE, NONE, 0x000f1463,
-    NONE, 0x00000f17, 0x014f0f13, 0x01e1b023, 0x00818193, NONE, 0xff818193, 0x001f8463,
-    NONE, NONE,
+    NONE, NONE, NONE, 0x051f8063, 0x031f8c63, 0x031f8863, 0x031f8463, 0x031f8063, 0x011f8c63,
+    0x011f8863, 0x011f8463, 0x024f9f93, 0xffcfff93, NONE, 0x031f8c63, NONE, 0x031f8863, NONE,
+    0x031f8463, NONE, 0x031f8063, NONE, 0x011f8c63, NONE, 0x011f8863, NONE, 0x011f8463, NONE, NONE,
+    0x024fdf93, NONE, NONE, NONE, NONE, NONE, NONE, NONE, NONE, NONE, NONE, NONE, NONE, NONE, NONE,
+    NONE, NONE, 0x000f1463, NONE, 0x00000f17, 0x014f0f13, 0x01e1b023, 0x00818193, NONE, 0x40000f37,
+    0x41ef8f33, 0x014f5f13, 0x000f0463, NONE, 0x000faf03, 0x004faf03, NONE, 0x03720213, 0x004f0463,
+    NONE, NONE, 0x03019f13, NONE, 0x03720213, 0x004f0463, NONE, NONE, 0x000f1463, NONE, 0x00000f17,
+    0x014f0f13, 0x01e1b023, 0x00818193, NONE, 0xff818193, 0x001f8463, NONE, NONE,
 ];
 
 /// The nodes to which these lead.
 const LEADS: [u8; 82] = [
-    0, 0, 0, 13, 15, 17, 19, 21, 23, 25, 27, 29, 53, 0, 15, 0, 17, 0, 19, 0,
-    21, 0, 23, 0, 25, 0, 27, 0, 0, 30, 0, 0, 0, 0, 0, 0, 0, 0, 0, 0,
-    0, 0, 0, 0, 0, 0, 47, 0, 49, 50, 51, 52, 0, 54, 55, 56, 57, 0, 60, 66,
-    0, 62, 63, 0, 0, 71, 0, 68, 69, 0, 0, 72, 0, 74, 75, 76, 77, 0, 79, 80,
-    0, 0,
+    0, 0, 0, 13, 15, 17, 19, 21, 23, 25, 27, 29, 53, 0, 15, 0, 17, 0, 19, 0, 21, 0, 23, 0, 25, 0,
+    27, 0, 0, 30, 0, 0, 0, 0, 0, 0, 0, 0, 0, 0, 0, 0, 0, 0, 0, 0, 47, 0, 49, 50, 51, 52, 0, 54, 55,
+    56, 57, 0, 60, 66, 0, 62, 63, 0, 0, 71, 0, 68, 69, 0, 0, 72, 0, 74, 75, 76, 77, 0, 79, 80, 0,
+    0,
 ];
 
 /// Where the word leads with which alone a unit goes on from a node, if it is that.

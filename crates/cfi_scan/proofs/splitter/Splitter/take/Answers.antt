@@ -1,4 +1,4 @@
-use Rattle.std.proofs.Common.{◌≡◌, ◌+◌, ◌*◌, ◌<◌, ℕ, true, refl, sym, ◌∙◌, arith, length, ◌++◌, ◌∷◌, []}
+use Rattle.std.proofs.Common.{◌≡◌, ◌+◌, ◌*◌, ℕ, true, refl, sym, arith, length, []}
 use Rattle.rv_word.specs.MemoryMap.{profile_of}
 use Rattle.cfi_unit.specs.Opens.{InCode}
 use Rattle.cfi_reader.specs.Reading.{is_stuck}
