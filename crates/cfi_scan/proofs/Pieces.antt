@@ -1,6 +1,6 @@
 -- Bytes that are cut into words, one byte or one word more, and what is kept of them.
 use Rattle.std.proofs.Common.{◌≡◌, ℕ, ◌+◌, ◌*◌, ◌/◌, ◌%◌, ◌<◌, ◌≤◌, List, [], ◌∷◌, ◌++◌, length, min, get_or, set, take, drop, Some, None, inl, inr, refl, sym, ap, ◌∙◌, subst, arith}
-use Rattle.std.proofs.lemmas.List.{append-nil, append_assoc, length_push, length-append, take-append-le, take_more_set, take_all, nil_from_length}
+use Rattle.std.proofs.lemmas.List.{append-nil, length_push, length-append, take-append-le, take_more_set, take_all, nil_from_length}
 use Rattle.std.proofs.lemmas.Bool.{cases_eq, eq-eqb, ne_eqb}
 use Rattle.rv_word.specs.MemoryMap.{Profile, profile_of}
 use Rattle.cfi_reader.specs.declared.entry.Entry.{Entry}

@@ -1,4 +1,4 @@
-use Rattle.std.proofs.Common.{◌≡◌, ◌/◌, ◌^◌, ◌∙◌, refl, bit_and}
+use Rattle.std.proofs.Common.{◌/◌, ◌^◌, refl, bit_and}
 use Rattle.std.specs.Prelude.{◌==◌}
 use Rattle.std.proofs.lemmas.Bool.{agree_below_at}
 use Rattle.cfi_reader.specs.PlainWord.{is_named}

@@ -1,4 +1,4 @@
-use Rattle.std.proofs.Common.{◌≡◌, ◌+◌, ◌-◌, ◌/◌, ◌<◌, ◌^◌, ℕ, List, [], ◌++◌, length}
+use Rattle.std.proofs.Common.{◌≡◌, ◌+◌, ◌/◌, ◌<◌, ◌^◌, ℕ, List, [], ◌++◌, length}
 use Rattle.rv_word.specs.MemoryMap.{profile_of}
 use Rattle.cfi_scan.specs.Pieces.{IsCut}
 use Rattle.cfi_scan.specs.declared.kept.Kept.{Kept}

@@ -1,4 +1,4 @@
-use Rattle.std.proofs.Common.{◌≡◌, ◌+◌, ◌*◌, ◌<◌, ℕ, true, refl, sym, ◌∙◌, arith, length, ◌++◌, ◌∷◌, []}
+use Rattle.std.proofs.Common.{◌≡◌, ◌+◌, ◌*◌, ℕ, true, refl, sym, arith, length, []}
 use Rattle.rv_word.specs.MemoryMap.{profile_of}
 use Rattle.rv_word.proofs.Versions.{is_profile, laid_out}
 use Rattle.cfi_unit.specs.Opens.{InCode}
