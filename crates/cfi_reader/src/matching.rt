@@ -8,9 +8,9 @@ ghost use Rattle.cfi_unit.specs.UnitWords.{jump};
 ghost use Rattle.cfi_unit.specs.declared.pattern.Pattern.TheVariants as P;
 ghost use Rattle.cfi_reader.specs.Nodes.{is_later};
 
-use cfi_unit::Pattern;
+use cfi_unit::{Pattern, jump_between};
 use rv_code::{decode, encode};
-use rv_instr::{Immediate, ImmediateOp, Instr, Reg, UpperOp};
+use rv_instr::{ImmediateOp, Instr, UpperOp};
 
 /// Whether a word, which stands at an address, is as a pattern says that stands behind the first of a unit. From each place
 /// in code a handler is reached, so a jump to it is told by its word.
@@ -42,8 +42,7 @@ pub(crate) fn matches(pattern: Pattern, word: u32, here: u64) -> bool
 fn jump_code(here: u64, to: u64) -> u32
     ensures { result ≡ code_of (jump here to) }
 {
-    let field = (to.wrapping_sub(here) / 2 % 0x10_0000) as u32;
-    encode(Instr::Jal(Reg::of(0), Immediate::of(field)))
+    encode(jump_between(here, to))
 }
 
 /// Whether a word is `jal x0`.

@@ -8,13 +8,15 @@ use rv_instr::{Immediate, Instr, Reg};
 use rv_word::sext;
 
 /// Where a `jal` at an address leads by its offset field.
-pub(crate) fn led(at: u64, field: Immediate<20>) -> u64
+#[inline(always)]
+pub fn led(at: u64, field: Immediate<20>) -> u64
     ensures { result ≡ led_to at field }
 {
     at.wrapping_add(sext(u64::from(field.bits()) * 2, 21))
 }
 
 /// The offset field of a jump from one address to another.
+#[inline(always)]
 pub(crate) fn field_between(from: u64, to: u64) -> Immediate<20>
     ensures { result ≡ jump_offset from to }
 {
@@ -22,7 +24,8 @@ pub(crate) fn field_between(from: u64, to: u64) -> Immediate<20>
 }
 
 /// Where a branch at an address leads by its offset field.
-pub(crate) fn led_near(at: u64, field: Immediate<12>) -> u64
+#[inline(always)]
+pub fn led_near(at: u64, field: Immediate<12>) -> u64
     ensures { result ≡ near_to at field }
 {
     at.wrapping_add(sext(u64::from(field.bits()) * 2, 13))
@@ -43,7 +46,8 @@ pub(crate) fn is_close(from: u64, to: u64) -> bool
 }
 
 /// `jal x0` from one address to another.
-pub(crate) fn jump_between(from: u64, to: u64) -> Instr
+#[inline(always)]
+pub fn jump_between(from: u64, to: u64) -> Instr
     ensures { result ≡ jump from to }
 {
     Instr::Jal(Reg::of(0), field_between(from, to))

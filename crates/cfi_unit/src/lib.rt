@@ -6,6 +6,7 @@
 
 pub use effect_law::{closing_effect, opening_effect, unit_effect, unit_keeps_registers};
 pub use emission::{emit, fits, size};
+pub use jump::{jump_between, led, led_near};
 pub use members::{MOST_MEMBERS, Member, Members};
 pub use pattern::{End, Pattern};
 pub use place::Place;

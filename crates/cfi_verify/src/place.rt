@@ -1,7 +1,6 @@
 //! Where the unit at an address leads, and what it asks of the graph.
 
 ghost use Rattle.std.specs.Prelude.{◌≡◌, ◌+◌, ◌<◌, ◌^◌, true};
-ghost use Rattle.cfi_unit.specs.Recognise.{led_to, near_to};
 ghost use Rattle.cfi_verify.specs.Entries.{call_at, edge_at, gate_at, gate_in, site_at, starts_at};
 ghost use Rattle.cfi_verify.specs.Scan.{profile_in};
 
@@ -9,24 +8,8 @@ use crate::starts::Starts;
 use cfi_graph::SiteKind;
 use cfi_rules::Asks;
 use cfi_scan::Entry;
-use cfi_unit::TargetWord;
-use rv_instr::Immediate;
+use cfi_unit::{TargetWord, led, led_near};
 use rv_word::profile::START;
-use rv_word::sext;
-
-/// Where a jump at an address leads by its offset field.
-fn led(at: u64, field: Immediate<20>) -> u64
-    ensures { result ≡ led_to at field }
-{
-    at.wrapping_add(sext(u64::from(field.bits()) * 2, 21))
-}
-
-/// Where a near branch at an address leads by its offset field.
-fn led_near(at: u64, field: Immediate<12>) -> u64
-    ensures { result ≡ near_to at field }
-{
-    at.wrapping_add(sext(u64::from(field.bits()) * 2, 13))
-}
 
 /// The label of a gate's entry.
 fn gate_in(entry: Entry) -> Option<u32>
