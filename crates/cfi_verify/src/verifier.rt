@@ -95,8 +95,8 @@ impl<'a> Checked<'a> {
         ensures { IsConfined (image_profile self.now.image) self.now.image self.now.graph }
     {
         are_bytes(self.image);
-        // Tells the proof that the pair meets the rules.
-        let _ = self.graph();
+        // Tells the proof that the pair meets the rules, and that the graph is one.
+        let _length = self.graph().code();
         well_formed_is_confined();
     }
 
@@ -227,6 +227,8 @@ pub fn verify<'a>(
     ensures rejected { IfErr result (IsCause (image_profile image.now) image.now graph.now) }
 {
     are_bytes(image);
+    // Computes nothing: it tells the proof that the graph is one.
+    let _length = graph.code();
     let mut scan = Scan::new(alloc, image.version(), graph)?;
     feed_code::<Brand>(&mut scan, image.code(), Blank::new(1));
     match scan.finish() {

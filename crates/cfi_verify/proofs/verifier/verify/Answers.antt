@@ -8,7 +8,7 @@ use Rattle.cfi_verify.proofs.verifier.verify.Goals as goal
 pub returns-in-Ok-clause-confined : goal.returns-in-Ok-clause-confined
 returns-in-Ok-clause-confined c =
     let formed : IsWellFormed (image_profile c.args.image.now) c.args.image.now c.args.graph.now = search rules in
-    c.well_formed_is_confined.ensures _ c.args.image.now c.args.graph.now (is_profile c.args.image.now.version) c.are_bytes.ensures c.type_inv.graph formed
+    c.well_formed_is_confined.ensures _ c.args.image.now c.args.graph.now (is_profile c.args.image.now.version) c.are_bytes.ensures c.code-length.ensures.allowed formed
 
 pub returns-in-Ok-clause-safe : goal.returns-in-Ok-clause-safe
 returns-in-Ok-clause-safe c =
