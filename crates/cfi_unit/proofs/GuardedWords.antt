@@ -34,9 +34,6 @@ tests_counted ns = length-map (guards ns) code_of ∙ guards_counted ns
 pub is_load : (n : ℕ) → IsNumber n → IsInstr (Immediate Addi 31 0 n)
 is_load n small = (lit< tt, lit< tt, (let low : n < 2 ^ 11 = small in omega arith))
 
-pub is_test : (left : ℕ) → left ≤ 8 → IsInstr (Branch Beq 31 17 (4 * left))
-is_test left few = (lit< tt, lit< tt, omega arith)
-
 number_read : (n : ℕ) → IsNumber n → number_in (decoded (code_of (Immediate Addi 31 0 n))) ≡ Some n
 number_read n small = ap number_in (decoded-code_of (Immediate Addi 31 0 n) (is_load n small)) ∙ rw (lt-ltb n 2048 small) refl
 

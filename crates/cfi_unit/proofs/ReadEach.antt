@@ -1,4 +1,4 @@
--- A loop that reads each so-manieth of some words: what is read so far and what is still read are all.
+-- A loop that reads words a step apart: what is read so far and what is still read are all.
 use Rattle.std.proofs.Common.{◌≡◌, ℕ, suc, ◌+◌, ap, sym, ◌∙◌, List, [], ◌∷◌, ◌++◌, append_assoc, append-nil}
 use Rattle.std.specs.Prelude.{Option, Some, None}
 use Rattle.rv_instr.specs.declared.instr.Instr.{Instr}

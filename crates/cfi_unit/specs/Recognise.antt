@@ -1,5 +1,5 @@
--- The unit that begins a list of words: one of the first shape of the table that the words begin as, whose fields are
--- read from the words that the shape leaves open. It is the unit that `Begins` the list.
+-- The unit that begins a list of words: its shape is the one of the table that is found there, and its fields are read
+-- from the words that the shape leaves open. It is the unit that `Begins` the list.
 use Rattle.std.specs.Prelude.{ℕ, zero, suc, ◌+◌, List, [], ◌∷◌, Option, Some, None, option_map, if◌then◌else◌, nat_lt, option_and_then}
 use Rattle.rv_word.specs.Numbers.{MOST_NUMBERS}
 use Rattle.rv_instr.specs.declared.instr.Instr.{Instr}
@@ -43,7 +43,7 @@ abbrev pub put_first : {A : Type 0} → Option A → List A → List A
 put_first None items = []
 put_first (Some item) items = item ∷ items
 
--- what is read of the word at a place, and of each so-manieth behind it, as long as something is, at most so often
+-- what is read of the word at a place, and then of each that is so many words on, until nothing is, at most so often
 unfoldable pub read_each : {A : Type 0} → (Option Instr → Option A) → ℕ → List ℕ → ℕ → ℕ → List A
 read_each read step words k zero = []
 read_each read step words k (suc most) = put_first (read (instr_at words k)) (read_each read step words (k + step) most)
@@ -54,7 +54,7 @@ numbers_in words = read_each number_in 2 words 0 MOST_NUMBERS
 abbrev pub members_in : List ℕ → List Member
 members_in words = read_each member_of 1 words 3 MOST_MEMBERS
 
--- the same of a computed transfer, and its label
+-- the register and the offset of a computed transfer, and its label
 abbrev pub transfer_in : List ℕ → Option (ℕ × ℕ × ℕ)
 transfer_in words =
     option_and_then (λ label. option_map (λ a. (a.0, a.1, label)) (address_in (instr_at words 0))) (label_in (instr_at words 8))
