@@ -55,7 +55,7 @@ use Rattle.cfi_rules.proofs.Safety.{begins, changed_above, first_call, most_pend
 use Rattle.cfi_confined.specs.Confined.{ConfinedAlong, IsAllowed, IsHandler, MayEcall, MayStop, Moves, Pending, WritesOwn, fetched, with_pending}
 use Rattle.cfi_confined.specs.Laws.{WellFormedIsConfined}
 use Rattle.cfi_confined.proofs.Moves.{Went, moves}
-use Rattle.cfi_confined.proofs.Words.{Fact, Here, place_here}
+use Rattle.cfi_confined.proofs.Words.{Here, place_here}
 use Rattle.cfi_confined.proofs.Writes.{writes}
 
 -- an instruction that stands in the image is fetched where code is the image's
@@ -155,13 +155,6 @@ module _ (p : Profile) (profile : IsProfile p) (image : Contents) (graph : Graph
   module _ (ordered : IsGraph graph) (hart : ℕ) (below : hart < p.harts) (pending : List ℕ) (h : Hart) (s : Shared) (going : last_exit s.events ≡ None)
       (code : IsCodeOf (loaded image) s.memory) (w : Within (part_of hart) pending h s.memory) (Next : List ℕ → After → Type 0)
       (go_on : (newer : List ℕ) (a : After) → Context (part_of hart) (loaded image) s.memory newer a.shared → Within (part_of hart) newer a.hart a.shared.memory → Next newer a) where
-    abbrev Onward : Instr → After → Type 0
-    Onward i a =
-        (newer : List ℕ) × (length newer ≤ MOST_PENDING) × Moves p graph (fetched s.memory) (Some i) h.pc pending a.hart.pc newer × Next newer a
-
-    abbrev pub Owed : Instr → After → Type 0
-    Owed i a = MayStop p h.pc a.turn × WritesOwn (part_of hart) (length pending) s.memory a.shared.memory × OnRan a.turn (Onward i a) (Unit {0})
-
     facts : Facts w.place w.at
     facts = place_facts p profile image graph bytes formed w.at w.place w.is
 
@@ -188,54 +181,59 @@ module _ (p : Profile) (profile : IsProfile p) (image : Contents) (graph : Graph
     context : Context (part_of hart) (loaded image) s.memory pending s
     context = record { going = going; kept = record { code = code; held = w.held; frame = λ k from out. refl } }
 
+    -- its word, and what that leaves
+    abbrev its : Instr
+    its = there.instr
+
+    abbrev left : After
+    left = exec p its h s
+
+    abbrev Onward : After → Type 0
+    Onward a =
+        (newer : List ℕ) × (length newer ≤ MOST_PENDING) × Moves p graph (fetched s.memory) (Some its) h.pc pending a.hart.pc newer × Next newer a
+
+    abbrev Ended : Turn → Type 0
+    Ended turn = MayStop p h.pc turn × OnRan turn (Onward left) (Unit {0})
+
     -- a step that ran
-    ran : (i : Instr) (a : After) → a.turn ≡ Ran → START ≤ h.pc → Onward i a → MayStop p h.pc a.turn × OnRan a.turn (Onward i a) (Unit {0})
-    ran i a t high on = subst (λ (turn : Turn). MayStop p h.pc turn × OnRan turn (Onward i a) (Unit {0})) (sym t) (high, on)
+    ran : (newer : List ℕ) → left.turn ≡ Ran → (w.place ≡ handler → ⊥) → Went p profile image graph bytes formed w.at pending w.regs newer left.hart.pc w.place →
+        Context (part_of hart) (loaded image) s.memory newer left.shared → Within (part_of hart) newer left.hart left.shared.memory → Ended left.turn
+    ran newer t other went c within =
+        let moved = moves p profile image graph bytes formed ordered (part_of hart) w.at pending w.regs w.place w.is w.stage h s (fetched s.memory)
+        (fetched_there (loaded image) s.memory w.at (place_instrs p w.place w.at) code stand) there.word there.pc newer its there.fact t went in
+        let bound = most_pending p profile image graph bytes formed within.place newer within.stage in
+        subst Ended (sym t) (passes w.place w.at h.pc facts word other, (newer, bound, moved, go_on newer left c within))
 
-    moved : (i : Instr) → slice_get (place_instrs p w.place w.at) there.word ≡ Some i → Fact p (part_of hart) (loaded image) w.at pending w.regs h w.place there.word i →
-        (newer : List ℕ) → (exec p i h s).turn ≡ Ran → Went p profile image graph bytes formed w.at pending w.regs newer (exec p i h s).hart.pc w.place →
-        Moves p graph (fetched s.memory) (Some i) h.pc pending (exec p i h s).hart.pc newer
-    moved i is fact newer t went =
-        moves p profile image graph bytes formed ordered (part_of hart) w.at pending w.regs w.place w.is w.stage h s (fetched s.memory)
-        (fetched_there (loaded image) s.memory w.at (place_instrs p w.place w.at) code stand) there.word there.pc newer i fact t went
-
-    outcome : (i : Instr) → slice_get (place_instrs p w.place w.at) there.word ≡ Some i → Fact p (part_of hart) (loaded image) w.at pending w.regs h w.place there.word i →
-        ItsOutcome (exec p i h s) → MayStop p h.pc (exec p i h s).turn × OnRan (exec p i h s).turn (Onward i (exec p i h s)) (Unit {0})
-    outcome i is fact (stays t c low inside) =
-        let a = exec p i h s in
-        let later = place_word p (part_of hart) (loaded image) w.place w.at pending w.regs a.hart a.shared.memory may inside in
+    outcome : ItsOutcome left → Ended left.turn
+    outcome (stays t c low inside) =
+        let later = place_word p (part_of hart) (loaded image) w.place w.at pending w.regs left.hart left.shared.memory may inside in
         let size = later.1 in let here = later.2 in
-        let nothing : place_at p W a.hart.pc ≡ None = nothing_inside p profile image graph bytes formed w.place w.at a.hart.pc facts low (omega arith) in
-        let still : Within (part_of hart) pending a.hart a.shared.memory =
-        record { at = w.at; place = w.place; regs = w.regs; is = w.is; stage = w.stage; held = c.kept.held; inside = inside } in
-        ran i a t (passes w.place w.at h.pc facts word (λ same.
-        let back : a.hart.pc ≡ w.at = subst (λ (q : Place). InPlace p (part_of hart) (loaded image) q w.at pending w.regs a.hart a.shared.memory) same inside in omega arith))
-        (pending, most, moved i is fact pending t (inl (nothing, refl)), go_on pending a c still)
-    outcome i is fact (leaves newer t c x3 leads) =
-        let a = exec p i h s in
-        let to = (arrive p profile image graph bytes formed w.place (record { at = w.at; pending = pending; regs = w.regs }) a.hart.pc newer w.is facts w.stage leads).settled in
-        let within : Within (part_of hart) newer a.hart a.shared.memory =
-        record {
-          at = a.hart.pc;
+        let nothing : place_at p W left.hart.pc ≡ None = nothing_inside p profile image graph bytes formed w.place w.at left.hart.pc facts low (omega arith) in
+        ran pending t (λ same.
+        let back : left.hart.pc ≡ w.at = subst (λ (q : Place). InPlace p (part_of hart) (loaded image) q w.at pending w.regs left.hart left.shared.memory) same inside in omega arith)
+        (inl (nothing, refl)) c (record { at = w.at; place = w.place; regs = w.regs; is = w.is; stage = w.stage; held = c.kept.held; inside = inside })
+    outcome (leaves newer t c x3 leads) =
+        let to = (arrive p profile image graph bytes formed w.place (record { at = w.at; pending = pending; regs = w.regs }) left.hart.pc newer w.is facts w.stage leads).settled in
+        ran newer t (λ same. subst (λ (q : Place). Leads p (loaded image) q w.at pending w.regs newer left.hart.pc) same leads) (inr leads) c (record {
+          at = left.hart.pc;
           place = to.place;
-          regs = a.hart.regs;
+          regs = left.hart.regs;
           is = to.is;
           stage = to.stage;
           held = c.kept.held;
-          inside = begins p profile image graph bytes formed (part_of hart) to.place newer a.hart a.shared.memory to.is to.stage (λ o. absurd (to.later o))
+          inside = begins p profile image graph bytes formed (part_of hart) to.place newer left.hart left.shared.memory to.is to.stage (λ o. absurd (to.later o))
               (past p profile image graph bytes formed x3);
-        } in
-        ran i a t (passes w.place w.at h.pc facts word (λ same. subst (λ (q : Place). Leads p (loaded image) q w.at pending w.regs newer a.hart.pc) same leads))
-        (newer, most_pending p profile image graph bytes formed to.place newer to.stage, moved i is fact newer t (inr leads), go_on newer a c within)
-    outcome i is fact (ends how kept) = stops w.at h.pc (exec p i h s).turn (Onward i (exec p i h s)) w.place facts word how
+        })
+    outcome (ends how kept) = stops w.at h.pc left.turn (Onward left) w.place facts word how
 
-    pub owed : Owed there.instr (step p h s)
+    abbrev pub Owed : After → Type 0
+    Owed a = MayStop p h.pc a.turn × WritesOwn (part_of hart) (length pending) s.memory a.shared.memory × OnRan a.turn (Onward a) (Unit {0})
+
+    pub owed : Owed (step p h s)
     owed =
         let own = own_is_part p profile hart below in
-        let i = there.instr in
-        at_word (λ (a : After). ItsOutcome a → Owed i a) p h context stand there.word i there.is there.pc
-        (λ out. let parts = outcome i there.is there.fact out in
-        (parts.0, writes p (part_of hart) (loaded image) w.at pending w.regs h s w.place there.word i there.fact, parts.1))
+        at_word (λ (a : After). ItsOutcome a → Owed a) p h context stand there.word its there.is there.pc
+        (λ out. let end = outcome out in (end.0, writes p (part_of hart) (loaded image) w.at pending w.regs h s w.place there.word its there.fact, end.1))
         (unit_law p (part_of hart) (loaded image) s.memory w.place w.at pending w.regs h s own (loaded_small image bytes) may most stand context w.inside)
 
     pub its_code : fetched s.memory h.pc ≡ Some there.instr
