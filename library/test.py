@@ -269,6 +269,7 @@ def natively(told, folder):
             test(machine)
         machine.test("layout", VISITORS + PLUGIN, standard="c11")
         machine.test("bounds", VISITORS)
+        machine.test("cost", [1, *VISITORS], heap=None)
     if shutil.which("musl-gcc"):
         machine = Machine(told, folder, "musl-gcc")
         machine.test("layout", VISITORS + PLUGIN, ["-static"], standard="c11")

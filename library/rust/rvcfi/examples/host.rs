@@ -104,20 +104,20 @@ fn tell(allowed: &[u16], image: &str, graph: &str) -> bool {
     }
 }
 
+/// The numbers that the host allows, and the files of the plugins, two of each.
+fn words_of(words: &[String]) -> Option<(Vec<u16>, &[String])> {
+    let (calls, plugins) = words.split_first()?;
+    let allowed = calls.split(',').map(str::parse).collect::<Result<_, _>>();
+    let is_right = !plugins.is_empty() && plugins.len() % 2 == 0;
+    allowed.ok().filter(|_| is_right).map(|it| (it, plugins))
+}
+
 fn main() -> ExitCode {
     let words: Vec<String> = env::args().skip(1).collect();
-    let allowed = words
-        .first()
-        .map(|word| word.split(',').map(str::parse).collect());
-    let (Some(Ok(allowed)), plugins) = (allowed, &words[words.len().min(1)..]) else {
+    let Some((allowed, plugins)) = words_of(&words) else {
         println!("usage: host CALLS IMAGE GRAPH ..");
         return ExitCode::from(2);
     };
-    let allowed: Vec<u16> = allowed;
-    if plugins.is_empty() || plugins.len() % 2 != 0 {
-        println!("usage: host CALLS IMAGE GRAPH ..");
-        return ExitCode::from(2);
-    }
     let refused = plugins
         .chunks(2)
         .filter(|pair| !tell(&allowed, &pair[0], &pair[1]))

@@ -131,76 +131,50 @@ fn at(address: u64) -> usize {
     CODE_AT + (address - CODE) as usize
 }
 
+/// That a pair is rejected by a rule at an address.
+fn is_rejected(image: &[u8], graph: &[u8], rule: Rule, address: u64) {
+    let words = format!("rejected {rule:?} {address:08x}");
+    let rejected = rejection(image, graph, &words);
+    assert_eq!(rejected, Rejection::Rule { rule, address });
+}
+
 #[test]
-fn rules_that_fail() {
-    let gate_of_class_1 = 0x0000_1037u32.to_le_bytes();
-    let nop = 0x0000_0013u32.to_le_bytes();
+fn rules_that_fail_by_a_word_of_code() {
     let last = CODE + CODE_LENGTH as u64 - 4;
-    let first_class = "class 00001 4000042c 400004bc";
-    let cases = [
+    assert_eq!(&IMAGE[at(last)..at(last) + 4], &stop_at(last));
+    let (nop, gate_of_class_1) = (0x0000_0013u32, 0x0000_1037u32);
+    for (address, word, rule) in [
+        (0x4000_0038, nop, Rule::Prologue),
+        (0x4000_0040, 0, Rule::Unit),
+        (0x4000_0040, gate_of_class_1, Rule::Astray),
+        (last, nop, Rule::End),
+    ] {
+        let image = changed(at(address), &word.to_le_bytes());
+        is_rejected(&image, GRAPH, rule, address);
+    }
+}
+
+#[test]
+fn rules_that_fail_by_a_line_of_the_graph() {
+    let targets = "4000042c 400004bc";
+    for (text, other, rule, address) in [
+        ("edge 40000968 40000758\n", "", Rule::Unlisted, 0x4000_0968),
         (
-            changed(at(0x4000_0038), &nop),
-            GRAPH.to_vec(),
-            Rule::Prologue,
-            0x4000_0038,
-        ),
-        (
-            changed(at(0x4000_0040), &[0; 4]),
-            GRAPH.to_vec(),
-            Rule::Unit,
-            0x4000_0040,
-        ),
-        (
-            IMAGE.to_vec(),
-            with("edge 40000968 40000758\n", ""),
-            Rule::Unlisted,
-            0x4000_0968,
-        ),
-        (
-            IMAGE.to_vec(),
-            with("end\n", "edge 40000970 40000040\nend\n"),
+            "end\n",
+            "edge 40000970 40000040\nend\n",
             Rule::Unused,
             0x4000_0970,
         ),
+        ("site 400006fc call 00001\n", "", Rule::Site, 0x4000_06fc),
         (
-            IMAGE.to_vec(),
-            with("site 400006fc call 00001\n", ""),
-            Rule::Site,
-            0x4000_06fc,
-        ),
-        (
-            IMAGE.to_vec(),
-            with(first_class, "class 00001 40000214 4000042c 400004bc"),
+            targets,
+            "40000214 4000042c 400004bc",
             Rule::Gate,
             0x4000_0214,
         ),
-        (
-            changed(at(0x4000_0040), &gate_of_class_1),
-            GRAPH.to_vec(),
-            Rule::Astray,
-            0x4000_0040,
-        ),
-    ];
-    for (image, graph, rule, address) in cases {
-        let words = format!("rejected {rule:?} {address:08x}");
-        assert_eq!(
-            rejection(&image, &graph, &words),
-            Rejection::Rule { rule, address }
-        );
+    ] {
+        is_rejected(IMAGE, &with(text, other), rule, address);
     }
-    assert_eq!(&IMAGE[at(last)..at(last) + 4], &stop_at(last));
-    let rejected = rejection(
-        &changed(at(last), &nop),
-        GRAPH,
-        &format!("rejected End {last:08x}"),
-    );
-    assert_eq!(
-        rejected,
-        Rejection::Rule {
-            rule: Rule::End,
-            address: last
-        }
-    );
 }
 
 #[test]
