@@ -11,6 +11,7 @@ pub record AreThere (bytes code init : List ℕ) : Type 0 where
   pub room : length init ≤ length bytes
   pub code_there : bytes_at bytes 0x1000 (length code) ≡ code
   pub data_there : bytes_at bytes (length bytes - length init) (length init) ≡ init
+  pub data_ends : length bytes - length init + length init ≡ length bytes
 
 pub are_there : (bytes : List ℕ) (v : ℕ) (code init : List ℕ) → IsVersion v → IsImageSize (length code) (length init) → bytes ≡ spelling v code init
     → AreThere bytes code init
@@ -20,5 +21,5 @@ are_there bytes v code init known size e =
     let ends : length file ≡ data_start (length code) + length init = r.sound.end in
     let at : length file - length init ≡ data_start (length code) = omega arith in
     let there = ap (λ k. take (length init) (drop k file)) at ∙ ap (take (length init)) r.init_there ∙ take-length init in
-    let whole : AreThere file code init = record { room = omega arith; code_there = r.code_there; data_there = there } in
+    let whole : AreThere file code init = record { room = omega arith; code_there = r.code_there; data_there = there; data_ends = omega arith } in
     rw e whole

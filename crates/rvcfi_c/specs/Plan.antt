@@ -1,5 +1,5 @@
 -- What a loader maps of an image.
-use Rattle.std.specs.Prelude.{◌≡◌, ℕ, List, length, take, drop}
+use Rattle.std.specs.Prelude.{◌≡◌, ℕ, ◌+◌, List, length, take, drop}
 use Rattle.rv_word.specs.Image.{Contents, IsImageSize, IsVersion}
 use Rattle.rv_word.specs.MemoryMap.{CODE_SIZE, CODE_START, DATA_END, DATA_START, SHADOW_START, START, profile_of}
 use Rattle.elf_image.specs.Spelling.{spelling}
@@ -24,6 +24,7 @@ pub record IsPlanOf (bytes : List ℕ) (plan : RvcfiPlan) : Type 0 where
   pub code_size : plan.code_size ≡ CODE_SIZE
   pub data_there : bytes_at bytes plan.data_offset plan.data_length ≡ image.init
   pub data_length : plan.data_length ≡ length image.init
+  pub data_ends : plan.data_offset + plan.data_length ≡ length bytes
   pub data_address : plan.data_address ≡ DATA_START
   pub data_end : plan.data_end ≡ DATA_END
   pub shadow_address : plan.shadow_address ≡ SHADOW_START

@@ -21,14 +21,17 @@ pub struct RvcfiPlan {
     pub harts: u32,
     /// Where each hart starts.
     pub entry: u64,
-    /// Code in the file: the offset of its first byte, and how many bytes.
+    /// Where the code begins in the file.
     pub code_offset: u64,
+    /// How many bytes of code the file has.
     pub code_length: u64,
     /// Code in memory: readable and executable, zeros past the file's part.
     pub code_address: u64,
+    /// How many bytes that is.
     pub code_size: u64,
     /// Initialised data in the file.
     pub data_offset: u64,
+    /// How many bytes of initialised data the file has.
     pub data_length: u64,
     /// Where they go.
     pub data_address: u64,
@@ -36,6 +39,7 @@ pub struct RvcfiPlan {
     pub data_end: u64,
     /// The shadow stack in memory: readable and writable, zeros.
     pub shadow_address: u64,
+    /// How many bytes it has.
     pub shadow_size: u64,
 }
 

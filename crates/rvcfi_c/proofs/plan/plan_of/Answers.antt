@@ -26,6 +26,7 @@ returns-clause-plan c =
       code_size = refl;
       data_there = there.data_there;
       data_length = refl;
+      data_ends = there.data_ends;
       data_address = refl;
       data_end = refl;
       shadow_address = refl;
