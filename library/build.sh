@@ -1,25 +1,27 @@
 #!/bin/sh
 # Builds the library and its examples: library/build.sh
 #
-# In library/lib come librvcfi_c.a, which `rt lib` proves and builds in crates/rvcfi_c, and librvcfi_heap.a, its memory over malloc
-# (c/heap.c); in library/lib/aarch64 the same two for aarch64, where aarch64-linux-gnu-gcc is there; in library/out the examples ask
-# and loader. CC names another compiler than cc. What is missing is told, and left out.
+# In library/lib come librvcfi_c.a and librvcfi_run_c.a, which `rt lib` proves and builds in crates/rvcfi_c and rvcfi_run_c, and
+# librvcfi_heap.a, their memory over malloc (c/heap.c); in library/lib/aarch64 the same for aarch64, where aarch64-linux-gnu-gcc is there;
+# in library/out the examples ask, run and loader. CC names another compiler than cc. What is missing is told, and left out.
 set -eu
 cd "$(dirname "$0")"
 cc=${CC:-cc}
 flags="-std=c99 -O2 -Wall -Wextra -pedantic -Iinclude"
 
-# archives FOLDER COMPILER ARCHIVER WORD ..: both archives, by `rt lib` with these words
+# archives FOLDER COMPILER ARCHIVER WORD ..: the archives, by `rt lib` with these words
 archives() {
     folder=$1 compiler=$2 archiver=$3
     shift 3
     mkdir -p "$folder"
-    (cd ../crates/rvcfi_c && rt lib "$@") >out/rt.txt 2>&1 || {
-        cat out/rt.txt
-        exit 1
-    }
-    grep '^logic=proved' out/rt.txt
-    cp ../crates/rvcfi_c/out/librvcfi_c.a "$folder"
+    for crate in rvcfi_c rvcfi_run_c; do
+        (cd ../crates/$crate && rt lib "$@") >out/rt.txt 2>&1 || {
+            cat out/rt.txt
+            exit 1
+        }
+        grep '^logic=proved' out/rt.txt
+        cp "../crates/$crate/out/lib$crate.a" "$folder"
+    done
     $compiler $flags -fPIC -c c/heap.c -o out/heap.o
     rm -f "$folder/librvcfi_heap.a"
     $archiver rc "$folder/librvcfi_heap.a" out/heap.o
@@ -46,6 +48,7 @@ else
 fi
 archives lib "$cc" ar
 example ask ask.c file.c words.c --
+example run run.c file.c words.c -- lib/librvcfi_run_c.a lib/librvcfi_heap.a
 printf '#include <unicorn/unicorn.h>\nint main(void) { return 0; }\n' >out/unicorn.c
 if $cc out/unicorn.c -lunicorn -o out/unicorn 2>/dev/null; then
     example loader loader.c emulator.c file.c words.c -- -DRVCFI_UNICORN -lunicorn

@@ -25,6 +25,7 @@ sys.path[:0] = [str(HERE / "tests")]
 import compare
 import images
 import loading
+import running
 from made import is_the_tutorials
 from told import Told, ended
 
@@ -234,6 +235,13 @@ def loader(told, folder):
         loading.load_all(told, built, folder, 100)
 
 
+def runs(told, folder):
+    """The example `run`."""
+    command = [str(OUT / "run")]
+    told.same("run: wrong words", ended(command + PLUGIN), (2, b"usage: run IMAGE GRAPH SCRIPT INPUT STEPS\n", b""))
+    running.run_all(told, command, folder, 200)
+
+
 def rust(told, folder):
     """The crate's tests, and its host on the plugin and a hostile copy of it."""
     if not shutil.which("cargo"):
@@ -314,6 +322,7 @@ def main():
         words_of_ask(told, [str(OUT / "ask")], folder)
         changed_pairs(told, [str(OUT / "ask")], program, options.pairs, "changed pairs")
         loader(told, folder)
+        runs(told, folder)
         rust(told, folder)
         for_aarch64(told, folder)
     return told.last_line()

@@ -2,7 +2,7 @@
  *
  * The function is compiled from code whose contract is proved (crates/rvcfi_run_c). What a caller owes is what rvcfi.h says: pointers
  * that are right and never NULL, texts that nobody writes during the call, output and *run that are the caller's alone and no part of
- * them, and the memory of c/heap.c. The output_len bytes at output are initialised. 16,384 bytes of stack.
+ * them, and the memory of c/heap.c. The output_len bytes at output are initialised. 65,536 bytes of stack.
  */
 #ifndef RVCFI_RUN_H
 #define RVCFI_RUN_H
