@@ -4,4 +4,5 @@ pub mod Moves
 pub mod Writes
 pub mod Runs
 pub mod Follows
+pub mod Told
 pub mod Unconfined

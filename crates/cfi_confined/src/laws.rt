@@ -1,5 +1,5 @@
 //! What is confined, and what follows from it. Each function states one law; nothing is computed.
-ghost use Rattle.cfi_confined.specs.Laws.{ConfinedIsListed, ConfinedKeepsCode, WellFormedIsConfined};
+ghost use Rattle.cfi_confined.specs.Laws.{ConfinedIsListed, ConfinedKeepsCode, PendingIsTold, WellFormedIsConfined};
 ghost use Rattle.cfi_confined.specs.Unconfined.{FaultsAreUnconfined};
 
 /// An image and a graph that meet the rules are confined, whatever the profile and however many harts run.
@@ -15,6 +15,11 @@ pub fn confined_is_listed()
 /// In each run of what is confined the code in memory stays the image's.
 pub fn confined_keeps_code()
     ensures { ConfinedKeepsCode }
+{}
+
+/// Which calls are pending after an instruction is told by it and by where it leads: a jump is never a return.
+pub fn pending_is_told()
+    ensures { PendingIsTold }
 {}
 
 /// An image and a graph of which one instruction leads, writes, calls or stops as it may not are not confined.
