@@ -29,7 +29,7 @@ script_in [] = None
 script_in (byte ∷ bytes) = Some (byte ∷ bytes)
 
 -- how a run stopped, and two numbers of it
-abbrev pub stop_of : RunEnd → ℕ × (ℕ × ℕ)
+abbrev pub stop_of : RunEnd → ℕ × ℕ × ℕ
 stop_of ends.Limit = (0, 0, 0)
 stop_of (ends.Exit status) = (1, status, 0)
 stop_of (ends.Handler BadTarget) = (2, 1, 0)
