@@ -54,7 +54,7 @@ impl fmt::Display for Verdict {
 }
 
 /// The verdict on an image and its graph.
-fn verdict(alloc: Global, pair: &Pair<'_>) -> Result<Verdict, NoMemory>
+fn judged(alloc: Global, pair: &Pair<'_>) -> Result<Verdict, NoMemory>
     ensures { IfOk result (IsJudgement pair.now.image pair.now.graph) }
 {
     match judge(alloc, pair) {
@@ -71,7 +71,7 @@ fn verdict_of(alloc: Global, image: &[u8], graph: Vec<u8>) -> Result<Verdict, No
     let opened = open_pair(alloc, image, &graph);
     drop(graph);
     match opened {
-        Ok(pair) => verdict(alloc, &pair),
+        Ok(pair) => judged(alloc, &pair),
         Err(PairEnd::Fault(fault)) => Ok(Verdict::Refused(refusal_of(LaunchFault::Pair(fault)))),
         Err(PairEnd::NoMemory) => Err(NoMemory),
     }
