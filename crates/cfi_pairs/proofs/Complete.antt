@@ -1,17 +1,11 @@
 -- Each command is complete: where its files are delivered, an outcome that is explained is determined by them.
-use Rattle.std.proofs.Common.{◌≡◌, ◌∙◌, ℕ, ◌≤◌, List, ◌<◌, Option, None, Ok, refl, sym, ap, subst, arith}
+use Rattle.std.proofs.Common.{◌≡◌, ℕ, List, Option, None, Ok, refl, subst}
 use Rattle.rv_word.specs.Image.{Contents, image_profile}
-use Rattle.rv_word.specs.MemoryMap.{MayRun, profile_of}
-use Rattle.elf_image.specs.Fault.{fault_of, version_in}
-use Rattle.elf_image.proofs.Only.{reads_none}
+use Rattle.rv_word.specs.MemoryMap.{MayRun}
 use Rattle.cfi_graph.specs.Graph.{GraphParts}
-use Rattle.cfi_graph.specs.Reading.{graph_of}
-use Rattle.cfi_graph.proofs.Only.{graph_of-graph_text}
 use Rattle.cfi_script.specs.Script.{ScriptParts}
 use Rattle.cfi_step.specs.declared.report.RunReport.{RunReport}
-use Rattle.cfi_rules.specs.Rules.{IsRejected, IsWellFormed}
-use Rattle.cfi_rules.specs.declared.reject.Reject as V
-use Rattle.cfi_rules.specs.declared.reject.Reject.TheVariants.{At, Length}
+use Rattle.cfi_rules.specs.Rules.{IsWellFormed}
 use Rattle.tool_common.specs.Reads.{Content}
 use Rattle.cfi_pair.specs.Spelled.{Spell}
 use Rattle.cfi_pair.proofs.Determined.{none_rejected, one_pair}

@@ -1,11 +1,12 @@
-ghost use Rattle.std.specs.Prelude.{◌≡◌, IfOk, IfErr, IsOk};
+ghost use Rattle.std.specs.Prelude.{◌≡◌, ℕ, List, IfOk, IfErr, IsOk};
 ghost use Rattle.tool_io.specs.Names.{AreRead};
 ghost use Rattle.tool_io.specs.Reading.{CountsReads, IsOnlyRead};
 ghost use Rattle.tool_common.specs.Reads.{IsFault, IsStop, IsTooLong, file_names};
+ghost use Rattle.cfi_pair.specs.Opening.{IsPairEnd};
+ghost use Rattle.cfi_pair.specs.Spelled.{Spell};
 ghost use Rattle.cfi_pairs.specs.Verify.{ExplainsVerdict, IsJudgement, IsVerdictOf, verdict_status, verify_asked, verify_names};
 
-use crate::refused::refusal_of;
-use cfi_launch::LaunchFault;
+use crate::refused::pair_refusal;
 use cfi_pair::{Pair, PairEnd, Verdict as Judgement, judge, open_pair};
 use cfi_verify::Reject;
 use rv_word::NoMemory;
@@ -64,16 +65,31 @@ fn judged(alloc: Global, pair: &Pair<'_>) -> Result<Verdict, NoMemory>
     }
 }
 
-/// The verdict on the bytes of an image and of its graph, whose text is let go once it is read.
+/// An image and its graph, whose text is let go once it is read.
+fn opened<'a>(alloc: Global, image: &'a [u8], graph: Vec<u8>) -> Result<Pair<'a>, PairEnd>
+    ensures spelled { IfOk result (λ pair. Spell image.now graph.items pair.image pair.graph) }
+    ensures refused { IfErr result (IsPairEnd image.now graph.items) }
+{
+    open_pair(alloc, image, &graph)
+}
+
+/// The verdict on texts that are not read.
+fn unread(end: PairEnd) -> Result<Verdict, NoMemory>
+    ensures { (image graph : List ℕ) → IsPairEnd image graph end → IfOk result (IsVerdictOf image graph) }
+{
+    match end {
+        PairEnd::Fault(fault) => Ok(Verdict::Refused(pair_refusal(fault))),
+        PairEnd::NoMemory => Err(NoMemory),
+    }
+}
+
+/// The verdict on the bytes of an image and of its graph.
 fn verdict_of(alloc: Global, image: &[u8], graph: Vec<u8>) -> Result<Verdict, NoMemory>
     ensures { IfOk result (IsVerdictOf image.now graph.items) }
 {
-    let opened = open_pair(alloc, image, &graph);
-    drop(graph);
-    match opened {
+    match opened(alloc, image, graph) {
         Ok(pair) => judged(alloc, &pair),
-        Err(PairEnd::Fault(fault)) => Ok(Verdict::Refused(refusal_of(LaunchFault::Pair(fault)))),
-        Err(PairEnd::NoMemory) => Err(NoMemory),
+        Err(end) => unread(end),
     }
 }
 

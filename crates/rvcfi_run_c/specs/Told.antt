@@ -82,6 +82,11 @@ abbrev pub IsToldOf : List ℕ → List ℕ → Option (List ℕ) → List ℕ �
 IsToldOf image graph script input limit run =
     (said : Result Launched LaunchEnd) × IsSaid image graph script input limit said × (run ≡ run_of said)
 
+-- what stands at output after a call: what a run wrote, as much of it as there is room for
+abbrev pub output_of : Result Launched LaunchEnd → List ℕ → List ℕ
+output_of (Ok (Ran version report)) before = held report.output before
+output_of other before = before
+
 -- it ran: the report of a safe pair's run, its numbers, and what it wrote
 abbrev pub IsRan : List ℕ → List ℕ → Option (List ℕ) → List ℕ → ℕ → List ℕ → List ℕ → RvcfiRun → Type 0
 IsRan image graph script input limit before after run =

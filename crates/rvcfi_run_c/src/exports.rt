@@ -1,13 +1,14 @@
 ghost use Rattle.std.specs.Prelude.{◌≡◌, ◌≤◌, ◌⊎◌, option_map};
-ghost use Rattle.rvcfi_run_c.specs.Told.{IsComplete, IsRan, IsToldOf, script_in};
+ghost use Rattle.rvcfi_run_c.specs.Told.{IsComplete, IsRan, IsToldOf, output_of, run_of, script_in};
 
 use crate::told::{RvcfiRun, run_of};
-use cfi_launch::{Launched, launch};
+use cfi_launch::{LaunchEnd, Launched, launch};
 use std::alloc::Global;
 
 /// Runs an image with its graph for at most so many steps, on `input`. An empty script lets one hart run, undisturbed. The answer is the
 /// outcome: 0 where it ran, and of what it wrote `output` has as many bytes as it holds; else `output` is as it was.
 #[unsafe(no_mangle)]
+#[tactic(auto, using(crate::proofs::Ran::kept))]
 pub extern "C" fn rvcfi_run(
     alloc: Global,
     image: &[u8],
@@ -26,11 +27,7 @@ pub extern "C" fn rvcfi_run(
     ensures kept { (result ≡ 0) ⊎ (output.new ≡ output.old) }
 {
     let launched = launch(alloc, image, graph, text_of(script), input, limit);
-    if let Ok(Launched::Ran(_, report)) = &launched {
-        let wrote = report.output.as_slice();
-        let n = wrote.len().min(output.len());
-        output[..n].copy_from_slice(&wrote[..n]);
-    }
+    put_output(&launched, output);
     *run = run_of(&launched);
     run.outcome
 }
@@ -39,9 +36,19 @@ pub extern "C" fn rvcfi_run(
 fn text_of(script: &[u8]) -> Option<&[u8]>
     ensures { script_in script.now ≡ option_map (λ t. t.now) result }
 {
-    if script.is_empty() {
-        None
-    } else {
-        Some(script)
+    if script.is_empty() { None } else { Some(script) }
+}
+
+/// Puts what a run wrote, as much of it as there is room for.
+fn put_output(launched: &Result<Launched, LaunchEnd>, output: &mut [u8])
+    ensures { output.new ≡ output_of launched.now output.old }
+{
+    match launched {
+        Ok(Launched::Ran(_, report)) => {
+            let wrote = report.output.as_slice();
+            let n = wrote.len().min(output.len());
+            output[..n].copy_from_slice(&wrote[..n]);
+        }
+        Ok(Launched::Rejected(_)) | Err(_) => {}
     }
 }
