@@ -36,7 +36,11 @@ pub extern "C" fn rvcfi_run(
 fn text_of(script: &[u8]) -> Option<&[u8]>
     ensures { script_in script.now ≡ option_map (λ t. t.now) result }
 {
-    if script.is_empty() { None } else { Some(script) }
+    if script.is_empty() {
+        None
+    } else {
+        Some(script)
+    }
 }
 
 /// Puts what a run wrote, as much of it as there is room for.

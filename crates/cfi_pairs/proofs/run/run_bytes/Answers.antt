@@ -7,4 +7,4 @@ pub returns-in-Err-Fault : goal.returns-in-Err-Fault
 returns-in-Err-Fault c =
     let script = option_map {T = Bor (List ℕ)} {U = List ℕ} (λ t. t.now) c.args.script in
     c.refusal_of.ensures c.args.image.now c.args.graph.now script
-      (subst (λ (e : LaunchEnd). IsLaunchEnd c.args.image.now c.args.graph.now script e) c.in-Err-Fault.field-0-is c.in-Err-Fault.ensures.refused)
+    (subst (λ (e : LaunchEnd). IsLaunchEnd c.args.image.now c.args.graph.now script e) c.in-Err-Fault.field-0-is c.in-Err-Fault.ensures.refused)
