@@ -2,11 +2,10 @@
 """Lists what a reader of a statement must read: `python3 tools/reading.py IsConfined`.
 
 A statement is one of LISTS, any definition in crates/NAME/specs or the contract of a function in crates/NAME/src, by its name or with its
-crate's before it (`cfi_rules.IsListed`). Listed are, file by file, the
-definitions, Rust types, constants and traits that it names, and those that these name, and so on, each with its first line and how many
-lines it has without comments and empty lines. A type with a model counts with its declaration and its model's value, view and invariant;
-a variable that shares its name with a definition of its file counts as that definition. What the kit defines (std, clap, byteorder,
-indexmap) is named after the list, and is not counted.
+crate's before it (`cfi_rules.IsListed`). Listed are, file by file, the definitions, Rust types, constants and traits that it names, and
+those that these name, and so on, each with its first line and how many lines it has without comments and empty lines. A type with a model
+counts with its declaration and its model's value, view and invariant; a variable that shares its name with a definition of its file counts
+as that definition. What the kit defines (std, clap, byteorder, indexmap) is named after the list, and is not counted.
 
 `--page` writes the lists of docs/DEFINITIONS.md anew, and keeps the words of each file; `--check` asks that they stand there as it would
 write them, that each file has its words, that all names were found, and that no list has more lines than it may.
@@ -132,7 +131,8 @@ def sources(path):
             last, contract = file.contracts.setdefault(found.group(1), Item(number)), True
         elif depth == 0 and plain[0] not in " {}()":
             last, contract = None, None
-        if contract and line == "{":
+        if contract and (line == "{" or FUNCTION.match(plain) and plain.rstrip().endswith("{")):
+            last.lines = last.lines or 1
             last, contract = None, None
         if depth == 1 and last and last.model and (found := re.match(r" *(?:ghost (\w+)|fn|type|const)", plain)):
             last.open = found.group(1) in ("Value", "view", "invariant")
