@@ -296,7 +296,8 @@ def system_calls(built, at):
     yield Fault("another list", reclassed(listed, "calls 63 64", "calls 64 65"), "Unit", send + 20, ("MayEcall",))
     yield Fault("a guard that lets each number pass", patched(listed, {send - 8: addi(17, 0, 65), send + 4: branch(BEQ, 0, 0, 16)}), "Unit",
                 send + 20, ("MayEcall",))
-    yield Fault("a guard that does not halt", patched(listed, {send - 8: addi(17, 0, 65), send + 16: NOP}), "Unit", send + 20, ("MayEcall",))
+    unhalting = patched(listed, {send - 8: addi(17, 0, 65), send + 16: NOP})
+    yield Fault("a guard that does not halt", unhalting, "Unit", send + 20, ("MayEcall",))
     yield Fault("a closing that does not exit", patched(built, {CLOSING[1]: addi(17, 0, 64)}), "Prologue", CLOSING[1] + 4, ("MayEcall",))
     early = small(plain(addi(17, 0, 93)), a_return)
     yield Fault("a closing that exits a word early", patched(early, {CLOSING[1]: ECALL}), "Prologue", CLOSING[1], ("MayEcall",))
