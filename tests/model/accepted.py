@@ -15,9 +15,9 @@ sys.path[:0] = [str(Path(__file__).resolve().parents[1] / "harts")]
 
 import drawn
 from confined import PART_SIZE, HartStep, part_of, slot, started
-from hardener import FORMS, Hardening, Source, policy_text, small_object
 from faults import base, call, small
-from forms import LISTING, MOST, ROWS, STORING
+from forms import FORMS, LISTING, MOST, ROWS, STORING
+from hardener import Hardening, Source, policy_text, small_object
 from machine import DATA, DATA_END
 from make_pointers import made
 from make_vectors import ECALL, FUNC, HI20, LO12_I, OBJECT, RETURN, addi, beq, jal, jalr, ld, lui, sd
@@ -53,7 +53,7 @@ class Attack:
     units and slots of the shadow stack."""
 
     def __init__(self, rng, built, machine):
-        self.rng, self.machine, self.words = rng, machine, built.words
+        self.rng, self.machine = rng, machine
         at = lambda is_one: [CODE + 4 * k for k, word in enumerate(built.words) if is_one(word)]
         gates = at(lambda word: word & 0xFFF == 0x37)
         sites = [address + 4 for address in at(lambda word: word & 0xFFF in (0xEF, 0xE7))]
