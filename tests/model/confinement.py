@@ -86,7 +86,7 @@ def end_of(machine):
 
 
 def run_accepted(told, seed, many):
-    """Part (a): a third of the cases that are drawn by default, for part (c)."""
+    """Part (a). What is answered are the cases of some pairs, about as many for any `many`, on which part (c) takes permissions away."""
     sorts, ends, steps, kept = Counter(), Counter(), 0, []
     for number, (sort, built) in enumerate(accepted.pairs(seed, many)):
         sorts[sort] += 1
@@ -153,9 +153,11 @@ def run_stricter(told, kept):
 def main():
     words = argparse.ArgumentParser(description=__doc__, formatter_class=argparse.RawDescriptionHelpFormatter)
     words.add_argument("--program", help="asked to verify each pair too")
-    words.add_argument("--many", type=int, default=1, help="so many times as many drawn pairs")
+    words.add_argument("--many", type=int, default=1, help="so many times as many drawn pairs, at least 1")
     words.add_argument("--seed", type=int, default=1)
     options = words.parse_args()
+    if options.many < 1:
+        words.error("--many is at least 1")
     with tempfile.TemporaryDirectory() as folder:
         told = Told(options.program and str(Path(options.program).resolve()), folder)
         kept = run_accepted(told, options.seed, options.many)

@@ -70,10 +70,10 @@ WEAKER = [
     ("WritesOwn", switched(writes_own=lambda self, *given: True), Statement),
     ("WritesOwn: below the slot", switched(is_kept=lambda self, part, n, a: a >= slot(part, n) and Statement.is_kept(self, part, n, a)),
      Statement),
-    ("WritesOwn: behind the slot", switched(is_kept=lambda self, part, n, a: DATA_END <= a and (a < slot(part, n) or part + PART_SIZE <= a)),
-     Statement),
-    ("WritesOwn: behind the part", switched(is_kept=lambda self, part, n, a: DATA_END <= a and not slot(part, n) <= a < slot(part, n) + 8),
-     Statement),
+    ("WritesOwn: behind the slot", switched(
+        is_kept=lambda self, part, n, a: DATA_END <= a and (a < slot(part, n) or part + PART_SIZE <= a)), Statement),
+    ("WritesOwn: behind the part", switched(
+        is_kept=lambda self, part, n, a: DATA_END <= a and not slot(part, n) <= a < slot(part, n) + 8), Statement),
     ("MOST_PENDING", switched(may_be_pending=lambda self, newer: True), Statement),
     ("Moves", letting(""), Statement),
     *[("Moves: " + row, letting(row), Statement) for row in ("Branch", "Jal x0", "Jal x1", "Jal x5", "Jalr x0", "Jalr x1", "Jalr x5")],
