@@ -1,5 +1,5 @@
 //! Words of the machine: exact bit numbers, their products and quotients, the regions of memory, an
-//! image's bytes, the numbers of system calls, and the answer for want of memory. All crates but
+//! image's bytes, versions of images and graphs, the numbers of system calls, and the answer for want of memory. All crates but
 //! `rv_instr`, `elf_bytes` and `tool_io` stand on this one.
 #![tactic(auto)]
 
@@ -14,6 +14,7 @@ pub use no_memory::NoMemory;
 pub use numbers::{MOST_NUMBERS, Numbers};
 pub use places::Places;
 pub use region::Region;
+pub use version::{GraphVersion, ImageVersion};
 
 mod bits;
 mod bytes;
@@ -30,4 +31,4 @@ mod places;
 pub mod profile;
 mod region;
 pub mod unit_words;
-pub mod version;
+mod version;
