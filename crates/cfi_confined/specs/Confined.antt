@@ -15,7 +15,8 @@ use Rattle.rv_code.specs.Step.{step}
 use Rattle.rv_code.specs.declared.turn.Turn.{Turn}
 use Rattle.rv_code.specs.declared.turn.Turn.TheVariants.{Ran, Exit, Break, LoadFault, StoreFault, FetchFault, Illegal}
 use Rattle.cfi_graph.specs.declared.line.GraphLine.{GraphLine}
-use Rattle.cfi_graph.specs.declared.line.GraphLine.TheVariants.{Class, CallClass, JumpClass, Site, Edge, Call}
+use Rattle.cfi_graph.specs.declared.line.Sort.TheVariants as sorts
+use Rattle.cfi_graph.specs.declared.line.GraphLine.TheVariants.{Class, Site, Edge, Call}
 use Rattle.cfi_graph.specs.declared.line.SiteKind.{SiteKind}
 use Rattle.cfi_graph.specs.declared.line.SiteKind.TheVariants as K
 use Rattle.cfi_graph.specs.Graph.{GraphParts, calls_in}
@@ -37,15 +38,15 @@ most_skip version = 64
 
 -- the line of a class that serves one kind of computed transfers alone
 abbrev pub class_line : SiteKind → ℕ → List ℕ → GraphLine
-class_line K.Call label targets = CallClass label targets
-class_line K.Jump label targets = JumpClass label targets
+class_line K.Call label targets = Class sorts.Calls label targets
+class_line K.Jump label targets = Class sorts.Jumps label targets
 
 -- the graph has a site line at an address, and the class with its label has a target
 pub record IsSiteTo (lines : List GraphLine) (kind : SiteKind) (site to : ℕ) : Type 0 where
   pub label : ℕ
   pub targets : List ℕ
   pub listed : Contains lines (Site site kind label)
-  pub class : Contains lines (Class label targets) ⊎ Contains lines (class_line kind label targets)
+  pub class : Contains lines (Class sorts.Both label targets) ⊎ Contains lines (class_line kind label targets)
   pub target : Contains targets to
 
 -- the graph has no site line at an address

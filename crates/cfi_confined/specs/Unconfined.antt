@@ -3,6 +3,7 @@ use Rattle.std.specs.Prelude.{[], ◌∷◌}
 use Rattle.rv_word.specs.Image.{Contents}
 use Rattle.rv_word.specs.MemoryMap.{version_1, version_2}
 use Rattle.cfi_graph.specs.Graph.{GraphParts}
+use Rattle.cfi_graph.specs.declared.line.Sort.TheVariants as sorts
 use Rattle.cfi_graph.specs.declared.line.GraphLine.TheVariants.{Call, Class, Edge, Site}
 use Rattle.cfi_graph.specs.declared.line.SiteKind.TheVariants as K
 use Rattle.cfi_rules.specs.Unsafe.{astray_call, astray_call_graph, breaking_closing, breaking_closing_graph, calling_opening, graph_of, graph_with, handler_graph, handler_with, high_pointer, illegal_handler, image_with, loading_handler, one_pointer_graph, opening_graph, storing_handler, storing_opening}
@@ -35,7 +36,7 @@ abbrev pub early_return : Contents
 early_return = image_with (0x008000ef ∷ 0xff408067 ∷ 0x00008067 ∷ [])
 
 abbrev pub early_return_graph : GraphParts
-early_return_graph = graph_of 0x4c (Class 1 (0x40000044 ∷ []) ∷ []) (Site 0x40000018 K.Jump 1 ∷ Call 0x40000024 0x40000048 ∷ [])
+early_return_graph = graph_of 0x4c (Class sorts.Both 1 (0x40000044 ∷ []) ∷ []) (Site 0x40000018 K.Jump 1 ∷ Call 0x40000024 0x40000048 ∷ [])
 
 -- a handler that runs on
 abbrev pub running_handler : Contents

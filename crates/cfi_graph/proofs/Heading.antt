@@ -1,5 +1,6 @@
 -- The first two lines of a text.
 use Rattle.std.proofs.Common.{◌≡◌, ℕ, true, false, List, [], ◌∷◌, ◌++◌, Option, Some, None, Ok, Err, refl, sym, subst, ◌∙◌, ap}
+use Rattle.rv_word.specs.declared.version.GraphVersion.{GraphVersion}
 use Rattle.text_lines.specs.declared.reason.Reason.TheVariants.{Form, Range}
 use Rattle.text_lines.specs.declared.end.TextEnd.TheVariants.{Line}
 use Rattle.text_lines.specs.Lines.{lines_of, words_of}
@@ -15,7 +16,7 @@ use Rattle.cfi_graph.specs.Graph.{GraphParts, is_code_length}
 use Rattle.cfi_graph.specs.Lines.{length_of}
 use Rattle.cfi_graph.specs.Reading.{after_first, calls_key, calls_lines, graph_rules, with_code, with_lines}
 
-module _ (version : ℕ) {parts : List (List ℕ)} {line : List ℕ} where
+module _ (version : GraphVersion) {parts : List (List ℕ)} {line : List ℕ} where
   pub second_alone : parts ≡ line ∷ [] → after_first version parts ≡ Err (Line 2 Form)
   unfolding after_first
   second_alone p = rw p refl
@@ -33,7 +34,7 @@ module _ (version : ℕ) {parts : List (List ℕ)} {line : List ℕ} where
   second_right rest len p e r = some_line rest (λ part others q. rw (p, q, e, r) refl)
 
 -- the lines after the list of system calls, as they are read by a form that has its line and key, if there is one
-module _ (version len : ℕ) (calls : Option (List ℕ)) (parts : List (List ℕ)) where
+module _ (version : GraphVersion) (len : ℕ) (calls : Option (List ℕ)) (parts : List (List ℕ)) where
   abbrev reading : Reading GraphLine
   reading = read (graph_rules version len) (calls_key calls) (line_after 3 calls) parts
 

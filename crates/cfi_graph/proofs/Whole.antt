@@ -3,6 +3,7 @@ use Rattle.std.proofs.Common.{◌≡◌, ℕ, zero, suc, ◌<◌, ◌==◌, ◌|
 use Rattle.std.specs.List.{join_with_byte, list_all}
 use Rattle.std.proofs.lemmas.Bool.{and_from, and_parts}
 use Rattle.std.proofs.lemmas.List.Splits.{join_with_byte-slice_split}
+use Rattle.rv_word.specs.declared.version.GraphVersion.{GraphVersion}
 use Rattle.cfi_graph.specs.declared.line.GraphLine.{GraphLine}
 use Rattle.cfi_graph.specs.declared.line.Key.{Key}
 use Rattle.text_lines.specs.declared.end.TextEnd.{TextEnd}
@@ -42,7 +43,7 @@ rises_none (Some k) = refl
 abbrev pub spellings : List GraphLine → List (List ℕ)
 spellings lines = map (λ l. spaced (words_of_line l)) lines ++ codes "end" ∷ []
 
-module _ (version len : ℕ) where
+module _ (version : GraphVersion) (len : ℕ) where
   in_range : {before : Option Key} {parts : List (List ℕ)} {lines : List GraphLine} → Accepts (graph_rules version len) before parts lines → list_all (line_in_range len) lines ≡ true
   in_range end_only = refl
   in_range (line_first found range order rest) = and_from _ _ range (in_range rest)
@@ -81,7 +82,7 @@ pub record GivesAfter (parts : List (List ℕ)) (graph : GraphParts) : Type 0 wh
   pub allowed : (graph.version == 1 || graph.version == 2) ≡ true → IsGraph graph
 
 -- a graph of a version that there is, whose lines from the third on are accepted
-accepted : (version len : ℕ) (calls : Option (List ℕ)) {parts : List (List ℕ)} {lines : List GraphLine} → (version == 1 || version == 2) ≡ true → is_code_length len ≡ true → may_be_calls calls ≡ true → Accepts (graph_rules version len) (calls_key calls) parts lines → IsGraph (record { version = version; code = len; lines = calls_lines calls ++ lines })
+accepted : (version : GraphVersion) (len : ℕ) (calls : Option (List ℕ)) {parts : List (List ℕ)} {lines : List GraphLine} → (version == 1 || version == 2) ≡ true → is_code_length len ≡ true → may_be_calls calls ≡ true → Accepts (graph_rules version len) (calls_key calls) parts lines → IsGraph (record { version = version; code = len; lines = calls_lines calls ++ lines })
 accepted version len None known length may accepts =
     record {
       version = known;
@@ -102,12 +103,12 @@ accepted version len (Some calls) known length may accepts =
       order = rises version len accepts;
     }
 
-pub valid : (version len : ℕ) (calls : Option (List ℕ)) (parts : List (List ℕ)) (lines : List GraphLine) → (version == 1 || version == 2) ≡ true → is_code_length len ≡ true → may_be_calls calls ≡ true → whole (read (graph_rules version len) (calls_key calls) (line_after 3 calls) parts) ≡ Ok lines → IsGraph (record { version = version; code = len; lines = calls_lines calls ++ lines })
+pub valid : (version : GraphVersion) (len : ℕ) (calls : Option (List ℕ)) (parts : List (List ℕ)) (lines : List GraphLine) → (version == 1 || version == 2) ≡ true → is_code_length len ≡ true → may_be_calls calls ≡ true → whole (read (graph_rules version len) (calls_key calls) (line_after 3 calls) parts) ≡ Ok lines → IsGraph (record { version = version; code = len; lines = calls_lines calls ++ lines })
 valid version len calls parts lines known length may e =
     accepted version len calls known length may (whole_accepts (graph_rules version len) (calls_key calls) (line_after 3 calls) parts lines e)
 
 -- what is read is of the version, the length and the lines that were told
-with_front_ok : (version len : ℕ) (front : List GraphLine) (lines : Result (List GraphLine) TextEnd) (graph : GraphParts) → if_right lines (λ read. Ok (record { version = version; code = len; lines = front ++ read })) ≡ Ok graph → (read : List GraphLine) × (lines ≡ Ok read) × (record { version = version; code = len; lines = front ++ read } ≡ graph)
+with_front_ok : (version : GraphVersion) (len : ℕ) (front : List GraphLine) (lines : Result (List GraphLine) TextEnd) (graph : GraphParts) → if_right lines (λ read. Ok (record { version = version; code = len; lines = front ++ read })) ≡ Ok graph → (read : List GraphLine) × (lines ≡ Ok read) × (record { version = version; code = len; lines = front ++ read } ≡ graph)
 with_front_ok version len front (Ok lines) graph e =
     let same : record { version = version; code = len; lines = front ++ lines } ≡ graph = cc in
     (lines, refl, same)
@@ -150,7 +151,7 @@ with_list : (calls : Option (List ℕ)) (lines : List GraphLine) → list_lines 
 with_list None lines = refl
 with_list (Some calls) lines = refl
 
-with_code_ok : (version len : ℕ) (second : List ℕ) (parts : List (List ℕ)) (found : Result Listed TextEnd) (graph : GraphParts) → is_code_length len ≡ true → second ≡ spaced (codes "code" ∷ codes "40000000" ∷ hex_text 8 len ∷ []) → third_line parts ≡ found → if_right found (λ told. with_lines version len told.calls told.lines) ≡ Ok graph → (GivesAfter (second ∷ parts) graph) × (graph.version ≡ version)
+with_code_ok : (version : GraphVersion) (len : ℕ) (second : List ℕ) (parts : List (List ℕ)) (found : Result Listed TextEnd) (graph : GraphParts) → is_code_length len ≡ true → second ≡ spaced (codes "code" ∷ codes "40000000" ∷ hex_text 8 len ∷ []) → third_line parts ≡ found → if_right found (λ told. with_lines version len told.calls told.lines) ≡ Ok graph → (GivesAfter (second ∷ parts) graph) × (graph.version ≡ version)
 with_code_ok version len second parts (Err fault) graph length is third e = absurd cc
 with_code_ok version len second parts (Ok told) graph length is third e =
     let list = third_ok parts told third in
@@ -167,7 +168,7 @@ with_code_ok version len second parts (Ok told) graph length is third e =
     } in
     (subst (GivesAfter (second ∷ parts)) found.2 after, ap (λ (g : GraphParts). g.version) (sym found.2))
 
-with_length_ok : (version : ℕ) (line : List ℕ) (parts : List (List ℕ)) (graph : GraphParts) → with_length version (length_of (words_of line)) parts ≡ Ok graph → (GivesAfter (line ∷ parts) graph) × (graph.version ≡ version)
+with_length_ok : (version : GraphVersion) (line : List ℕ) (parts : List (List ℕ)) (graph : GraphParts) → with_length version (length_of (words_of line)) parts ≡ Ok graph → (GivesAfter (line ∷ parts) graph) × (graph.version ≡ version)
 with_length_ok version line parts graph e = told (length_of (words_of line)) refl e
   where
     told : (found : Option ℕ) → length_of (words_of line) ≡ found → with_length version found parts ≡ Ok graph → (GivesAfter (line ∷ parts) graph) × (graph.version ≡ version)
@@ -176,7 +177,7 @@ with_length_ok version line parts graph e = told (length_of (words_of line)) ref
         let range = if_ok (is_code_length len) _ _ _ h in
         with_code_ok version len line parts (third_line parts) graph range.0 (length_spelled line len is) refl range.1
 
-after_first_ok : (version : ℕ) (parts : List (List ℕ)) (graph : GraphParts) → after_first version parts ≡ Ok graph → (GivesAfter parts graph) × (graph.version ≡ version)
+after_first_ok : (version : GraphVersion) (parts : List (List ℕ)) (graph : GraphParts) → after_first version parts ≡ Ok graph → (GivesAfter parts graph) × (graph.version ≡ version)
 unfolding after_first
 after_first_ok version [] graph e = absurd cc
 after_first_ok version (line ∷ []) graph e = absurd cc

@@ -1,9 +1,9 @@
 -- A placement in which no value leaves its range, with labels, makes an accepted choice of a program with its closed graph.
 use Rattle.std.proofs.Common.{◌≡◌, ℕ, ◌+◌, ◌-◌, ◌<◌, inl, inr, true, false, List, Option, Some, None, refl, sym, ap, subst, ◌∙◌, arith}
 use Rattle.std.specs.Prelude.{is_some, slice_get}
+use Rattle.rv_word.specs.declared.version.GraphVersion.{GraphVersion}
 use Rattle.rv_word.proofs.Versions.{is_profile}
 use Rattle.rv_word.specs.Form.{graph_version, image_version}
-use Rattle.rv_word.specs.Image.{IsVersion}
 use Rattle.rv_word.specs.declared.form.Form.{Form}
 use Rattle.rv_word.specs.declared.form.Form.TheVariants.{Plain, Harts, Split, HartsSplit}
 use Rattle.obj_program.specs.AtMap.{instr_at}
@@ -30,14 +30,14 @@ use Rattle.cfi_writer.proofs.CodeRoom.{room_there}
 use Rattle.cfi_writer.proofs.SitesThere.{side_at, site_class_there, site_of}
 
 -- a closed graph under a policy is one of its program, for the version that was asked
-pub graph_there : (version : ℕ) (program : Program) (policy : Option (List ℕ)) (closed : ClosedGraph) → IsClosedUnder version program policy closed →
+pub graph_there : (version : GraphVersion) (program : Program) (policy : Option (List ℕ)) (closed : ClosedGraph) → IsClosedUnder version program policy closed →
     IsGraphOf program closed × (closed.version ≡ version)
 graph_there version program policy closed under =
     let (raw, is, of) = under.drawn in
-    ((_, raw, is, subst (λ (v : ℕ). IsClosed v raw closed) (sym of.version_is) of), of.version_is)
+    ((_, raw, is, subst (λ (v : GraphVersion). IsClosed v raw closed) (sym of.version_is) of), of.version_is)
 
 -- its list of system calls is the policy's
-pub calls_there : (version : ℕ) (program : Program) (policy : Option (List ℕ)) (closed : ClosedGraph) → IsClosedUnder version program policy closed →
+pub calls_there : (version : GraphVersion) (program : Program) (policy : Option (List ℕ)) (closed : ClosedGraph) → IsClosedUnder version program policy closed →
     may_be_calls closed.calls ≡ true
 calls_there version program policy closed under =
     let (raw, is, of) = under.drawn in

@@ -1,6 +1,7 @@
 -- What a request comes to before anything is placed: the program with its closed graph under the policy and its entry, or the first of
 -- what stands against that: what is given is no program; an entry that is not there; a wrong line of the policy.
 use Rattle.std.specs.Prelude.{◌≡◌, ℕ, ◌⊎◌, List, Option, Some, None, Result, Ok, Err}
+use Rattle.rv_word.specs.declared.version.GraphVersion.{GraphVersion}
 use Rattle.rv_word.specs.Form.{graph_version}
 use Rattle.rv_word.specs.declared.form.Form.{Form}
 use Rattle.text_lines.specs.declared.end.TextEnd.{TextEnd}
@@ -15,7 +16,7 @@ use Rattle.cfi_harden.specs.Given.{IsGiven}
 use Rattle.cfi_harden.specs.Request.{ProgramRequest, Request, policy_asked, policy_end, program_request}
 
 -- the closed graph of a program, for a version of graphs, under a policy that has no wrong line
-pub record IsClosedUnder (version : ℕ) (program : Program) (policy : Option (List ℕ)) (closed : ClosedGraph) : Type 0 where
+pub record IsClosedUnder (version : GraphVersion) (program : Program) (policy : Option (List ℕ)) (closed : ClosedGraph) : Type 0 where
   pub whole : policy_end policy ≡ Ok tt
   pub drawn : (raw : RawGraph) × IsRaw program (policy_asked policy) raw × IsClosed version raw closed
 

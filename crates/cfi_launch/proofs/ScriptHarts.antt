@@ -1,6 +1,7 @@
 -- A script is for one to eight harts, and how many of them an image may have.
 use Rattle.std.proofs.Common.{◌≡◌, ◌≤◌, ◌==◌, ◌&&◌, ℕ, nat_le, nat_lt, false, List, [], ◌∷◌, Option, Some, None, Result, Ok, Err, inl, inr, ap, arith, refl, subst, sym}
 use Rattle.std.proofs.lemmas.Bool.{and_cases, and_parts, leb-true, ltb-false}
+use Rattle.rv_word.specs.declared.version.ImageVersion.{ImageVersion}
 use Rattle.rv_word.specs.MemoryMap.{MayRun, profile_of}
 use Rattle.rv_word.specs.declared.profile.TheConstants.{MOST_HARTS}
 use Rattle.rv_word.proofs.Cases.{chosen}
@@ -16,7 +17,7 @@ use Rattle.cfi_launch.specs.SafeRun.{undisturbed_script}
 use Rattle.cfi_launch.specs.Launch.{script_given}
 
 -- every image may have one hart
-pub one_may_run : (version : ℕ) → MayRun (profile_of version) 1
+pub one_may_run : (version : ImageVersion) → MayRun (profile_of version) 1
 one_may_run version = record { some = omega arith; most = (laid_out (profile_of version) (is_profile version)).some }
 
 -- from one hart to as many as there may be
@@ -25,7 +26,7 @@ pub record IsCount (harts : ℕ) : Type 0 where
   pub most : harts ≤ MOST_HARTS
 
 -- where a script is not for several harts or an image not for one, the image may have the script's
-pub may_run : (version harts : ℕ) → IsCount harts → ((version == 1) && nat_lt 1 harts) ≡ false → MayRun (profile_of version) harts
+pub may_run : (version : ImageVersion) (harts : ℕ) → IsCount harts → ((version == 1) && nat_lt 1 harts) ≡ false → MayRun (profile_of version) harts
 may_run version harts count test = elim (and_cases (version == 1) (nat_lt 1 harts) test) [
   | inl other ↦ record { some = count.some; most = rw other count.most }
   | inr one ↦

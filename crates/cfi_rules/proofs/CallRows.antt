@@ -8,6 +8,7 @@ use Rattle.rv_instr.specs.declared.instr.ImmediateOp.TheVariants.{Addi}
 use Rattle.rv_code.specs.Decode.{decoded}
 use Rattle.rv_code.specs.Encode.{code_of}
 use Rattle.cfi_graph.specs.declared.line.GraphLine.{GraphLine}
+use Rattle.cfi_graph.specs.declared.line.Sort.TheVariants as sorts
 use Rattle.cfi_graph.specs.declared.line.GraphLine.TheVariants.{Calls, Class, Call}
 use Rattle.cfi_graph.specs.Graph.{calls_in}
 use Rattle.cfi_unit.specs.declared.unit.Unit as U
@@ -90,7 +91,7 @@ unfolding decoded code_of code_from lines_from read_each recognised words_of sta
 more_numbers = refl
 
 -- a list behind another line is none
-late_list : calls_in (Class 1 (0x40000044 ∷ []) ∷ listed) ≡ None
+late_list : calls_in (Class sorts.Both 1 (0x40000044 ∷ []) ∷ listed) ≡ None
 late_list = refl
 
 -- the closing calls as it is, and stands at no unit

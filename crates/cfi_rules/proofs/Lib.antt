@@ -1,3 +1,4 @@
+use Rattle.rv_word.specs.declared.version.ImageVersion.TheVariants.{OneHart}
 pub mod Marks
 pub mod Pairs
 pub mod Find

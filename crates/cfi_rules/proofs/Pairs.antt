@@ -4,6 +4,7 @@ use Rattle.rv_word.specs.MemoryMap.{version_1}
 use Rattle.rv_code.specs.Decode.{decoded}
 use Rattle.rv_code.specs.Encode.{code_of}
 use Rattle.cfi_graph.specs.declared.line.GraphLine.{GraphLine}
+use Rattle.cfi_graph.specs.declared.line.Sort.TheVariants as sorts
 use Rattle.cfi_graph.specs.declared.line.GraphLine.TheVariants.{Class, Edge, Call}
 use Rattle.cfi_unit.specs.Recognise.{read_each, recognised}
 use Rattle.cfi_unit.specs.UnitWords.{words_of}
@@ -111,7 +112,7 @@ pair_10 : fails_of R.Unit (opening ++ 0x00700513 ∷ 0xff81bf83 ∷ 0xff818193 �
 unfolding decoded code_of read_each recognised words_of starts is_start unit_at place_at line_at class_with targets_for
 pair_10 = refl
 
-row_17a : fails_of R.Astray (with_word 16 0x00001037) (Class 1 [] ∷ entering) 0x40000040 ≡ true
+row_17a : fails_of R.Astray (with_word 16 0x00001037) (Class sorts.Both 1 [] ∷ entering) 0x40000040 ≡ true
 unfolding decoded code_of read_each recognised words_of starts is_start unit_at place_at line_at class_with targets_for
 row_17a = refl
 

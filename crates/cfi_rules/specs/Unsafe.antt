@@ -5,6 +5,7 @@ use Rattle.rv_word.specs.Image.{Contents}
 use Rattle.rv_code.specs.Encode.{code_of}
 use Rattle.cfi_graph.specs.Graph.{GraphParts}
 use Rattle.cfi_graph.specs.declared.line.GraphLine.{GraphLine}
+use Rattle.cfi_graph.specs.declared.line.Sort.TheVariants as sorts
 use Rattle.cfi_graph.specs.declared.line.GraphLine.TheVariants.{Class, Site, Edge, Call}
 use Rattle.cfi_graph.specs.declared.line.SiteKind.TheVariants as K
 use Rattle.cfi_unit.specs.declared.unit.Unit as U
@@ -128,14 +129,14 @@ abbrev pub astray_call : Contents
 astray_call = image_with (code_from UNITS_START (V.Icall 1 88 1 ∷ V.Gate 1 ∷ V.Gate 1 ∷ V.Stop ∷ []))
 
 abbrev pub astray_call_graph : GraphParts
-astray_call_graph = graph_of 0x9c (Class 1 (0x40000094 ∷ []) ∷ []) (Site UNITS_START K.Call 1 ∷ [])
+astray_call_graph = graph_of 0x9c (Class sorts.Both 1 (0x40000094 ∷ []) ∷ []) (Site UNITS_START K.Call 1 ∷ [])
 
 -- a computed jump to x1 + 60, a target of its class that has no gate, so that the check halts there
 abbrev pub halted_jump : Contents
 halted_jump = image_with (code_from UNITS_START (V.Ijump First 1 60 1 ∷ V.Stop ∷ []))
 
 abbrev pub halted_jump_graph : GraphParts
-halted_jump_graph = graph_of 0x78 (Class 1 (0x40000074 ∷ []) ∷ []) (Site UNITS_START K.Jump 1 ∷ [])
+halted_jump_graph = graph_of 0x78 (Class sorts.Both 1 (0x40000074 ∷ []) ∷ []) (Site UNITS_START K.Jump 1 ∷ [])
 
 -- a computed transfer that goes where the walk does not, or does not go where its registers say
 pub record WrongTransfersAreUnsafe : Type 0 where

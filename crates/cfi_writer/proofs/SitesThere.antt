@@ -6,6 +6,7 @@ use Rattle.std.proofs.lemmas.Bool.{eq-eqb, eqb-true, or_cases, or_left, or_right
 use Rattle.std.proofs.lemmas.List.Elements.{All-contains}
 use Rattle.std.proofs.lemmas.List.Quantifiers.{position-Some}
 use Rattle.std.proofs.lemmas.Option.{get_or_from_slice_get, same_Some, slice_get-get_or, slice_get-map, slice_get_within}
+use Rattle.rv_word.specs.declared.version.GraphVersion.{GraphVersion}
 use Rattle.rv_word.proofs.Cases.{mapped}
 use Rattle.obj_program.specs.Program.{Program, count, item_of}
 use Rattle.cfi_graph.specs.declared.line.SiteKind.{SiteKind}
@@ -98,12 +99,12 @@ unfolding side_for
 jumps_are kinds.Jump e = refl
 jumps_are kinds.Call e = absurd (cc)
 
-no_other : (version : ℕ) (kind : SiteKind) (i : ℕ) (sort : Sort) → slice_get (sorts_of version) i ≡ Some sort → is_of sort kind ≡ true → i ≡ side_for (version == 2) kind
+no_other : (version : GraphVersion) (kind : SiteKind) (i : ℕ) (sort : Sort) → slice_get (sorts_of version) i ≡ Some sort → is_of sort kind ≡ true → i ≡ side_for (version == 2) kind
 unfolding side_for
 no_other version kind =
     each_sort version (λ b i sort. is_of sort kind ≡ true → i ≡ side_for b kind) (λ e. refl) (calls_are kind) (jumps_are kind)
 
-sort_for : (version : ℕ) (kind : SiteKind) → (sort : Sort) × (slice_get (sorts_of version) (side_for (version == 2) kind) ≡ Some sort) × (is_of sort kind ≡ true)
+sort_for : (version : GraphVersion) (kind : SiteKind) → (sort : Sort) × (slice_get (sorts_of version) (side_for (version == 2) kind) ≡ Some sort) × (is_of sort kind ≡ true)
 unfolding side_for
 sort_for version kind = by (version == 2) kind
   where
@@ -113,7 +114,7 @@ sort_for version kind = by (version == 2) kind
     by true kinds.Jump = (Jumps, refl, refl)
 
 -- of sides that are all closed
-module _ (program : Program) (policy : PolicyParts) (raw : RawGraph) (is : IsRaw program policy raw) (version : ℕ) (sides : List Side)
+module _ (program : Program) (policy : PolicyParts) (raw : RawGraph) (is : IsRaw program policy raw) (version : GraphVersion) (sides : List Side)
     (sorts : map (λ (s : Side). s.sort) sides ≡ sorts_of version) (all : All (IsSide raw) sides) where
   pub side_at : (j : ℕ) (side : Side) → slice_get sides j ≡ Some side → IsSide raw side
   side_at j side there = subst (IsSide raw) (get_or_from_slice_get sides j side side there) (all j side (slice_get_within sides j side there))

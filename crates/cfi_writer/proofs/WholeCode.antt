@@ -4,12 +4,12 @@ use Rattle.std.specs.Prelude.{◌&&◌, ◌||◌, if◌then◌else◌, nat_le, n
 use Rattle.std.specs.List.Sorted.{IsStrictlyIncreasing}
 use Rattle.std.proofs.lemmas.Bool.{and_from, cases_Bool, eq-eqb, le-leb, lt-ltb, or_left, or_right}
 use Rattle.std.proofs.lemmas.Option.{get_or_from_slice_get, slice_get_within}
+use Rattle.rv_word.specs.declared.version.GraphVersion.{GraphVersion}
 use Rattle.rv_word.specs.MemoryMap.{CODE_SIZE, CODE_START, START}
 use Rattle.obj_input.specs.declared.item_kind.ItemKind.{ItemKind}
 use Rattle.obj_input.specs.declared.item_kind.ItemKind.TheVariants as is
 use Rattle.obj_program.specs.declared.item.Item.{Item}
 use Rattle.obj_program.specs.Program.{count, item_of, no_item}
-use Rattle.rv_word.specs.Image.{IsVersion}
 use Rattle.cfi_graph.specs.Graph.{IsGraph, is_code_address, is_code_length, is_label, is_sort_of}
 use Rattle.cfi_graph.specs.declared.line.GraphLine.{GraphLine}
 use Rattle.cfi_graph.specs.declared.line.GraphLine.TheVariants.{Call}
@@ -42,7 +42,7 @@ use Rattle.cfi_writer.proofs.SoundCode.{member_at, member_there, written_sound}
 use Rattle.cfi_writer.proofs.Standing.{gate_starts, gates_rise, group_gate, laid, later_word, lead_there, leader, right, the_run, unit_there}
 use Rattle.cfi_writer.proofs.UnitOf.{is_right, unit_line}
 
-known_version : (version : ℕ) → IsVersion version → (version == 1 || version == 2) ≡ true
+known_version : (version : GraphVersion) → (version == 1 || version == 2) ≡ true
 known_version version (inl one) = or_left (version == 1) (version == 2) (eq-eqb version 1 one)
 known_version version (inr two) = or_right (version == 1) (version == 2) (eq-eqb version 2 two)
 
@@ -214,7 +214,7 @@ written_graph = graph_is
 pub written_well_formed : WrittenIsWellFormed
 written_well_formed m image graph ok words version lines same_length =
     placed_well_formed m.layout.profile (entry_gate m) (units m) (written_heads m) image graph ok.profile
-    (subst (λ (v : ℕ). IsSound m.layout.profile v (entry_gate m) (units m) (written_heads m)) (sym version) (written_sound m ok)) words (lines ∙ lines_are m ok) same_length
+    (subst (λ (v : GraphVersion). IsSound m.layout.profile v (entry_gate m) (units m) (written_heads m)) (sym version) (written_sound m ok)) words (lines ∙ lines_are m ok) same_length
 
 pub written_units : WrittenUnits
 written_units m ok = record {

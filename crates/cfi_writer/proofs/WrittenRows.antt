@@ -14,7 +14,8 @@ use Rattle.obj_program.specs.declared.item.Patch.TheVariants as put
 use Rattle.obj_program.specs.declared.item.Value.TheVariants.{Number}
 use Rattle.obj_program.specs.AtMap.{instr_at}
 use Rattle.obj_program.specs.Program.{Program}
-use Rattle.cfi_graph.specs.declared.line.GraphLine.TheVariants.{Call, CallClass, Class, Edge, JumpClass, Site}
+use Rattle.cfi_graph.specs.declared.line.Sort.TheVariants as sorts
+use Rattle.cfi_graph.specs.declared.line.GraphLine.TheVariants.{Call, Class, Edge, Site}
 use Rattle.cfi_graph.specs.declared.line.SiteKind.TheVariants as site
 use Rattle.cfi_graph.specs.declared.line.Sort.TheVariants.{Both, Calls, Jumps}
 use Rattle.cfi_closed.specs.Closed.{Side}
@@ -168,7 +169,7 @@ pointer_rows : (length (written_code pointer) ≡ 65)
     × (take 6 (drop 17 (written_code pointer)) ≡ 0x00810f93 ∷ 0x024f9f93 ∷ 0x024fdf93 ∷ 0x001fb023 ∷ 0x000102b7 ∷ 0x0002b283 ∷ [])
     × (slice_get (written_code pointer) 31 ≡ Some 0x00001237) × (slice_get (written_code pointer) 50 ≡ Some 0x00001037)
     × (graph_lines pointer.layout pointer.labels
-    ≡ Class 1 (0x400000c8 ∷ 0x400000e4 ∷ []) ∷ Call 0x4000000c 0x40000040 ∷ Site 0x4000005c site.Call 1 ∷ [])
+    ≡ Class sorts.Both 1 (0x400000c8 ∷ 0x400000e4 ∷ []) ∷ Call 0x4000000c 0x40000040 ∷ Site 0x4000005c site.Call 1 ∷ [])
 unfolding units_of followers code_from words_of code_of instr_at decoded words_from labels_of label_at site_label site_number tagged class_lines place_lines empty_classes
 pointer_rows = (refl, refl, refl, refl, refl)
 
@@ -214,7 +215,7 @@ both_ways_rows : (length (written_code both_ways) ≡ 73) × (take 2 (drop 31 (w
     × (slice_get (written_code both_ways) 26 ≡ Some 0x00002237) × (slice_get (written_code both_ways) 54 ≡ Some 0x000faf03)
     × (slice_get (written_code both_ways) 55 ≡ Some 0x00001237)
     × (graph_lines both_ways.layout both_ways.labels
-    ≡ CallClass 1 (0x4000009c ∷ []) ∷ JumpClass 2 (0x4000007c ∷ 0x4000009c ∷ []) ∷ Call 0x4000000c 0x40000040 ∷ Site 0x40000048 site.Jump 2
+    ≡ Class sorts.Calls 1 (0x4000009c ∷ []) ∷ Class sorts.Jumps 2 (0x4000007c ∷ 0x4000009c ∷ []) ∷ Call 0x4000000c 0x40000040 ∷ Site 0x40000048 site.Jump 2
     ∷ Site 0x400000bc site.Call 1 ∷ [])
 unfolding jumping units_of followers code_from words_of code_of instr_at decoded words_from labels_of label_at site_label site_number tagged class_lines place_lines empty_classes
 both_ways_rows = (refl, refl, refl, refl, refl, refl, refl, refl)
@@ -229,6 +230,6 @@ with_empty =
 order_of_labels : (site_label (1 ∷ 2 ∷ 3 ∷ 4 ∷ []) with_empty 4 ≡ 1) × (site_label (1 ∷ 2 ∷ 3 ∷ 4 ∷ []) with_empty 1 ≡ 2)
     × (site_label (1 ∷ 2 ∷ 3 ∷ 4 ∷ []) with_empty 2 ≡ 3) × (site_label (1 ∷ 2 ∷ 3 ∷ 4 ∷ []) with_empty 3 ≡ 4)
     × (labels_of (1 ∷ 2 ∷ 3 ∷ 4 ∷ []) with_empty 9 ≡ Some 1 ∷ Some 3 ∷ [])
-    × (class_lines [] (1 ∷ 2 ∷ 3 ∷ 4 ∷ []) (tagged with_empty) ≡ CallClass 1 (0 ∷ []) ∷ CallClass 2 [] ∷ JumpClass 3 (0 ∷ []) ∷ JumpClass 4 [] ∷ [])
+    × (class_lines [] (1 ∷ 2 ∷ 3 ∷ 4 ∷ []) (tagged with_empty) ≡ Class sorts.Calls 1 (0 ∷ []) ∷ Class sorts.Calls 2 [] ∷ Class sorts.Jumps 3 (0 ∷ []) ∷ Class sorts.Jumps 4 [] ∷ [])
 unfolding labels_of label_at site_label site_number tagged class_lines empty_classes
 order_of_labels = (refl, refl, refl, refl, refl, refl)

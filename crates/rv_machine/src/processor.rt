@@ -22,7 +22,7 @@ use rv_instr::{
 use rv_mem::{Change, LoadFault, Memory, WriteRefusal};
 use rv_sys::{SysEnd, System};
 use rv_word::memory_map::{CODE_SIZE, CODE_START};
-use rv_word::{Bytes, Image, NoMemory};
+use rv_word::{Bytes, Image, ImageVersion, NoMemory};
 use std::alloc::Global;
 use std::marker::Model;
 use std::mem;
@@ -91,7 +91,7 @@ impl Processor {
     /// It runs by `execute`, which takes its instructions from elsewhere.
     pub fn with_data(
         alloc: Global,
-        version: u8,
+        version: ImageVersion,
         init: &[u8],
         input: &[u8],
     ) -> Result<Processor, NoMemory>

@@ -12,7 +12,7 @@ use crate::page::PAGE_SIZE;
 use crate::pages::Pages;
 use crate::refusal::{LoadFault, WriteRefusal};
 use rv_word::memory_map::{CODE_SIZE, CODE_START, DATA_END, DATA_START, SHADOW_START};
-use rv_word::{Image, NoMemory};
+use rv_word::{Image, ImageVersion, NoMemory};
 use std::alloc::Global;
 use std::marker::Model;
 
@@ -20,7 +20,7 @@ use std::marker::Model;
 /// kept as the bytes that an image has, data and shadow in pages, each made at the first write to it.
 #[derive(Drop)]
 pub struct Memory {
-    version: u8,
+    version: ImageVersion,
     code: Vec<u8>,
     pages: Pages,
 }
@@ -53,7 +53,7 @@ impl Memory {
     }
 
     /// The memory of a version in which initialised data stand alone, without code.
-    pub fn with_data(alloc: Global, version: u8, init: &[u8]) -> Result<Memory, NoMemory>
+    pub fn with_data(alloc: Global, version: ImageVersion, init: &[u8]) -> Result<Memory, NoMemory>
         requires { DATA_START + length init.now ≤ DATA_END }
         ensures version { IfOk result (λ memory. memory.version ≡ version) }
         ensures memory { IfOk result (λ memory. memory_of memory ≡ placed zeros DATA_START init.now) }
@@ -64,7 +64,7 @@ impl Memory {
     /// The memory in which this code and these initialised data stand.
     fn with_contents(
         alloc: Global,
-        version: u8,
+        version: ImageVersion,
         code: &[u8],
         init: &[u8],
     ) -> Result<Memory, NoMemory>
@@ -79,7 +79,7 @@ impl Memory {
     }
 
     /// The memory in which this code stands alone.
-    fn with_code(alloc: Global, version: u8, code: &[u8]) -> Result<Memory, NoMemory>
+    fn with_code(alloc: Global, version: ImageVersion, code: &[u8]) -> Result<Memory, NoMemory>
         requires { length code.now ≤ CODE_SIZE }
         ensures version { IfOk result (λ memory. memory.version ≡ version) }
         ensures memory { IfOk result (λ memory. memory_of memory ≡ placed zeros CODE_START code.now) }

@@ -1,5 +1,5 @@
 -- What both versions of images have: the facts about their addresses that proofs about any profile need.
-use Rattle.std.proofs.Common.{◌≡◌, ℕ, ◌+◌, ◌*◌, ◌%◌, ◌≤◌, inl, inr, refl, sym, subst, arith}
+use Rattle.std.proofs.Common.{◌≡◌, ◌+◌, ◌*◌, ◌%◌, ◌≤◌, inl, inr, refl, sym, subst, arith}
 use Rattle.rv_word.specs.declared.version.ImageVersion.{ImageVersion}
 use Rattle.rv_word.specs.declared.version.ImageVersion.TheVariants.{OneHart, EightHarts}
 use Rattle.rv_word.specs.MemoryMap.{CODE_START, PART_SIZE, Profile, IsProfile, profile_of, version_1, version_2}

@@ -1,5 +1,6 @@
 -- What the library tells C of a run: the numbers of what it comes to, and what it wrote.
 use Rattle.std.specs.Prelude.{◌≡◌, ◌⊎◌, ℕ, List, [], ◌∷◌, Option, None, Some, Result, Ok, Err, length}
+use Rattle.rv_word.specs.declared.version.ImageVersion.{ImageVersion}
 use Rattle.rv_word.specs.Image.{Contents, image_profile}
 use Rattle.rv_word.specs.MemoryMap.{MayRun}
 use Rattle.cfi_graph.specs.Graph.{GraphParts}
@@ -90,7 +91,7 @@ output_of other before = before
 -- it ran: the report of a safe pair's run, its numbers, and what it wrote
 abbrev pub IsRan : List ℕ → List ℕ → Option (List ℕ) → List ℕ → ℕ → List ℕ → List ℕ → RvcfiRun → Type 0
 IsRan image graph script input limit before after run =
-    (version : ℕ) × (report : RunReport) × IsLaunchOf image graph script input limit (Ran version report)
+    (version : ImageVersion) × (report : RunReport) × IsLaunchOf image graph script input limit (Ran version report)
     × (run ≡ run_of (Ok (Ran version report))) × (after ≡ held report.output before)
 
 -- every pair that meets the rules is run under a script whose harts it may have, but for want of memory

@@ -1,5 +1,4 @@
 ghost use Rattle.std.specs.Prelude.{◌≡◌, length};
-ghost use Rattle.rv_word.specs.Image.{IsVersion};
 
 use crate::common::put;
 use elf_image::{ImageRefusal, read_image, write_image, write_image_as};

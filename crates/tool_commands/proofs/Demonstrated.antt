@@ -1,9 +1,10 @@
 -- What a demonstration needs of a hardened program: its program runs at its map, and no run of that differs from the image's.
 use Rattle.std.proofs.Common.{◌≡◌, ◌∙◌, ℕ, List, [], length, None, ap, ap₂, refl, subst, sym}
+use Rattle.rv_word.specs.declared.version.ImageVersion.{ImageVersion}
 use Rattle.rv_word.specs.Form.{graph_version, image_version}
 use Rattle.rv_word.specs.declared.form.Form.{Form}
 use Rattle.elf_image.specs.Spelling.{spelling}
-use Rattle.rv_word.specs.Image.{Contents, IsImageSize, IsVersion, image_profile}
+use Rattle.rv_word.specs.Image.{Contents, IsImageSize, image_profile}
 use Rattle.rv_word.specs.MemoryMap.{profile_of}
 use Rattle.cfi_map_text.specs.Map.{MapParts}
 use Rattle.cfi_map.specs.GraphAtMap.{ProgramAtMap, program_at}
@@ -98,5 +99,5 @@ module _ (p : PreparedParts) (map : MapParts) (image : Contents) where
     pub never_told : image.version ≡ image_version map.form → NoneDiffers p map image → IsDifference answer → ⊥
     never_told version never =
         let l = at_map p map in
-        let one = ap (λ (v : ℕ). runs.compared (profile_of v) l image [] STEP_LIMIT) version in
+        let one = ap (λ (v : ImageVersion). runs.compared (profile_of v) l image [] STEP_LIMIT) version in
         no_difference p.program (runs.compared l.profile l image [] STEP_LIMIT) answer (never [] STEP_LIMIT) (is ∙ ap (told_answer p.program) one)

@@ -1,7 +1,6 @@
 -- The version of the images of a form.
 use Rattle.std.proofs.Common.{inl, inr, refl}
 use Rattle.rv_word.specs.Form.{image_version}
-use Rattle.rv_word.specs.Image.{IsVersion}
 use Rattle.rv_word.specs.declared.form.Form.{Form}
 use Rattle.rv_word.specs.declared.form.Form.TheVariants.{Plain, Harts, Split, HartsSplit}
 

@@ -1,5 +1,6 @@
 use Rattle.std.proofs.Common.{◌∙◌, ℕ, ap, get_or-set_other, sym}
 use Rattle.std.proofs.lemmas.Bool.{ne_eqb}
+use Rattle.rv_word.specs.declared.version.ImageVersion.{ImageVersion}
 use Rattle.rv_word.specs.MemoryMap.{profile_of, version_1, version_2}
 use Rattle.rv_code.specs.Encode.{code_of}
 use Rattle.cfi_rules.specs.Rules.{prologue_word_fits, prologue_words}
@@ -13,7 +14,7 @@ unfolding code_of
 returns-then-version-eq1 c =
     c.fits_table.ensures
     ∙ same_fits table.PROLOGUE (prologue_words version_1) 13 c.args.index c.args.word (get_or-set_other (prologue_words version_1) 13 c.args.index 0x00c000ef 0)
-    ∙ ap (λ (v : ℕ). prologue_word_fits (profile_of v) c.args.index c.args.word) (sym c.if-version-eq1.true)
+    ∙ ap (λ (v : ImageVersion). prologue_word_fits (profile_of v) c.args.index c.args.word) (sym c.if-version-eq1.true)
 
 -- and here but for the one at 17
 pub returns-else-version-eq1 : goal.returns-else-version-eq1
