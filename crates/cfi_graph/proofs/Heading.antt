@@ -46,7 +46,7 @@ module _ (version : GraphVersion) (len : ℕ) (calls : Option (List ℕ)) (parts
   pub lines_right : (lines : List GraphLine) → Lines lines → with_lines version len calls parts ≡ Ok (record { version = version; code = len; lines = lines })
   lines_right lines is = rw (is.whole_is, is.are) refl
 
-  module _ {v l first : ℕ} {before : Option Key} (v_is : v ≡ version) (l_is : l ≡ len) (before_is : before ≡ calls_key calls) (first_is : first ≡ line_after 3 calls) where
+  module _ {v : GraphVersion} {l first : ℕ} {before : Option Key} (v_is : v ≡ version) (l_is : l ≡ len) (before_is : before ≡ calls_key calls) (first_is : first ≡ line_after 3 calls) where
     same : read (graph_rules v l) before first parts ≡ reading
     same = rw (v_is, l_is, before_is, first_is) refl
 

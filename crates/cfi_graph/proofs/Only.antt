@@ -1,10 +1,11 @@
 -- The spelling of a graph is read as that graph.
-use Rattle.std.proofs.Common.{◌≡◌, ℕ, ◌+◌, ◌%◌, ◌^◌, ◌<◌, ◌≤◌, ◌==◌, ◌&&◌, ◌||◌, nat_lt, not, Bool, true, false, if◌then◌else◌, List, [], ◌∷◌, ◌++◌, codes, map, position, Option, Some, None, Ok, inl, inr, refl, sym, subst, ◌∙◌, ap, arith}
+use Rattle.std.proofs.Common.{◌≡◌, ℕ, ◌+◌, ◌%◌, ◌^◌, ◌<◌, ◌≤◌, ◌==◌, ◌&&◌, nat_lt, not, Bool, true, false, List, [], ◌∷◌, ◌++◌, codes, map, position, Option, Some, None, Ok, inl, inr, refl, sym, ◌∙◌, ap, arith}
 use Rattle.std.specs.List.{list_all}
 use Rattle.std.specs.Str.{bytes_eq}
-use Rattle.std.proofs.lemmas.Bool.{and_from, and_parts, cases_Bool, eqb-true, leb-true, ltb-true, or_cases}
+use Rattle.std.proofs.lemmas.Bool.{and_from, and_parts, cases_Bool, leb-true, ltb-true}
 use Rattle.std.proofs.lemmas.Slice.Eq.{bytes_eq-Decides}
 use Rattle.std.proofs.Math.Dec.{leb, ltb}
+use Rattle.rv_word.specs.declared.version.GraphVersion.TheVariants.{OneLabel, TwoLabels}
 use Rattle.rv_word.specs.declared.version.GraphVersion.{GraphVersion}
 use Rattle.cfi_graph.specs.declared.line.GraphLine.{GraphLine}
 use Rattle.cfi_graph.specs.declared.line.GraphLine.TheVariants.{Calls, Class, Site, Edge, Call}
@@ -221,19 +222,13 @@ record Named (version : GraphVersion) : Type 0 where
   pub there : position (bytes_eq (graph_name version)) graph_names ≡ Some which
   pub tells : version_at which ≡ version
 
-named : (version : GraphVersion) → (version == 1 || version == 2) ≡ true → Named version
-named version known =
-    elim (or_cases (version == 1) (version == 2) known) [
-      | inl one ↦ subst Named (sym (eqb-true version 1 one)) (record { which = 0; there = refl; tells = refl })
-      | inr two ↦ subst Named (sym (eqb-true version 2 two)) (record { which = 1; there = refl; tells = refl })
-    ]
+named : (version : GraphVersion) → Named version
+named OneLabel = record { which = 0; there = refl; tells = refl }
+named TwoLabels = record { which = 1; there = refl; tells = refl }
 
 name_lacks : (version : GraphVersion) → lacks 10 (graph_name version) ≡ true
-name_lacks version = by_test (version == 2)
-  where
-    by_test : (b : Bool) → lacks 10 (if b then codes "rvcfi-graph 2" else codes "rvcfi-graph 1") ≡ true
-    by_test true = refl
-    by_test false = refl
+name_lacks OneLabel = refl
+name_lacks TwoLabels = refl
 
 second_lacks : (len : ℕ) → lacks 10 (spaced (second_words (hex_text 8 len))) ≡ true
 second_lacks len =
@@ -254,7 +249,7 @@ module _ (graph : GraphParts) (is : IsGraph graph) where
   from_lines_back : if_right (one_named graph_names (graph_lines graph ++ [] ∷ [])) (λ first. after_first (version_at first.0) first.1) ≡ Ok graph
   unfolding one_named graph_lines
   from_lines_back =
-      let name = named graph.version is.version in
+      let name = named graph.version in
       rw (name.there, name.tells) (after_first_back graph.version graph.code graph.lines is)
 
   -- the lines of a graph's text

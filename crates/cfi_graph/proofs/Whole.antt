@@ -1,5 +1,5 @@
 -- A text that is read as a graph is that graph's spelling, and the graph is one that may be.
-use Rattle.std.proofs.Common.{◌≡◌, ℕ, zero, suc, ◌<◌, ◌==◌, ◌||◌, nat_lt, Bool, true, false, if◌then◌else◌, List, [], ◌∷◌, ◌++◌, codes, get_or, map, Option, Some, None, Result, Ok, Err, refl, sym, subst, ◌∙◌, ap, arith}
+use Rattle.std.proofs.Common.{◌≡◌, ℕ, zero, suc, ◌<◌, nat_lt, Bool, true, List, [], ◌∷◌, ◌++◌, codes, get_or, map, Option, Some, None, Result, Ok, Err, refl, sym, subst, ◌∙◌, ap, arith}
 use Rattle.std.specs.List.{join_with_byte, list_all}
 use Rattle.std.proofs.lemmas.Bool.{and_from, and_parts}
 use Rattle.std.proofs.lemmas.List.Splits.{join_with_byte-slice_split}
@@ -79,23 +79,21 @@ pub record GivesAfter (parts : List (List ℕ)) (graph : GraphParts) : Type 0 wh
   pub parts_are : parts ≡ second ∷ rest
   pub second_is : second ≡ spaced (codes "code" ∷ codes "40000000" ∷ hex_text 8 graph.code ∷ [])
   pub spelled : rest ≡ spellings graph.lines ++ [] ∷ []
-  pub allowed : (graph.version == 1 || graph.version == 2) ≡ true → IsGraph graph
+  pub allowed : IsGraph graph
 
 -- a graph of a version that there is, whose lines from the third on are accepted
-accepted : (version : GraphVersion) (len : ℕ) (calls : Option (List ℕ)) {parts : List (List ℕ)} {lines : List GraphLine} → (version == 1 || version == 2) ≡ true → is_code_length len ≡ true → may_be_calls calls ≡ true → Accepts (graph_rules version len) (calls_key calls) parts lines → IsGraph (record { version = version; code = len; lines = calls_lines calls ++ lines })
-accepted version len None known length may accepts =
+accepted : (version : GraphVersion) (len : ℕ) (calls : Option (List ℕ)) {parts : List (List ℕ)} {lines : List GraphLine} → is_code_length len ≡ true → may_be_calls calls ≡ true → Accepts (graph_rules version len) (calls_key calls) parts lines → IsGraph (record { version = version; code = len; lines = calls_lines calls ++ lines })
+accepted version len None length may accepts =
     record {
-      version = known;
       sorts = fits version len accepts;
       length = length;
       range = in_range version len accepts;
       targets = targets version len accepts;
       order = rises version len accepts;
     }
-accepted version len (Some calls) known length may accepts =
+accepted version len (Some calls) length may accepts =
     let p = and_parts (are_calls calls) (is_rising nat_lt calls) may in
     record {
-      version = known;
       sorts = fits version len accepts;
       length = length;
       range = and_from _ _ p.0 (in_range version len accepts);
@@ -103,9 +101,9 @@ accepted version len (Some calls) known length may accepts =
       order = rises version len accepts;
     }
 
-pub valid : (version : GraphVersion) (len : ℕ) (calls : Option (List ℕ)) (parts : List (List ℕ)) (lines : List GraphLine) → (version == 1 || version == 2) ≡ true → is_code_length len ≡ true → may_be_calls calls ≡ true → whole (read (graph_rules version len) (calls_key calls) (line_after 3 calls) parts) ≡ Ok lines → IsGraph (record { version = version; code = len; lines = calls_lines calls ++ lines })
-valid version len calls parts lines known length may e =
-    accepted version len calls known length may (whole_accepts (graph_rules version len) (calls_key calls) (line_after 3 calls) parts lines e)
+pub valid : (version : GraphVersion) (len : ℕ) (calls : Option (List ℕ)) (parts : List (List ℕ)) (lines : List GraphLine) → is_code_length len ≡ true → may_be_calls calls ≡ true → whole (read (graph_rules version len) (calls_key calls) (line_after 3 calls) parts) ≡ Ok lines → IsGraph (record { version = version; code = len; lines = calls_lines calls ++ lines })
+valid version len calls parts lines length may e =
+    accepted version len calls length may (whole_accepts (graph_rules version len) (calls_key calls) (line_after 3 calls) parts lines e)
 
 -- what is read is of the version, the length and the lines that were told
 with_front_ok : (version : GraphVersion) (len : ℕ) (front : List GraphLine) (lines : Result (List GraphLine) TextEnd) (graph : GraphParts) → if_right lines (λ read. Ok (record { version = version; code = len; lines = front ++ read })) ≡ Ok graph → (read : List GraphLine) × (lines ≡ Ok read) × (record { version = version; code = len; lines = front ++ read } ≡ graph)
@@ -164,7 +162,7 @@ with_code_ok version len second parts (Ok told) graph length is third e =
       parts_are = refl;
       second_is = is;
       spelled = spelled_as;
-      allowed = λ known. accepted version len told.calls known length list.may accepts;
+      allowed = accepted version len told.calls length list.may accepts;
     } in
     (subst (GivesAfter (second ∷ parts)) found.2 after, ap (λ (g : GraphParts). g.version) (sym found.2))
 
@@ -183,14 +181,7 @@ after_first_ok version [] graph e = absurd cc
 after_first_ok version (line ∷ []) graph e = absurd cc
 after_first_ok version (line ∷ part ∷ parts) graph e = with_length_ok version line (part ∷ parts) graph e
 
--- each first line tells a version, whose name it is
-pub version_known : (which : ℕ) → (version_at which == 1 || version_at which == 2) ≡ true
-version_known which = by_test (which == 0)
-  where
-    by_test : (b : Bool) → ((if b then 1 else 2) == 1 || (if b then 1 else 2) == 2) ≡ true
-    by_test true = refl
-    by_test false = refl
-
+-- each first line is the name of the version that it tells
 name_at : (which : ℕ) → which < 2 → get_or graph_names which [] ≡ graph_name (version_at which)
 name_at zero lt = refl
 name_at (suc zero) lt = refl
@@ -204,7 +195,7 @@ from_lines_ok parts graph e =
     let after = p.0 in
     let others : rest ≡ spaced (codes "code" ∷ codes "40000000" ∷ hex_text 8 graph.code ∷ []) ∷ (spellings graph.lines ++ [] ∷ []) = after.parts_are ∙ ap (λ second. second ∷ after.rest) after.second_is ∙ ap (λ ls. spaced (codes "code" ∷ codes "40000000" ∷ hex_text 8 graph.code ∷ []) ∷ ls) after.spelled in
     record {
-      allowed = after.allowed (ap (λ v. v == 1 || v == 2) p.1 ∙ version_known which);
+      allowed = after.allowed;
       lines = parts_are ∙ ap (λ first. first ∷ rest) (name_at which known ∙ ap graph_name (sym p.1)) ∙ ap (λ ls. graph_name graph.version ∷ ls) others;
     })
 

@@ -1,6 +1,6 @@
 -- A graph of control flow: its version, the length of the code that it is of, and its lines. The rules
 -- here say which lines a version has, which numbers a line may have and in which order lines stand.
-use Rattle.std.specs.Prelude.{ℕ, ◌+◌, ◌%◌, ◌^◌, ◌==◌, nat_lt, nat_le, Bool, true, false, ◌&&◌, ◌||◌, IsTrue, List, [], ◌∷◌, length, Option, Some, None, is_some, map}
+use Rattle.std.specs.Prelude.{ℕ, ◌+◌, ◌%◌, ◌^◌, ◌==◌, nat_lt, nat_le, Bool, true, false, ◌&&◌, IsTrue, List, [], ◌∷◌, length, Option, Some, None, is_some, map}
 use Rattle.std.specs.List.{list_all}
 use Rattle.rv_word.specs.MemoryMap.{CODE_START, CODE_SIZE}
 use Rattle.rv_word.specs.Numbers.{MOST_NUMBERS}

@@ -80,7 +80,12 @@ impl Graph {
     ghost use Rattle.cfi_graph.specs.Graph.{IsGraph, calls_in, is_class, is_site};
 
     /// The graph with these parts, which are those that a graph may have. It takes no memory.
-    pub fn of(_alloc: Global, version: GraphVersion, code: u32, lines: GraphLines) -> Result<Graph, NoMemory>
+    pub fn of(
+        _alloc: Global,
+        version: GraphVersion,
+        code: u32,
+        lines: GraphLines,
+    ) -> Result<Graph, NoMemory>
         requires { IsGraph (record { version = version; code = code; lines = lines }) }
         ensures { result ≡ Ok (record { version = version; code = code; lines = lines }) }
     {

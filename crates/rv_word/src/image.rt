@@ -1,8 +1,7 @@
 ghost use Rattle.std.specs.Prelude.{◌≡◌, length};
 
-use std::marker::Model;
-
 use crate::version::ImageVersion;
+use std::marker::Model;
 
 /// An image's code, which the machine has from address 40000000h on, its initialised data, which it
 /// has from address 10000h on, and its version. Code and data are borrowed from the file.
