@@ -7,7 +7,7 @@ use crate::ended::{Ended, ends_alone, ends_in_turns};
 use cfi_graph::{Graph, read_graph};
 use cfi_step::{Handler, RunEnd};
 use cfi_verify::verify;
-use rv_word::{GraphVersion, Image, ImageVersion};
+use rv_word::Image;
 use sample_programs::{A, BREAK};
 use sample_runs::Program;
 use std::alloc::Global;
@@ -127,10 +127,10 @@ fn units(sample: Sample) -> (&'static [u32], &'static str) {
 }
 
 /// The version of a program.
-fn version(sample: Sample) -> ImageVersion {
+fn version(sample: Sample) -> u8 {
     match sample {
-        Sample::ExitsOfHarts | Sample::OneOfHarts => ImageVersion::EightHarts,
-        _ => ImageVersion::OneHart,
+        Sample::ExitsOfHarts | Sample::OneOfHarts => 2,
+        _ => 1,
     }
 }
 
@@ -237,10 +237,9 @@ static ROWS: [Row; 73] = [
 ];
 
 /// The graph of a version with the lines of a row; none where there is no memory, or its text is none.
-fn graph_of(alloc: Global, version: GraphVersion, row: &Row) -> Option<Graph> {
-    let number = version.number();
+fn graph_of(alloc: Global, version: u8, row: &Row) -> Option<Graph> {
     let text = format!(in alloc;
-        "rvcfi-graph {number}\ncode 40000000 {}\n{}{}end\n",
+        "rvcfi-graph {version}\ncode 40000000 {}\n{}{}end\n",
         units(row.0).1,
         row.1,
         row.2
@@ -250,7 +249,7 @@ fn graph_of(alloc: Global, version: GraphVersion, row: &Row) -> Option<Graph> {
 }
 
 /// Whether the code of a row is answered as it says, with the graph of a version.
-fn is_right(alloc: Global, graphs: GraphVersion, row: &Row) -> bool {
+fn is_right(alloc: Global, graphs: u8, row: &Row) -> bool {
     match graph_of(alloc, graphs, row) {
         Some(graph) => is_answered(alloc, version(row.0), units(row.0).0, row.3, &graph, row.4),
         None => false,
@@ -260,13 +259,13 @@ fn is_right(alloc: Global, graphs: GraphVersion, row: &Row) -> bool {
 #[test]
 fn pairs(rt: HostRuntime) {
     for (k, row) in ROWS.iter().enumerate() {
-        assert!(rt; is_right(rt.alloc(), GraphVersion::OneLabel, row), "{k} {}", row.4);
-        assert!(rt; is_right(rt.alloc(), GraphVersion::TwoLabels, row), "{k} {}", row.4);
+        assert!(rt; is_right(rt.alloc(), 1, row), "{k} {}", row.4);
+        assert!(rt; is_right(rt.alloc(), 2, row), "{k} {}", row.4);
     }
 }
 
 static EXITING: Program = Program {
-    version: ImageVersion::OneHart,
+    version: 1,
     units: &EXITS,
     graph: b"rvcfi-graph 1\ncode 40000000 0000005c\ncalls 93\ncall 4000000c 40000040\nend\n",
     data: b"",
@@ -277,7 +276,7 @@ const ONE_GRAPH: &[u8] =
     b"rvcfi-graph 1\ncode 40000000 00000070\ncalls 64\ncall 4000000c 40000040\nend\n";
 
 static CALLING: Program = Program {
-    version: ImageVersion::OneHart,
+    version: 1,
     units: &ONE,
     graph: ONE_GRAPH,
     data: b"\x40\x00\x00\x00\x00\x00\x00\x00",
@@ -285,7 +284,7 @@ static CALLING: Program = Program {
 };
 
 static CALLING_HARTS: Program = Program {
-    version: ImageVersion::EightHarts,
+    version: 2,
     units: &ONE_OF_HARTS,
     graph: b"rvcfi-graph 2\ncode 40000000 00000080\ncalls 64\ncall 4000000c 40000050\nend\n",
     data: b"\x40\x00\x00\x00\x00\x00\x00\x00",
@@ -293,7 +292,7 @@ static CALLING_HARTS: Program = Program {
 };
 
 static CALLING_TWO: Program = Program {
-    version: ImageVersion::OneHart,
+    version: 1,
     units: &TWO,
     graph: b"rvcfi-graph 2\ncode 40000000 00000078\ncalls 64 93\ncall 4000000c 40000040\nend\n",
     data: b"\x40\x00\x00\x00\x00\x00\x00\x00",
@@ -301,7 +300,7 @@ static CALLING_TWO: Program = Program {
 };
 
 static CALLING_EIGHT: Program = Program {
-    version: ImageVersion::OneHart,
+    version: 1,
     units: &EIGHT,
     graph: b"rvcfi-graph 1\ncode 40000000 000000a8\ncalls 0 1 2 3 62 63 64 2047\n\
 call 4000000c 40000040\nend\n",
@@ -458,7 +457,7 @@ fn walks_right(alloc: Global, code: &[u8], graph: &Graph) -> bool {
 
 /// The same, with the code and the graph made.
 fn one_walks_right(alloc: Global) -> bool {
-    let Some(code) = code_of(alloc, ImageVersion::OneHart, &ONE, &[]) else {
+    let Some(code) = code_of(alloc, 1, &ONE, &[]) else {
         return false;
     };
     match read_graph(alloc, ONE_GRAPH) {
