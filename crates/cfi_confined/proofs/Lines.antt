@@ -16,7 +16,6 @@ use Rattle.cfi_graph.specs.declared.line.Key.TheVariants.{Address}
 use Rattle.cfi_graph.specs.declared.line.SiteKind.{SiteKind}
 use Rattle.cfi_graph.specs.declared.line.SiteKind.TheVariants as K
 use Rattle.cfi_graph.specs.declared.line.Sort.{Sort}
-use Rattle.cfi_graph.specs.declared.line.Sort.TheVariants.{Both, Calls as CallsOnly, Jumps}
 use Rattle.cfi_graph.specs.Graph.{ClassLine, GraphParts, IsGraph, class_in}
 use Rattle.cfi_unit.specs.declared.place.Place.{Place}
 use Rattle.cfi_unit.specs.declared.place.Place.TheVariants.{Body as body}
@@ -120,11 +119,11 @@ site_is a other asked at e = absurd (cc)
 -- the line of a class that serves a transfer
 serving_line : (lines : List GraphLine) (sort : Sort) (kind : SiteKind) (which : TargetWord) (label : ℕ) (ts : List ℕ) → serves sort kind which ≡ true →
     Contains lines (Class sort label ts) → Contains lines (Class sorts.Both label ts) ⊎ Contains lines (class_line kind label ts)
-serving_line lines Both kind which label ts e there = inl there
-serving_line lines CallsOnly K.Call which label ts e there = inr there
-serving_line lines CallsOnly K.Jump which label ts e there = absurd (cc)
-serving_line lines Jumps K.Jump which label ts e there = inr there
-serving_line lines Jumps K.Call which label ts e there = absurd (cc)
+serving_line lines sorts.Both kind which label ts e there = inl there
+serving_line lines sorts.Calls K.Call which label ts e there = inr there
+serving_line lines sorts.Calls K.Jump which label ts e there = absurd (cc)
+serving_line lines sorts.Jumps K.Jump which label ts e there = inr there
+serving_line lines sorts.Jumps K.Call which label ts e there = absurd (cc)
 
 -- the unit of a computed transfer has more than twelve words
 long_site : (place : Place) → is_some (site_of place) ≡ true → (u : U.Unit) × (place ≡ body u) × (12 < word_count u)

@@ -1,6 +1,7 @@
 -- Small pairs with one fault each, which are not confined: so it is not said of everything.
 use Rattle.std.specs.Prelude.{[], ◌∷◌}
 use Rattle.rv_word.specs.Image.{Contents}
+use Rattle.rv_word.specs.declared.version.GraphVersion.TheVariants.{OneLabel}
 use Rattle.rv_word.specs.MemoryMap.{version_1, version_2}
 use Rattle.cfi_graph.specs.Graph.{GraphParts}
 use Rattle.cfi_graph.specs.declared.line.Sort.TheVariants as sorts
@@ -28,7 +29,7 @@ abbrev pub unlisted_entry : Contents
 unlisted_entry = image_with (0xfc1ff06f ∷ [])
 
 abbrev pub unlisted_entry_graph : GraphParts
-unlisted_entry_graph = record { version = 1; code = 0x44; lines = [] }
+unlisted_entry_graph = record { version = OneLabel; code = 0x44; lines = [] }
 
 -- a call of the third word; from there a computed jump, which has a site line, to the second word, where that
 -- call would return to; and from there a return to the closing, though that call is still pending

@@ -1,6 +1,8 @@
 -- A worked code under version 2 of graphs, and what each rule finds wrong of small changes of it.
 use Rattle.std.proofs.Common.{◌≡◌, ℕ, ◌*◌, Bool, true, false, List, [], ◌∷◌, length, refl, lit<}
 use Rattle.std.specs.Prelude.{None}
+use Rattle.rv_word.specs.declared.version.GraphVersion.{GraphVersion}
+use Rattle.rv_word.specs.declared.version.GraphVersion.TheVariants.{OneLabel, TwoLabels}
 use Rattle.rv_word.specs.MemoryMap.{version_1}
 use Rattle.rv_instr.specs.declared.instr.Instr.TheVariants.{Upper, Load, Immediate}
 use Rattle.rv_instr.specs.declared.instr.ImmediateOp.TheVariants.{Addi}
@@ -83,15 +85,15 @@ unfolding AllAhead code_from words_of decoded code_of
 apart_ahead =
     (refl, (refl, (refl, (refl, (refl, (refl, (refl, (refl, (refl, (refl, (refl, (refl, (refl, (refl, (refl, (refl, (refl, (refl, (refl, (refl, (refl, (refl, (refl, tt)))))))))))))))))))))))
 
-apart_sound : IsSound version_1 2 0x40000040 apart_units apart_classes
+apart_sound : IsSound version_1 TwoLabels 0x40000040 apart_units apart_classes
 unfolding all_from class_with targets_for unit_in
-apart_sound = sound_by 2 apart_units apart_classes apart_fit apart_ahead refl refl refl refl refl refl
+apart_sound = sound_by TwoLabels apart_units apart_classes apart_fit apart_ahead refl refl refl refl refl refl
 
 -- a jump's check of the first word is none of version 2, one of the second none of version 1
-first_under_2 : is_of_version 2 (V.Ijump First 5 0 2) ≡ false
+first_under_2 : is_of_version TwoLabels (V.Ijump First 5 0 2) ≡ false
 first_under_2 = refl
 
-second_under_1 : is_of_version 1 (V.Ijump Second 5 0 2) ≡ false
+second_under_1 : is_of_version OneLabel (V.Ijump Second 5 0 2) ≡ false
 second_under_1 = refl
 
 -- the label of one sort serves no transfer of the other
@@ -104,34 +106,34 @@ unfolding class_with targets_for
 calls_label_of_a_jump = refl
 
 -- whether a rule fails, of units and the classes of their graph
-abbrev pub fails_of : ℕ → Rule → List U.Unit → List GraphLine → ℕ → Bool
+abbrev pub fails_of : GraphVersion → Rule → List U.Unit → List GraphLine → ℕ → Bool
 fails_of version rule us classes a =
     fails rule version_1 (placed_code version_1 0x40000040 us)
     (record { version = version; code = 4 * length (placed_code version_1 0x40000040 us); lines = placed_lines version_1 0x40000040 us classes }) a
 
-unit_of_version_1 : fails_of 2 R.Unit (apart_with (V.Ijump First 5 0 2) bare (V.Gate 2)) apart_classes 0x400000bc ≡ true
+unit_of_version_1 : fails_of TwoLabels R.Unit (apart_with (V.Ijump First 5 0 2) bare (V.Gate 2)) apart_classes 0x400000bc ≡ true
 unfolding decoded code_of code_from lines_from read_each recognised words_of starts is_start unit_at
 unit_of_version_1 = refl
 
-unit_of_version_2 : fails_of 1 R.Unit apart_units apart_classes 0x400000bc ≡ true
+unit_of_version_2 : fails_of OneLabel R.Unit apart_units apart_classes 0x400000bc ≡ true
 unfolding decoded code_of code_from lines_from read_each recognised words_of starts is_start unit_at
 unit_of_version_2 = refl
 
 -- the jump asks for the label of calls
-label_of_calls : fails_of 2 R.Site (apart_with (V.Ijump Second 5 0 1) bare (V.Gate 2)) apart_classes 0x400000bc ≡ true
+label_of_calls : fails_of TwoLabels R.Site (apart_with (V.Ijump Second 5 0 1) bare (V.Gate 2)) apart_classes 0x400000bc ≡ true
 unfolding decoded code_of code_from lines_from read_each recognised words_of starts is_start unit_at place_at line_at class_with targets_for
 label_of_calls = refl
 
 -- the place for jumps bears its label at its first word
-no_gate_behind : fails_of 2 R.Gate (apart_with (V.Ijump Second 5 0 2) (V.Gate 2) bare) apart_classes 0x40000110 ≡ true
+no_gate_behind : fails_of TwoLabels R.Gate (apart_with (V.Ijump Second 5 0 2) (V.Gate 2) bare) apart_classes 0x40000110 ≡ true
 unfolding decoded code_of code_from lines_from read_each recognised words_of starts is_start unit_at
 no_gate_behind = refl
 
-gate_astray : fails_of 2 R.Astray (apart_with (V.Ijump Second 5 0 2) (V.Gate 2) bare) apart_classes 0x40000110 ≡ true
+gate_astray : fails_of TwoLabels R.Astray (apart_with (V.Ijump Second 5 0 2) (V.Gate 2) bare) apart_classes 0x40000110 ≡ true
 unfolding decoded code_of code_from lines_from read_each recognised words_of starts is_start unit_at class_with
 gate_astray = refl
 
 -- so the last word of the unit before it has the gate behind it, but no unit starts there
-inside_a_unit : fails_of 2 R.Gate (apart_with (V.Ijump Second 5 0 2) (V.Gate 2) bare) (Class sorts.Calls 1 (0x400000f0 ∷ 0x40000130 ∷ []) ∷ Class sorts.Jumps 2 (0x4000010c ∷ 0x40000130 ∷ []) ∷ []) 0x4000010c ≡ true
+inside_a_unit : fails_of TwoLabels R.Gate (apart_with (V.Ijump Second 5 0 2) (V.Gate 2) bare) (Class sorts.Calls 1 (0x400000f0 ∷ 0x40000130 ∷ []) ∷ Class sorts.Jumps 2 (0x4000010c ∷ 0x40000130 ∷ []) ∷ []) 0x4000010c ≡ true
 unfolding decoded code_of code_from lines_from read_each recognised words_of starts is_start unit_at
 inside_a_unit = refl

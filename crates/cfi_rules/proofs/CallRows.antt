@@ -2,6 +2,7 @@
 use Rattle.std.proofs.Common.{◌≡◌, ℕ, ◌⊎◌, inl, inr, true, false, List, [], ◌∷◌, refl, sym, lit<, lit≤, arith}
 use Rattle.std.specs.Prelude.{None, Some}
 use Rattle.std.proofs.lemmas.Bool.{false≢true}
+use Rattle.rv_word.specs.declared.version.GraphVersion.TheVariants.{OneLabel}
 use Rattle.rv_word.specs.MemoryMap.{version_1}
 use Rattle.rv_instr.specs.declared.instr.Instr.TheVariants.{Immediate}
 use Rattle.rv_instr.specs.declared.instr.ImmediateOp.TheVariants.{Addi}
@@ -55,38 +56,38 @@ guarded_ahead : AllAhead 0x40000040 guarded
 unfolding AllAhead code_from words_of decoded code_of
 guarded_ahead = (refl, (refl, (refl, tt)))
 
-guarded_sound : IsSound version_1 1 0x40000040 guarded listed
+guarded_sound : IsSound version_1 OneLabel 0x40000040 guarded listed
 unfolding all_from class_with targets_for unit_in
-guarded_sound = sound_by 1 guarded listed guarded_fit guarded_ahead refl refl refl refl refl refl
+guarded_sound = sound_by OneLabel guarded listed guarded_fit guarded_ahead refl refl refl refl refl refl
 
 -- without a list a bare call stands, and with one a guarded one with just its numbers in their order
-bare_alone : admits 1 None (V.System S.Ecall) ≡ true
+bare_alone : admits OneLabel None (V.System S.Ecall) ≡ true
 bare_alone = refl
 
-break_stands : admits 1 (Some (64 ∷ [])) (V.System S.Ebreak) ≡ true
+break_stands : admits OneLabel (Some (64 ∷ [])) (V.System S.Ebreak) ≡ true
 break_stands = refl
 
-bare_under_a_list : fails_of 1 R.Unit (calling (V.System S.Ecall)) listed 0x40000044 ≡ true
+bare_under_a_list : fails_of OneLabel R.Unit (calling (V.System S.Ecall)) listed 0x40000044 ≡ true
 unfolding decoded code_of code_from lines_from read_each recognised words_of starts is_start unit_at
 bare_under_a_list = refl
 
-guarded_without : fails_of 1 R.Unit guarded [] 0x40000044 ≡ true
+guarded_without : fails_of OneLabel R.Unit guarded [] 0x40000044 ≡ true
 unfolding decoded code_of code_from lines_from read_each recognised words_of starts is_start unit_at
 guarded_without = refl
 
-guarded_with : fails_of 1 R.Unit guarded listed 0x40000044 ≡ false
+guarded_with : fails_of OneLabel R.Unit guarded listed 0x40000044 ≡ false
 unfolding decoded code_of code_from lines_from read_each recognised words_of starts is_start unit_at
 guarded_with = refl
 
-other_order : fails_of 1 R.Unit (calling (V.Guarded (93 ∷ 64 ∷ []))) listed 0x40000044 ≡ true
+other_order : fails_of OneLabel R.Unit (calling (V.Guarded (93 ∷ 64 ∷ []))) listed 0x40000044 ≡ true
 unfolding decoded code_of code_from lines_from read_each recognised words_of starts is_start unit_at
 other_order = refl
 
-fewer_numbers : fails_of 1 R.Unit (calling (V.Guarded (64 ∷ []))) listed 0x40000044 ≡ true
+fewer_numbers : fails_of OneLabel R.Unit (calling (V.Guarded (64 ∷ []))) listed 0x40000044 ≡ true
 unfolding decoded code_of code_from lines_from read_each recognised words_of starts is_start unit_at
 fewer_numbers = refl
 
-more_numbers : fails_of 1 R.Unit (calling (V.Guarded (64 ∷ 93 ∷ 94 ∷ []))) listed 0x40000044 ≡ true
+more_numbers : fails_of OneLabel R.Unit (calling (V.Guarded (64 ∷ 93 ∷ 94 ∷ []))) listed 0x40000044 ≡ true
 unfolding decoded code_of code_from lines_from read_each recognised words_of starts is_start unit_at
 more_numbers = refl
 
@@ -95,7 +96,7 @@ late_list : calls_in (Class sorts.Both 1 (0x40000044 ∷ []) ∷ listed) ≡ Non
 late_list = refl
 
 -- the closing calls as it is, and stands at no unit
-closing_stands : fails_of 1 R.Unit guarded listed 0x40000038 ≡ false
+closing_stands : fails_of OneLabel R.Unit guarded listed 0x40000038 ≡ false
 unfolding decoded code_of code_from lines_from read_each recognised words_of starts is_start unit_at
 closing_stands = refl
 

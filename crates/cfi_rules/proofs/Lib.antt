@@ -1,4 +1,3 @@
-use Rattle.rv_word.specs.declared.version.ImageVersion.TheVariants.{OneHart}
 pub mod Marks
 pub mod Pairs
 pub mod Find

@@ -1,5 +1,6 @@
 -- Worked pairs, computed: which rule fails, and where.
 use Rattle.std.proofs.Common.{◌≡◌, ℕ, ◌+◌, ◌*◌, Bool, List, [], ◌∷◌, ◌++◌, length, take, drop, refl, true, false}
+use Rattle.rv_word.specs.declared.version.GraphVersion.TheVariants.{OneLabel}
 use Rattle.rv_word.specs.MemoryMap.{version_1}
 use Rattle.rv_code.specs.Decode.{decoded}
 use Rattle.rv_code.specs.Encode.{code_of}
@@ -16,7 +17,7 @@ use Rattle.cfi_rules.specs.declared.reject.Rule.TheVariants as R
 
 -- whether a rule fails, of a code and the lines of its graph
 abbrev fails_of : K.Rule → List ℕ → List GraphLine → ℕ → Bool
-fails_of rule words lines a = fails rule version_1 words (record { version = 1; code = 4 * length words; lines = lines }) a
+fails_of rule words lines a = fails rule version_1 words (record { version = OneLabel; code = 4 * length words; lines = lines }) a
 
 -- the prologue
 abbrev opening : List ℕ

@@ -7,6 +7,7 @@ use Rattle.std.specs.List.{last_or, list_all}
 use Rattle.std.proofs.lemmas.Bool.{and_parts, cases_eq, eqb-true, false≢true, or_cases}
 use Rattle.std.proofs.lemmas.Option.{same_Some}
 use Rattle.rv_word.specs.declared.version.GraphVersion.{GraphVersion}
+use Rattle.rv_word.specs.declared.version.GraphVersion.TheVariants.{OneLabel}
 use Rattle.rv_word.specs.MemoryMap.{version_1}
 use Rattle.rv_instr.specs.declared.instr.Instr.TheVariants.{Upper, Load, Immediate}
 use Rattle.rv_instr.specs.declared.instr.BranchOp.TheVariants.{Beq, Bne}
@@ -258,6 +259,6 @@ sound_by version us heads fit ahead begun admitted right are_heads borne ends =
       ends = ends;
     }
 
-p_sound : IsSound version_1 1 0x40000040 p_units p_classes
+p_sound : IsSound version_1 OneLabel 0x40000040 p_units p_classes
 unfolding all_from class_with targets_for unit_in
-p_sound = sound_by 1 p_units p_classes p_fit p_ahead refl refl refl refl refl refl
+p_sound = sound_by OneLabel p_units p_classes p_fit p_ahead refl refl refl refl refl refl
