@@ -42,10 +42,6 @@ use Rattle.cfi_writer.proofs.SoundCode.{member_at, member_there, written_sound}
 use Rattle.cfi_writer.proofs.Standing.{gate_starts, gates_rise, group_gate, laid, later_word, lead_there, leader, right, the_run, unit_there}
 use Rattle.cfi_writer.proofs.UnitOf.{is_right, unit_line}
 
-known_version : (version : GraphVersion) → (version == 1 || version == 2) ≡ true
-known_version version (inl one) = or_left (version == 1) (version == 2) (eq-eqb version 1 one)
-known_version version (inr two) = or_right (version == 1) (version == 2) (eq-eqb version 2 two)
-
 -- a word before a unit has no line
 lines_led : (os : List (Option ℕ)) (us : List U.Unit) (at : ℕ) → lines_from at (map lead_unit os ++ us) ≡ lines_from (at + 4 * length (map lead_unit os)) us
 unfolding lines_from
@@ -183,11 +179,10 @@ module _ (m : Choice) (ok : IsAccepted m) where
   sorts_right j t get =
       let of = in_side m.layout.closed.sides j t get in
       ap (is_sort_of m.layout.closed.version) (sym of.sort_is)
-      ∙ sort_fits m.layout.closed.version ok.version of.index of.side.sort (sort_get m.layout.closed.version m.layout.closed.sides ok.sorts of.index of.side of.there)
+      ∙ sort_fits m.layout.closed.version of.index of.side.sort (sort_get m.layout.closed.version m.layout.closed.sides ok.sorts of.index of.side of.there)
 
   class_graph : IsGraph (record { version = m.layout.closed.version; code = size; lines = written_classes m })
   class_graph = record {
-    version = known_version m.layout.closed.version ok.version;
     sorts = lines_of_version m.layout.closed.version m.layout.gates m.labels (tagged m.layout.closed.sides) sorts_right;
     length = length_right;
     range = lines_range size m.layout.gates m.labels (tagged m.layout.closed.sides) label_right gate_right;

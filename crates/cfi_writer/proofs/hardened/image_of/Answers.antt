@@ -20,7 +20,7 @@ returns c =
         bytes = are_bytes (image_version c.args.form) c.args.code.now c.in_ok-init.init.items c.are_small.ensures
             (subst (λ (l : List ℕ). (k : ℕ) → slice_index l k < 2 ^ 8) is c.are_small-2.ensures)
             (subst (IsImageSize (length c.args.code.now)) (sym c.in_ok-init.ensures.length) c.requires.size);
-        image_is = c.of.ensures ∙ c.in_ok-image.ensures ∙ ap (λ (version : ImageVersion). spelling version c.args.code.now c.as_slice-data.result.now) c.image_version.ensures.value
+        image_is = c.of.ensures ∙ c.in_ok-image.ensures ∙ ap (λ (version : ImageVersion). spelling version c.args.code.now c.as_slice-data.result.now) c.image_version.ensures
             ∙ ap (spelling (image_version c.args.form) c.args.code.now) is;
       },
     )
