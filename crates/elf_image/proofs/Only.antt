@@ -76,7 +76,7 @@ pub record IsReadAs (bytes : List ℕ) (version : ImageVersion) (code init : Lis
 
 pub read_as : (v : ImageVersion) (code init : List ℕ) → IsImageSize (length code) (length init) → IsReadAs (spelling v code init) v code init
 unfolding spelling
-read_as v code init known size =
+read_as v code init size =
     let n = length code in
     let d = length init in
     let h = headers v n d in
@@ -106,7 +106,7 @@ read_as v code init known size =
         after_headers = none_in_zeros bytes 232 0x1000 second;
         after_code = none_in_zeros bytes (0x1000 + n) (data_start n) (fourth ∙ ap zeros gap);
       };
-      version_named = version_named bytes v n d known held;
+      version_named = version_named bytes v n d held;
       code_named = code_named bytes v n d held ∙ omega arith;
       init_named = init_named bytes v n d held ∙ omega arith;
       code_there = third;
@@ -115,10 +115,10 @@ read_as v code init known size =
 
 pub reads_none : (bytes : List ℕ) (v : ImageVersion) (code init : List ℕ) → IsImageSize (length code) (length init) → bytes ≡ spelling v code init
     → fault_of bytes ≡ None
-reads_none bytes v code init known size e =
-    let r = read_as v code init known size in
+reads_none bytes v code init size e =
+    let r = read_as v code init size in
     let file = spelling v code init in
     let whole : IsSound file (version_in file) (code_of file) (init_of file) =
-    let sound_as : ℕ → Type 0 = λ k. IsSound file k (code_of file) (init_of file) in
+    let sound_as : ImageVersion → Type 0 = λ k. IsSound file k (code_of file) (init_of file) in
     subst sound_as (sym r.version_named) (rw (r.code_named, r.init_named) r.sound) in
     rw e (no_fault _ whole)

@@ -4,6 +4,7 @@ use Rattle.std.specs.List.{slice_get}
 use Rattle.std.proofs.lemmas.Bool.{cases_lt}
 use borrow.Author.Tests.{lt-ltb, le-ltb}
 use Rattle.rv_word.specs.declared.version.ImageVersion.{ImageVersion}
+use Rattle.rv_word.specs.declared.version.ImageVersion.TheVariants.{OneHart, EightHarts}
 use Rattle.rv_word.proofs.Cases.{neither, unmapped}
 use Rattle.rv_word.specs.MemoryMap.{profile_of}
 use Rattle.rv_word.specs.Image.{IsImageSize}
@@ -82,12 +83,12 @@ shadow_named bytes version code init h =
 
 named_by : (bytes : List ℕ) (version : ImageVersion) → number_at bytes 216 8 ≡ (profile_of version).shadow_size
     → version_in bytes ≡ version
-named_by bytes version (inl one) e = let size : number_at bytes 216 8 ≡ 0x10000 = rw one at e in rw (size, one) refl
-named_by bytes version (inr two) e = let size : number_at bytes 216 8 ≡ 0x80000 = rw two at e in rw (size, two) refl
+named_by bytes OneHart e = rw e refl
+named_by bytes EightHarts e = rw e refl
 
 pub version_named : (bytes : List ℕ) (version : ImageVersion) (code init : ℕ) → Hold bytes (fields_of version code init)
     → version_in bytes ≡ version
-version_named bytes version code init known h = named_by bytes version known (shadow_named bytes version code init h)
+version_named bytes version code init h = named_by bytes version (shadow_named bytes version code init h)
 
 -- are lengths that an image may have
 pub right_sizes : (bytes : List ℕ) → IsSound bytes (version_in bytes) (code_of bytes) (init_of bytes) → IsImageSize (code_of bytes) (init_of bytes)

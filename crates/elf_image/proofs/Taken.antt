@@ -33,8 +33,8 @@ module _ (bytes : List ℕ) (version : ImageVersion) (end start : ℕ) (no_fault
 
   pub taken_back : (v : ImageVersion) (code init : List ℕ) → IsImageSize (length code) (length init) → bytes ≡ spelling v code init
       → (version ≡ v) × (take (end - 0x1000) (drop 0x1000 bytes) ≡ code) × (take (length bytes - start) (drop start bytes) ≡ init)
-  taken_back v code init known size e =
-      let r = read_as v code init known size in
+  taken_back v code init size e =
+      let r = read_as v code init size in
       let n : code_of bytes ≡ length code = ap code_of e ∙ r.code_named in (
         version_is ∙ ap version_in e ∙ r.version_named,
         code_part ∙ ap (λ k. take k (drop 0x1000 bytes)) n ∙ ap (λ xs. take (length code) (drop 0x1000 xs)) e ∙ r.code_there,

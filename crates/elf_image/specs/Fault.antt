@@ -42,7 +42,7 @@ length_fault bytes code init =
     if nat_lt (data_start code + init) (length bytes) then Some (Long (length bytes)) else None
 
 -- what is wrong with a file that names this version and these lengths: a field, its length, or its padding
-abbrev pub fault_with : List ℕ → ℕ → ℕ → ℕ → Option ImageRefusal
+abbrev pub fault_with : List ℕ → ImageVersion → ℕ → ℕ → Option ImageRefusal
 fault_with bytes version code init =
     option_or (option_map (λ at. Byte at) (first_wrong bytes (fields_of version code init)))
     (option_or (length_fault bytes code init) (option_map (λ at. Byte at) (wrong_padding bytes code)))

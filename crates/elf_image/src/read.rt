@@ -16,7 +16,6 @@ use super::refusal::ImageRefusal;
 use byteorder::{ByteOrder, LittleEndian};
 use elf_bytes::u64_at;
 use rv_word::{Image, ImageVersion};
-use rv_word::version::shadow_size;
 
 /// Where the headers name the length of the code and of the data: `p_filesz` of their segments.
 const CODE_LENGTH: u64 = 152;
@@ -90,15 +89,15 @@ fn named_lengths(bytes: &[u8]) -> Result<(u64, u64), ImageRefusal>
     }
 }
 
-/// The version whose shadow stack has the size that the program headers name, and 1 where neither has.
+/// The version whose shadow stack has the size that the program headers name, and version 1 where neither has.
 fn named_version(bytes: &[u8]) -> ImageVersion
     requires { 232 ≤ length bytes.now }
     ensures { result ≡ version_in bytes.now }
 {
-    if number(bytes, SHADOW_LENGTH, 8) == u128::from(shadow_size(2)) {
-        2
+    if number(bytes, SHADOW_LENGTH, 8) == u128::from(ImageVersion::EightHarts.shadow_size()) {
+        ImageVersion::EightHarts
     } else {
-        1
+        ImageVersion::OneHart
     }
 }
 

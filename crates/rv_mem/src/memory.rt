@@ -1,6 +1,7 @@
 ghost use Rattle.std.specs.Prelude.{◌≡◌, ℕ, ◌+◌, ◌%◌, ◌≤◌, ◌<◌, ◌^◌, ◌↔◌, nat_le, IfOk, OnOk, OnErr, IsErr, IsErrOf, IsTrue, true, false, length, Result, slice_index};
 ghost use Rattle.rv_word.specs.MemoryMap.{can_load, can_store, profile_of, DATA_START, DATA_END, CODE_START, CODE_SIZE};
 ghost use Rattle.rv_word.specs.Memory.{placed, read, write, zeros, loaded};
+ghost use Rattle.rv_word.specs.declared.version.ImageVersion.TheVariants.{OneHart};
 ghost use Rattle.rv_mem.specs.Access.{IsAccessSize};
 ghost use Rattle.rv_mem.specs.Cells.{memory_of, has_room, HasRoom, with_byte, AreBytes, place_of};
 ghost use Rattle.rv_mem.specs.Pages.{PAGE_SIZE};
@@ -38,10 +39,10 @@ impl Model for Memory {
 impl Memory {
     /// Memory of zeros, for images of version 1.
     pub fn new(alloc: Global) -> Result<Memory, NoMemory>
-        ensures version { IfOk result (λ memory. memory.version ≡ 1) }
+        ensures version { IfOk result (λ memory. memory.version ≡ OneHart) }
         ensures memory { IfOk result (λ memory. memory_of memory ≡ zeros) }
     {
-        Memory::with_contents(alloc, 1, &[], &[])
+        Memory::with_contents(alloc, ImageVersion::OneHart, &[], &[])
     }
 
     /// The memory in which a run of an image starts.
