@@ -1,6 +1,6 @@
 -- The closed graph: it has sides, each of computed transfers of one sort with the classes of their targets, and each site reaches the
 -- whole class of its targets.
-use Rattle.std.specs.Prelude.{ℕ, ◌+◌, ◌<◌, Bool, true, false, ◌==◌, if◌then◌else◌, Option, Some, None, IfSome, option_map, List, [], ◌∷◌, length}
+use Rattle.std.specs.Prelude.{ℕ, ◌+◌, ◌<◌, Bool, true, false, ◌==◌, Option, Some, None, IfSome, option_map, List, [], ◌∷◌, length}
 use Rattle.std.specs.List.{All, find, flat_map, list_any}
 use Rattle.std.specs.Option.{option_or}
 use Rattle.rv_word.specs.declared.version.GraphVersion.{GraphVersion}

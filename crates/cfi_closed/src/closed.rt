@@ -33,7 +33,12 @@ impl Model for Closed {
 
 impl Closed {
     /// A closed graph of its parts.
-    pub fn of(version: GraphVersion, sides: Vec<Side>, taken: Vec<bool>, calls: Option<Numbers>) -> Closed
+    pub fn of(
+        version: GraphVersion,
+        sides: Vec<Side>,
+        taken: Vec<bool>,
+        calls: Option<Numbers>,
+    ) -> Closed
         requires { AreSides version sides.items (length taken.items) }
         ensures { result ≡ record { version = version; sides = sides.items; taken = taken.items; calls = calls } }
     {
