@@ -96,7 +96,7 @@ module _ (p : Profile) (part : ℕ) (image : Contents) (graph : GraphParts) wher
     w : Walk
     at : w.at ≡ h.pc
     regs : w.regs ≡ h.regs
-    arrives : Arrives p (code_words image.code) graph.lines before h.pc w.pending
+    arrives : Arrives p (place_at p (code_words image.code)) graph.lines before h.pc w.pending
     shadow : ShadowStands part place h.pc h s.memory w.pending
     on : OnRan (step p h s).turn (Along (Some w) (step p h s).hart (step p h s).shared rest) (IsCodeOf (loaded image) (step p h s).shared.memory)
 

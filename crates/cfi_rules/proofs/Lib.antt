@@ -11,13 +11,14 @@ pub mod Served
 pub mod RuleFacts
 pub mod Labels
 pub mod Moves
-pub mod Safety
 pub mod OnRan
 pub mod Starts
 pub mod ListedRuns
 pub mod UnitIn
 pub mod CodeSplit
 pub mod PlacedSplit
+pub mod Reading
+pub mod Safety
 pub mod Ahead
 pub mod PlacedLines
 pub mod PlacedRules
