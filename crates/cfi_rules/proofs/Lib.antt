@@ -10,6 +10,7 @@ pub mod LineOrder
 pub mod Served
 pub mod RuleFacts
 pub mod Labels
+pub mod Leading
 pub mod Moves
 pub mod OnRan
 pub mod Starts

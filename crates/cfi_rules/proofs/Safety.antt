@@ -305,7 +305,7 @@ module _ (p : Profile) (profile : IsProfile p) (image : Contents) (graph : Graph
           )
       goes_on (arrived w place newer b is a held x3) =
           enter a.settled.place newer a.settled.is a.settled.stage held (λ o. absurd (a.settled.later o)) (past x3)
-          (subst (λ (o : Option Walk). Arrives p (place_at p the_words) graph.lines o (hs k).pc newer) (sym b) (place, is, a.goes, a.chooses))
+          (subst (λ (o : Option Walk). Arrives p (place_at p the_words) graph.lines o (hs k).pc newer) (sym b) (place, is, a.leads))
 
     -- the run from what is known goes along the graph
     runs : (steps : List HartStep) → AreStepsOf harts steps → (walks : Walks) (hs : Harts) (s : Shared) → Known walks hs s → Along walks hs s steps

@@ -15,6 +15,7 @@ use Rattle.cfi_rules.specs.Along.{Walk, Walks, Arrives, OnRan, RunsAlong, with_w
 use Rattle.cfi_rules.specs.Laws.{SafeWalksGraph}
 use Rattle.cfi_rules.specs.Split.{code_words, place_at}
 use Rattle.cfi_rules.specs.Walks.{walk_of, AreSteps, IsGraphWalk}
+use Rattle.cfi_rules.proofs.Leading.{leads_goes}
 use Rattle.cfi_rules.proofs.Reading.{safe_as_recognised}
 
 module _ (p : Profile) (image : Contents) (words : List ℕ) (lines : List GraphLine) where
@@ -78,7 +79,7 @@ module _ (p : Profile) (image : Contents) (words : List ℕ) (lines : List Graph
                     arrives.0,
                     r.0.pending,
                     arrives.1,
-                    arrives.2,
+                    leads_goes lines p arrives.0 w.at w.pending w.regs r.0.pending h.pc arrives.2,
                     subst (λ (a : ℕ). AreSteps p words lines a r.0.pending (if_ran after.turn later)) goes.0 more,
                   )
             ]

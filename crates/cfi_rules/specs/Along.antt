@@ -1,81 +1,39 @@
 -- A run along a graph, and safety. The walk of a hart is the list of the pcs of its begun instructions
 -- at which something starts: the opening, the closing, a handler or a unit.
-use Rattle.std.specs.Prelude.{◌≡◌, ◌≢◌, ℕ, ◌<◌, ◌⊎◌, ◌==◌, true, false, List, [], ◌∷◌, length, Option, Some, None, if◌then◌else◌}
+use Rattle.std.specs.Prelude.{◌≡◌, ℕ, ◌<◌, ◌==◌, List, [], ◌∷◌, length, Option, Some, None, if◌then◌else◌}
 use Rattle.std.specs.List.{AllByRecursion}
 use Rattle.rv_word.specs.MemoryMap.{START, MayRun, Profile, part_of}
 use Rattle.rv_word.specs.Image.{Contents}
 use Rattle.rv_word.specs.Memory.{Memory, loaded}
-use Rattle.rv_word.specs.Numbers.{is_listed}
-use Rattle.rv_instr.specs.Registers.{Registers, get_reg}
+use Rattle.rv_instr.specs.Registers.{Registers}
 use Rattle.rv_code.specs.Run.{HartStep, IsStepOf, disturbed}
 use Rattle.rv_code.specs.State.{After, Hart, Harts, Shared, last_exit, with_hart}
 use Rattle.rv_code.specs.Step.{step}
 use Rattle.rv_code.specs.declared.turn.Turn.{Turn}
 use Rattle.rv_code.specs.declared.turn.Turn.TheVariants.{Ran, Exit, Break, LoadFault, StoreFault, FetchFault, Illegal}
 use Rattle.cfi_graph.specs.declared.line.GraphLine.{GraphLine}
-use Rattle.cfi_graph.specs.declared.line.SiteKind.TheVariants as K
 use Rattle.cfi_graph.specs.Graph.{GraphParts}
 use Rattle.cfi_unit.specs.declared.unit.Unit as U
 use Rattle.cfi_unit.specs.declared.unit.SystemOp.TheVariants as S
 use Rattle.cfi_unit.specs.declared.place.Place.{Place}
 use Rattle.cfi_unit.specs.declared.place.Place.TheVariants.{Handler as handler, Opening as opening, Closing as closing, Body as body}
-use Rattle.cfi_unit.specs.declared.target_word.TargetWord.{TargetWord}
-use Rattle.cfi_unit.specs.declared.target_word.TargetWord.TheVariants.{First}
 use Rattle.cfi_unit.specs.Place.{IsWordOf}
 use Rattle.cfi_unit.specs.Prologue.{OPENING}
 use Rattle.cfi_unit.specs.Context.{IsCodeOf, SameOutside}
 use Rattle.cfi_unit.specs.EventLaw.{Adds}
 use Rattle.cfi_unit.specs.Flow as F
-use Rattle.cfi_unit.specs.Flow.{Act, Sites, Test, flow_of}
-use Rattle.cfi_unit.specs.Leads.{destination}
-use Rattle.cfi_unit.specs.Shadow.{slot, MOST_PENDING, Holds}
-use Rattle.cfi_unit.specs.UnitWords.{BAD_TARGET, BAD_RETURN, DEEP, after_unit}
+use Rattle.cfi_unit.specs.Flow.{Act, flow_of}
+use Rattle.cfi_unit.specs.Leads.{Leads}
+use Rattle.cfi_unit.specs.Shadow.{slot, Holds}
 use Rattle.cfi_rules.specs.Reading.{AreUnitsOf, place_in}
 use Rattle.cfi_rules.specs.Split.{code_words}
-use Rattle.cfi_rules.specs.Walk.{InClass, Goes}
+use Rattle.cfi_rules.specs.Walk.{by_class}
 
 -- the newest address of a hart's walk, the sites pending there, and the registers when it was reached
 pub record Walk : Type 0 where
   pub at : ℕ
   pub pending : List ℕ
   pub regs : Registers
-
--- where the walk goes on to `v` from a computed jump: the handler exactly where the destination is no
--- target of the class, and otherwise the destination
-abbrev pub JumpChooses : List GraphLine → TargetWord → ℕ → ℕ → ℕ → Type 0
-JumpChooses lines which label to v =
-    (InClass lines K.Jump which label to × (v ≡ to)) ⊎ ((¬ InClass lines K.Jump which label to) × (v ≡ BAD_TARGET))
-
--- and from a computed call: a target's call goes to the handler where there is no room
-abbrev pub ComputedCallChooses : List GraphLine → ℕ → ℕ → ℕ → ℕ → Type 0
-ComputedCallChooses lines label pending to v =
-    (InClass lines K.Call First label to × (((pending < MOST_PENDING) × (v ≡ to)) ⊎ ((pending ≡ MOST_PENDING) × (v ≡ DEEP))))
-    ⊎ ((¬ InClass lines K.Call First label to) × (v ≡ BAD_TARGET))
-
--- and from a return, where a site is pending: the handler exactly where x1 is not the newest site
-abbrev pub ReturnChooses : List ℕ → ℕ → ℕ → Type 0
-ReturnChooses [] x1 v = ⊥
-ReturnChooses (site ∷ pending) x1 v = ((x1 ≡ site) × (v ≡ site)) ⊎ ((x1 ≢ site) × (v ≡ BAD_RETURN))
-
--- and from a guarded system call: the handler exactly where x17 is none of its numbers
-abbrev pub GuardChooses : List ℕ → ℕ → ℕ → ℕ → Type 0
-GuardChooses ns x17 following v = ((is_listed x17 ns ≡ true) × (v ≡ following)) ⊎ ((is_listed x17 ns ≡ false) × (v ≡ BAD_TARGET))
-
--- and by a unit's test
-abbrev pub ClassChooses : List GraphLine → Sites → TargetWord → ℕ → List ℕ → ℕ → ℕ → Type 0
-ClassChooses lines F.pushes which label pending to v = ComputedCallChooses lines label (length pending) to v
-ClassChooses lines other which label pending to v = JumpChooses lines which label to v
-
-abbrev pub TestChooses : List GraphLine → Test → Sites → ℕ → List ℕ → Registers → ℕ → Type 0
-TestChooses lines F.always sites following pending r v = Unit {0}
-TestChooses lines (F.listed numbers) sites following pending r v = GuardChooses numbers (get_reg r 17) following v
-TestChooses lines (F.borne which rs1 imm label) sites following pending r v = ClassChooses lines sites which label pending (destination r rs1 imm) v
-TestChooses lines F.newest sites following pending r v = ReturnChooses pending (get_reg r 1) v
-
--- the registers decide where a computed transfer, a return or a guarded system call goes
-abbrev pub Chooses : List GraphLine → Place → Walk → ℕ → Type 0
-Chooses lines (body unit) w v = TestChooses lines (flow_of unit).test (flow_of unit).sites (after_unit unit w.at) w.pending w.regs v
-Chooses lines other w v = Unit {0}
 
 -- the shadow stack, where a unit or the closing starts: x3 points past the newest slot, and each slot
 -- holds its site; where a unit starts a site is pending
@@ -85,13 +43,12 @@ ShadowStands part (opening entry) at h m pending = Unit {0}
 ShadowStands part closing at h m pending = (h.regs 3 ≡ slot part (length pending)) × Holds part m pending
 ShadowStands part (body unit) at h m pending = (h.regs 3 ≡ slot part (length pending)) × Holds part m pending × (0 < length pending)
 
--- the walk arrives where something starts: by a step of the graph from the place before, or at the
--- opening with nothing pending
+-- the walk arrives where something starts: where the place before leads, with the class's targets for computed
+-- destinations, or at the opening with nothing pending
 abbrev pub Arrives : Profile → (ℕ → Option Place) → List GraphLine → Option Walk → ℕ → List ℕ → Type 0
 Arrives p places lines None v pending = (v ≡ OPENING) × (pending ≡ [])
 Arrives p places lines (Some w) v pending =
-    (place : Place) × (places w.at ≡ Some place)
-    × Goes p lines place w.at w.pending v pending × Chooses lines place w v
+    (place : Place) × (places w.at ≡ Some place) × Leads p (by_class lines) place w.at w.pending w.regs pending v
 
 -- before a step at a pc: where something starts there the walk goes on to it, else it stays
 abbrev pub GoesOn : Profile → ℕ → (ℕ → Option Place) → List GraphLine → Option Walk → Option Place → Hart → Memory → Walk → Type 0
