@@ -13,7 +13,7 @@ use crate::starts::Starts;
 use crate::verifier::VerifyEnd;
 use cfi_graph::Graph;
 use cfi_scan::Steps;
-use rv_word::Bytes;
+use rv_word::{Bytes, ImageVersion};
 use std::alloc::Global;
 use std::sync::ledger::Ledger;
 
@@ -22,7 +22,7 @@ use std::sync::ledger::Ledger;
 /// reading of a word.
 pub fn scan_pieces<'a, L: Ledger>(
     alloc: Global,
-    version: u8,
+    version: ImageVersion,
     graph: &'a Graph,
     pieces: &[Bytes],
     steps: &mut Steps<L>,

@@ -2,7 +2,7 @@
 
 use cfi_graph::Graph;
 use cfi_verify::{VerifyEnd, verify};
-use rv_word::Image;
+use rv_word::{Image, ImageVersion};
 use sample_programs::is_told_as;
 use std::alloc::Global;
 
@@ -16,13 +16,15 @@ pub fn is_told(alloc: Global, image: &Image<'_>, graph: &Graph, words: &str) -> 
 }
 
 /// The same of the image of a version that has a code of at most 4,096 bytes.
-pub fn is_code_told(alloc: Global, version: u8, code: &[u8], graph: &Graph, words: &str) -> bool {
+pub fn is_code_told(
+    alloc: Global,
+    version: ImageVersion,
+    code: &[u8],
+    graph: &Graph,
+    words: &str,
+) -> bool {
     if code.len() < 4 || code.len() > 4096 || code.len() % 4 != 0 {
         return false;
     }
-    if version == 1 {
-        is_told(alloc, &Image::of(code, &[]), graph, words)
-    } else {
-        is_told(alloc, &Image::of_version(2, code, &[]), graph, words)
-    }
+    is_told(alloc, &Image::of_version(version, code, &[]), graph, words)
 }

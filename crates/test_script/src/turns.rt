@@ -3,7 +3,7 @@
 use crate::script::{is_read_as, text_with};
 use cfi_script::{Meddler, Script};
 use rv_machine::Machine;
-use rv_word::{Image, NoMemory};
+use rv_word::{Image, ImageVersion, NoMemory};
 use std::alloc::{AllocError, Global};
 use std::fmt::Write;
 use text_lines::TextEnd;
@@ -280,7 +280,7 @@ static ASKED: [Asked; 9] = [
 
 /// A machine with so many harts.
 fn machine(alloc: Global, harts: u8) -> Result<Machine, NoMemory> {
-    let image = Image::of_version(2, &[0x73, 0, 0, 0], &[]);
+    let image = Image::of_version(ImageVersion::EightHarts, &[0x73, 0, 0, 0], &[]);
     Machine::new(alloc, &image, &[], harts.max(1))
 }
 

@@ -121,7 +121,7 @@ shown_text s =
     ++ codes "\ncompare same " ++ decimal s.calls
 
 abbrev pub demo_text : DemoOutcome → List ℕ
-demo_text (outcome.Ran report) = report_text 1 report
+demo_text (outcome.Ran report) = report_text OneHart report
 demo_text (outcome.Compared result) = with_newline (answer_text result)
 demo_text (outcome.Shown shown) = with_newline (shown_text shown)
 
