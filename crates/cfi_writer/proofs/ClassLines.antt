@@ -1,6 +1,6 @@
 -- The lines of classes: which stands at an index and under a label, and that they are a graph's.
 use Rattle.std.proofs.Common.{◌≡◌, ℕ, zero, suc, ◌<◌, ◌==◌, inl, inr, true, List, [], ◌∷◌, map, Option, Some, None, refl, sym, ap, ◌∙◌, arith, add-one}
-use Rattle.std.specs.Prelude.{◌&&◌, Bool, if◌then◌else◌, nat_lt, option_and_then, slice_get, slice_index}
+use Rattle.std.specs.Prelude.{Bool, if◌then◌else◌, nat_lt, option_and_then, slice_get, slice_index}
 use Rattle.std.specs.List.{list_all}
 use Rattle.std.specs.List.Sorted.{IsStrictlyIncreasing}
 use Rattle.std.proofs.lemmas.Bool.{and_from, cases_Bool, eq-eqb, eqb-true, lt-ltb, or_cases, or_left, or_right}
@@ -10,8 +10,6 @@ use Rattle.cfi_graph.specs.declared.line.GraphLine.TheVariants.{Class}
 use Rattle.cfi_graph.specs.declared.line.GraphLine.{GraphLine}
 use Rattle.cfi_graph.specs.declared.line.SiteKind.{SiteKind}
 use Rattle.cfi_graph.specs.declared.line.Sort.{Sort}
-use Rattle.cfi_graph.specs.declared.line.Sort.TheVariants.{Both, Calls, Jumps}
-use Rattle.cfi_graph.specs.declared.line.Key.TheVariants.{Label}
 use Rattle.cfi_graph.specs.Graph.{ClassLine, class_in, fits_version, is_class, is_code_address, is_label, is_rising, is_sort_of, key_below, key_of, line_in_range, targets_rise}
 use Rattle.cfi_class.specs.Classes.{has}
 use Rattle.cfi_map.specs.GraphAtMap.{class_lines}

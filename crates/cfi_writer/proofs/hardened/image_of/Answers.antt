@@ -7,8 +7,8 @@ use Rattle.elf_image.specs.Spelling.{spelling}
 use Rattle.cfi_writer.proofs.WholeImage.{are_bytes}
 use Rattle.cfi_writer.proofs.hardened.image_of.Goals as goal
 
-pub write_image_as-requires-clause-size : goal.write_image_as-requires-clause-size
-write_image_as-requires-clause-size c =
+pub write_image_as-requires : goal.write_image_as-requires
+write_image_as-requires c =
     subst (IsImageSize (length c.args.code.now)) (sym (ap length c.as_slice-data.ensures.value ∙ c.in_ok-init.ensures.length)) c.requires.size
 
 pub returns : goal.returns
