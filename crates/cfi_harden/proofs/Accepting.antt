@@ -48,12 +48,6 @@ last_there : (program : Program) → 0 < count program → is_end (item_of progr
     (k : ℕ) × (count program ≡ k + 1) × (is_end (item_of program k).kind ≡ true)
 last_there program some last = (count program - 1, omega arith, last)
 
-known_form : (form : Form) → IsVersion (graph_version form)
-known_form Plain = inl refl
-known_form Harts = inl refl
-known_form Split = inr refl
-known_form HartsSplit = inr refl
-
 -- what is chosen for a program: a placement in which no value leaves its range, and labels
 module _ (p : PreparedParts) (ready : IsReady p) (s : Spaced) (fitting : IsFitting p s) (labels : List ℕ) (given : AreGiven p.program p.closed labels) where
   -- the placement, with the program of what is prepared
@@ -90,7 +84,6 @@ module _ (p : PreparedParts) (ready : IsReady p) (s : Spaced) (fitting : IsFitti
         room = room_there (chosen here labels) ready.sound values groups_here (is_profile (image_version p.form)) placed_here.legal placed_here.size;
         values = values;
         calls = ready.calls;
-        version = subst IsVersion (sym ready.version) (known_form p.form);
         sorts = closes.sorts;
         members = λ j c k side there h. members_there p.program policy raw side is (of j side there) k (c, h);
         rising = λ j side there. (of j side there).classes.rising;

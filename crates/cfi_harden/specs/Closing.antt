@@ -1,5 +1,6 @@
 -- What a program and a policy come to: a closed graph for a version of graphs, or a wrong line of the policy.
 use Rattle.std.specs.Prelude.{ℕ, List, Option, Some, None, Result, Ok, Err}
+use Rattle.rv_word.specs.declared.version.GraphVersion.{GraphVersion}
 use Rattle.text_lines.specs.declared.end.TextEnd.{TextEnd}
 use Rattle.text_lines.specs.declared.end.TextEnd.TheVariants.{Line}
 use Rattle.obj_program.specs.Program.{Program}
@@ -9,7 +10,7 @@ use Rattle.cfi_harden.specs.declared.refusal.HardenEnd.TheVariants.{Refused, NoM
 use Rattle.cfi_harden.specs.declared.refusal.Refusal.TheVariants.{Policy}
 use Rattle.cfi_harden.specs.Prepared.{IsClosedUnder, IsWrongPolicy}
 
-abbrev pub Closes : ℕ → Program → Option (List ℕ) → Result ClosedGraph HardenEnd → Type 0
+abbrev pub Closes : GraphVersion → Program → Option (List ℕ) → Result ClosedGraph HardenEnd → Type 0
 Closes version program policy (Ok closed) = IsClosedUnder version program policy closed
 Closes version program policy (Err (Refused (Policy n))) = IsWrongPolicy program policy n
 Closes version program policy (Err NoMemory) = Unit {0}

@@ -1,6 +1,7 @@
 -- What texts come to that spell a pair and a script is determined by them: no fault, and a run where the pair meets the rules.
 use Rattle.std.proofs.Common.{◌≡◌, ◌∙◌, ◌⊎◌, inl, inr, ℕ, ◌≤◌, ◌<◌, List, Option, Result, Ok, Err, refl, sym, ap, subst, arith}
 use Rattle.rv_word.specs.declared.version.ImageVersion.{ImageVersion}
+use Rattle.rv_word.specs.declared.version.ImageVersion.TheVariants.{OneHart}
 use Rattle.rv_word.specs.Image.{Contents, image_profile}
 use Rattle.rv_word.specs.MemoryMap.{MayRun, profile_of}
 use Rattle.elf_image.specs.Fault.{version_in}
@@ -21,10 +22,10 @@ use Rattle.cfi_launch.specs.declared.launching.Launched.TheVariants.{Rejected, R
 
 module _ (image_bytes graph_bytes : List ℕ) (image : Contents) (graph : GraphParts) (spell : Spell image_bytes graph_bytes image graph) where
   -- an image that a text tells to be of version 1 may have one hart
-  pub few_harts : (harts : ℕ) → MayRun (image_profile image) harts → version_in image_bytes ≡ 1 → 1 < harts → ⊥
+  pub few_harts : (harts : ℕ) → MayRun (image_profile image) harts → version_in image_bytes ≡ OneHart → 1 < harts → ⊥
   few_harts harts may first more =
-      let same : image.version ≡ 1 = sym (version_told image_bytes image (own image_bytes graph_bytes image graph spell)) ∙ first in
-      let most : harts ≤ (profile_of 1).harts = subst (λ (v : ImageVersion). harts ≤ (profile_of v).harts) same may.most in
+      let same : image.version ≡ OneHart = sym (version_told image_bytes image (own image_bytes graph_bytes image graph spell)) ∙ first in
+      let most : harts ≤ (profile_of OneHart).harts = subst (λ (v : ImageVersion). harts ≤ (profile_of v).harts) same may.most in
       omega (arith, most, more)
 
   module _ (script : Option (List ℕ)) (read : ScriptParts) (given : script_given script ≡ Ok read) (may : MayRun (image_profile image) read.harts) where

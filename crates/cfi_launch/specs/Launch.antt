@@ -1,7 +1,9 @@
 -- A run of an image with its graph under a script, and why there is none.
-use Rattle.std.specs.Prelude.{◌≡◌, ◌⊎◌, ◌<◌, ℕ, List, ⊤, Option, Some, None, Result, Ok, Err}
+use Rattle.std.specs.Prelude.{◌≡◌, ◌⊎◌, ◌<◌, nat_lt, Bool, false, ℕ, List, ⊤, Option, Some, None, Result, Ok, Err}
 use Rattle.rv_word.specs.Image.{Contents, image_profile}
 use Rattle.rv_word.specs.MemoryMap.{MayRun}
+use Rattle.rv_word.specs.declared.version.ImageVersion.{ImageVersion}
+use Rattle.rv_word.specs.declared.version.ImageVersion.TheVariants.{OneHart, EightHarts}
 use Rattle.elf_image.specs.Fault.{version_in}
 use Rattle.cfi_graph.specs.Graph.{GraphParts}
 use Rattle.cfi_rules.specs.Rules.{IsRejected, IsWellFormed}
@@ -25,6 +27,11 @@ abbrev pub script_given : Option (List ℕ) → Result ScriptParts TextEnd
 script_given None = Ok undisturbed_script
 script_given (Some text) = script_of text
 
+-- a script is for several harts, and an image of this version for one. Only a private contract cites this
+abbrev pub lacks_harts : ImageVersion → ℕ → Bool
+lacks_harts OneHart harts = nat_lt 1 harts
+lacks_harts EightHarts harts = false
+
 -- the image is refused where its bytes have a fault, then the graph, then the script, each at its first line that fails; without
 -- a script none is refused. A script for several harts is refused last, where the image is for one
 abbrev pub IsLaunchFault : List ℕ → List ℕ → Option (List ℕ) → LaunchFault → Type 0
@@ -34,7 +41,7 @@ IsLaunchFault image graph script (Script line reason) =
 IsLaunchFault image graph script (Harts count) =
     ((parts : GraphParts) × AreRead image graph parts)
     × ((read : ScriptParts) × (script_given script ≡ Ok read) × (read.harts ≡ count))
-    × (1 < count) × (version_in image ≡ 1)
+    × (1 < count) × (version_in image ≡ OneHart)
 
 -- why there is no run; only want of memory is free
 abbrev pub IsLaunchEnd : List ℕ → List ℕ → Option (List ℕ) → LaunchEnd → Type 0

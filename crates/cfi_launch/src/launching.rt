@@ -1,15 +1,15 @@
-ghost use Rattle.std.specs.Prelude.{◌≡◌, ◌==◌, ◌&&◌, Ok, IfOk, IfErr, nat_lt, option_map};
+ghost use Rattle.std.specs.Prelude.{◌≡◌, Ok, IfOk, IfErr, option_map};
 ghost use Rattle.rv_word.specs.Image.{image_profile};
 ghost use Rattle.rv_word.specs.MemoryMap.{MayRun};
 ghost use Rattle.text_lines.specs.Answers.{Answers};
 ghost use Rattle.cfi_pair.specs.Spelled.{Spell};
-ghost use Rattle.cfi_launch.specs.Launch.{IsComplete, IsLaunchEnd, IsLaunchOf, IsLaunchOfPair, script_given};
+ghost use Rattle.cfi_launch.specs.Launch.{IsComplete, IsLaunchEnd, IsLaunchOf, IsLaunchOfPair, lacks_harts, script_given};
 
 use cfi_pair::{Pair, PairEnd, PairFault, open_pair};
 use cfi_script::Script;
 use cfi_step::{RunReport, run};
 use cfi_verify::{Reject, VerifyEnd, verify};
-use rv_word::{Image, NoMemory};
+use rv_word::{Image, ImageVersion, NoMemory};
 use std::alloc::Global;
 use text_lines::{Reason, TextEnd};
 
@@ -19,7 +19,7 @@ pub enum Launched {
     /// It breaks a rule: the first that fails, at its least address.
     Rejected(Reject),
     /// The version of the image, and the report of its run.
-    Ran(u8, RunReport),
+    Ran(ImageVersion, RunReport),
 }
 
 /// Why texts are not run: the first of them that is not what it should be.
@@ -54,9 +54,12 @@ fn script_of(alloc: Global, text: Option<&[u8]>) -> Result<Script, TextEnd>
 
 /// Whether a script is for several harts, and an image for one.
 fn lacks_harts(image: &Image<'_>, script: &Script) -> bool
-    ensures { result ≡ (image.now.version == 1) && nat_lt 1 script.now.harts }
+    ensures { result ≡ lacks_harts image.now.version script.now.harts }
 {
-    image.version() == 1 && script.harts() > 1
+    match image.version() {
+        ImageVersion::OneHart => script.harts() > 1,
+        ImageVersion::EightHarts => false,
+    }
 }
 
 /// The image, the graph and the script that texts spell, whose harts the image may have.

@@ -43,7 +43,7 @@ gate_to layout (Some k) = gate layout k
 
 -- the lines of classes, each with its label
 unfoldable pub class_lines : List ℕ → List ℕ → List Tagged → List GraphLine
-class_lines gates (label ∷ labels) (t ∷ ts) = Class t.sort label (map (slice_index gates) t.class) ∷ class_lines gates labels ts
+class_lines gates (label ∷ labels) (t ∷ ts) = line.Class t.sort label (map (slice_index gates) t.class) ∷ class_lines gates labels ts
 class_lines gates labels ts = []
 
 abbrev pub line_of_kind : ItemKind → ℕ → ℕ → ℕ → Option GraphLine

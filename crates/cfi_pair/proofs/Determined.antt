@@ -21,7 +21,7 @@ use Rattle.cfi_pair.proofs.OneImage.{one_image, spelled_image}
 
 module _ (image_bytes graph_bytes : List ℕ) (image : Contents) (graph : GraphParts) (spell : Spell image_bytes graph_bytes image graph) where
   pub no_fault : fault_of image_bytes ≡ None
-  no_fault = reads_none image_bytes image.version image.code image.init spell.version spell.size spell.image_is
+  no_fault = reads_none image_bytes image.version image.code image.init spell.size spell.image_is
 
   pub own : IsImage image_bytes image
   own = spelled_image image_bytes graph_bytes image graph spell

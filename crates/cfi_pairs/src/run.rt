@@ -10,7 +10,7 @@ use cfi_launch::{LaunchEnd, Launched, launch};
 use cfi_report::{end_status, report_text};
 use cfi_step::RunReport;
 use cfi_verify::Reject;
-use rv_word::NoMemory;
+use rv_word::{ImageVersion, NoMemory};
 use std::alloc::Global;
 use tool_common::{Refusal, Stop, file_word, line, read_all, status, steps, text_named};
 use tool_io::Files;
@@ -51,7 +51,7 @@ pub enum RunOutcome {
     /// The image breaks a rule: the first that fails.
     Rejected(Reject),
     /// The version of the image, and the report.
-    Ran(u8, RunReport),
+    Ran(ImageVersion, RunReport),
 }
 
 impl RunOutcome {

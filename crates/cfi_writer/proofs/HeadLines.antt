@@ -1,6 +1,6 @@
 -- The line of system calls before those of classes: what is asked of classes is asked behind it, and it tells the list.
 use Rattle.std.proofs.Common.{◌≡◌, ℕ, zero, suc, true, List, [], ◌∷◌, ◌++◌, Option, Some, None, map, refl, ap}
-use Rattle.std.specs.Prelude.{option_and_then, slice_get, slice_index, nat_lt}
+use Rattle.std.specs.Prelude.{option_and_then, slice_get, nat_lt}
 use Rattle.std.specs.List.{list_all}
 use Rattle.std.proofs.lemmas.Bool.{and_from, and_parts}
 use Rattle.rv_word.specs.declared.version.GraphVersion.{GraphVersion}
@@ -9,8 +9,6 @@ use Rattle.cfi_graph.specs.declared.line.GraphLine.{GraphLine}
 use Rattle.cfi_graph.specs.declared.line.GraphLine.TheVariants.{Calls, Class}
 use Rattle.cfi_graph.specs.declared.line.Key.TheVariants.{Head}
 use Rattle.cfi_graph.specs.declared.line.SiteKind.{SiteKind}
-use Rattle.cfi_graph.specs.declared.line.Sort.{Sort}
-use Rattle.cfi_graph.specs.declared.line.Sort.TheVariants as sorts
 use Rattle.cfi_graph.specs.Graph.{ClassLine, IsGraph, are_calls, calls_in, class_in, is_class, is_rising, key_below, key_of, line_in_range, targets_rise}
 use Rattle.cfi_map.specs.GraphAtMap.{call_lines, class_lines}
 use Rattle.cfi_map.specs.LabelOf.{Tagged, tagged}
@@ -67,17 +65,12 @@ heads_all m =
     call_heads m.layout.closed.calls (written_classes m) (classes_head (written_classes m) (all_classes_lines m.layout.gates m.labels (tagged m.layout.closed.sides)))
 
 -- the list is told by the first line alone
-sort_tells : (sort : Sort) (label : ℕ) (targets : List ℕ) (lines : List GraphLine) → calls_in (Class sort label targets ∷ lines) ≡ None
-sort_tells sorts.Both label targets lines = refl
-sort_tells sorts.Calls label targets lines = refl
-sort_tells sorts.Jumps label targets lines = refl
-
 classes_tell : (gates labels : List ℕ) (ts : List Tagged) → calls_in (class_lines gates labels ts) ≡ None
 unfolding class_lines
 classes_tell gates [] [] = refl
 classes_tell gates (l ∷ labels) [] = refl
 classes_tell gates [] (t ∷ ts) = refl
-classes_tell gates (l ∷ labels) (t ∷ ts) = sort_tells t.sort l (map (slice_index gates) t.class) (class_lines gates labels ts)
+classes_tell gates (l ∷ labels) (t ∷ ts) = refl
 
 call_told : (calls : Option (List ℕ)) (lines : List GraphLine) → calls_in lines ≡ None → calls_in (call_lines calls ++ lines) ≡ calls
 call_told None lines none = none
@@ -103,7 +96,6 @@ call_graph None version size lines may all graph = graph
 call_graph (Some numbers) version size lines may all graph =
     let parts = and_parts (are_calls numbers) (is_rising nat_lt numbers) may in
     record {
-      version = graph.version;
       sorts = graph.sorts;
       length = graph.length;
       range = and_from (are_calls numbers) (list_all (line_in_range size) lines) parts.0 graph.range;

@@ -3,6 +3,7 @@
 -- instructions and the sizes of units.
 use Rattle.std.proofs.Common.{◌≡◌, ℕ, true, false, List, [], ◌∷◌, ◌++◌, Some, None, length, take, drop, pos, refl}
 use Rattle.std.specs.Prelude.{Option, slice_get}
+use Rattle.rv_word.specs.declared.version.GraphVersion.TheVariants.{OneLabel, TwoLabels}
 use Rattle.rv_word.specs.MemoryMap.{Profile, UNITS_START, version_1, version_2}
 use Rattle.rv_code.specs.Decode.{decoded}
 use Rattle.rv_code.specs.Encode.{code_of}
@@ -46,7 +47,7 @@ abbrev pub layout : Profile → Program → List ℕ → ProgramAtMap
 layout profile program gates = record {
   profile = profile;
   program = program;
-  closed = record { version = 1; sides = record { sort = Both; classes = []; sites = [] } ∷ []; taken = false ∷ false ∷ false ∷ false ∷ []; calls = None };
+  closed = record { version = OneLabel; sides = record { sort = Both; classes = []; sites = [] } ∷ []; taken = false ∷ false ∷ false ∷ false ∷ []; calls = None };
   gates = gates;
   entry = 0;
 }
@@ -152,7 +153,7 @@ pointer = record {
       funcs = [];
       names = [];
     };
-    closed = record { version = 1; sides = record { sort = Both; classes = (8 ∷ 10 ∷ []) ∷ []; sites = record { place = 4; class = Some 0 } ∷ [] } ∷ []; taken = []; calls = None };
+    closed = record { version = OneLabel; sides = record { sort = Both; classes = (8 ∷ 10 ∷ []) ∷ []; sites = record { place = 4; class = Some 0 } ∷ [] } ∷ []; taken = []; calls = None };
     gates = 0x40000040 ∷ 0x40000044 ∷ 0x40000054 ∷ 0x40000058 ∷ 0x4000005c ∷ 0x400000ac ∷ 0x400000b0 ∷ 0x400000b4 ∷ 0x400000c8 ∷ 0x400000d0 ∷ 0x400000e4 ∷ 0x400000ec ∷ 0x40000100 ∷ [];
     entry = 0;
   };
@@ -190,7 +191,7 @@ jumping = record {
     names = [];
   };
   closed = record {
-    version = 2;
+    version = TwoLabels;
     sides =
         record { sort = Calls; classes = (5 ∷ []) ∷ []; sites = record { place = 7; class = Some 0 } ∷ [] }
         ∷ record { sort = Jumps; classes = (3 ∷ 5 ∷ []) ∷ []; sites = record { place = 2; class = Some 0 } ∷ [] }

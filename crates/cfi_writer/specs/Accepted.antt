@@ -50,9 +50,8 @@ pub record IsAccepted (m : Choice) : Type 0 where
       is_some (instr_at m.layout.program m.layout.gates (words_at m.layout) k) ≡ true
   -- a list of system calls is one that a graph may have
   pub calls : may_be_calls m.layout.closed.calls ≡ true
-  -- its closed graph is for a version of graphs, and has the sides of that; of each the members of classes are places, rise, and are in one class alone, and
+  -- its closed graph has the sides of its version; of each the members of classes are places, rise, and are in one class alone, and
   -- the classes of sites are there; each computed transfer is a site of one side, of its sort
-  pub version : IsVersion m.layout.closed.version
   pub sorts : map (λ (s : Side). s.sort) m.layout.closed.sides ≡ sorts_of m.layout.closed.version
   pub members : (j c k : ℕ) (side : Side) → slice_get m.layout.closed.sides j ≡ Some side → IsIn side.classes c k → k < count m.layout.program
   pub rising : (j : ℕ) (side : Side) → slice_get m.layout.closed.sides j ≡ Some side → All IsStrictlyIncreasing side.classes

@@ -16,8 +16,8 @@ pub record AreThere (bytes code init : List ℕ) : Type 0 where
 
 pub are_there : (bytes : List ℕ) (v : ImageVersion) (code init : List ℕ) → IsImageSize (length code) (length init) → bytes ≡ spelling v code init
     → AreThere bytes code init
-are_there bytes v code init known size e =
-    let r = read_as v code init known size in
+are_there bytes v code init size e =
+    let r = read_as v code init size in
     let file = spelling v code init in
     let ends : length file ≡ data_start (length code) + length init = r.sound.end in
     let at : length file - length init ≡ data_start (length code) = omega arith in

@@ -2,6 +2,7 @@
 
 ghost use Rattle.std.specs.Prelude.{◌≡◌, ℕ, List, [], IfOk, Ok, Some, codes};
 ghost use Rattle.rv_word.specs.Image.{image_profile};
+ghost use Rattle.rv_word.specs.declared.version.ImageVersion.TheVariants.{OneHart};
 ghost use Rattle.cfi_rules.specs.Rules.{IsWellFormed};
 ghost use Rattle.cfi_flow.specs.Entry.{entry_place};
 ghost use Rattle.cfi_harden.specs.Given.{alone};
@@ -84,9 +85,9 @@ pub(crate) fn made(alloc: Global, prepared: &Prepared<'_, '_>) -> Result<Hardene
 
 /// The image for one hart that a file spells.
 pub(crate) fn image_in(bytes: &[u8]) -> Image<'_>
-    requires { IsSpelled 1 bytes.now }
+    requires { IsSpelled OneHart bytes.now }
     ensures only { IsImageIn bytes.now result }
-    ensures version { result.version ≡ 1 }
+    ensures version { result.version ≡ OneHart }
 {
     match read_image(bytes) {
         Ok(image) => image,
