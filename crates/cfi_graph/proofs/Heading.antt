@@ -1,14 +1,14 @@
 -- The first two lines of a text.
 use Rattle.std.proofs.Common.{◌≡◌, ℕ, true, false, List, [], ◌∷◌, ◌++◌, Option, Some, None, Ok, Err, refl, sym, subst, ◌∙◌, ap}
 use Rattle.rv_word.specs.declared.version.GraphVersion.{GraphVersion}
+use Rattle.rv_word.specs.declared.end.End.{End}
 use Rattle.text_lines.specs.declared.reason.Reason.TheVariants.{Form, Range}
-use Rattle.text_lines.specs.declared.end.TextEnd.TheVariants.{Line}
 use Rattle.text_lines.specs.Lines.{lines_of, words_of}
 use Rattle.text_lines.specs.Reading.{Reading, read, whole}
-use Rattle.text_lines.specs.Answers.{Answers}
-use Rattle.text_lines.specs.declared.end.TextEnd.{TextEnd}
+use Rattle.text_lines.specs.Answers.{Answers, line_fault}
 use Rattle.text_lines.proofs.Steps.{some_line}
 use Rattle.text_lines.proofs.Whole.{ends_whole, lines_whole}
+use Rattle.text_lines.specs.declared.fault.LineFault.{LineFault}
 use Rattle.cfi_graph.specs.declared.line.GraphLine.{GraphLine}
 use Rattle.cfi_graph.specs.declared.line.Key.{Key}
 use Rattle.cfi_graph.specs.Calls.{line_after}
@@ -17,15 +17,15 @@ use Rattle.cfi_graph.specs.Lines.{length_of}
 use Rattle.cfi_graph.specs.Reading.{after_first, calls_key, calls_lines, graph_rules, with_code, with_lines}
 
 module _ (version : GraphVersion) {parts : List (List ℕ)} {line : List ℕ} where
-  pub second_alone : parts ≡ line ∷ [] → after_first version parts ≡ Err (Line 2 Form)
+  pub second_alone : parts ≡ line ∷ [] → after_first version parts ≡ Err (line_fault 2 Form)
   unfolding after_first
   second_alone p = rw p refl
 
-  pub second_form : (rest : List ℕ) → parts ≡ line ∷ lines_of rest → length_of (words_of line) ≡ None → after_first version parts ≡ Err (Line 2 Form)
+  pub second_form : (rest : List ℕ) → parts ≡ line ∷ lines_of rest → length_of (words_of line) ≡ None → after_first version parts ≡ Err (line_fault 2 Form)
   unfolding after_first
   second_form rest p e = some_line rest (λ part others q. rw (p, q, e) refl)
 
-  pub second_range : (rest : List ℕ) (len : ℕ) → parts ≡ line ∷ lines_of rest → length_of (words_of line) ≡ Some len → is_code_length len ≡ false → after_first version parts ≡ Err (Line 2 Range)
+  pub second_range : (rest : List ℕ) (len : ℕ) → parts ≡ line ∷ lines_of rest → length_of (words_of line) ≡ Some len → is_code_length len ≡ false → after_first version parts ≡ Err (line_fault 2 Range)
   unfolding after_first
   second_range rest len p e r = some_line rest (λ part others q. rw (p, q, e, r) refl)
 
@@ -57,5 +57,5 @@ module _ (version : GraphVersion) (len : ℕ) (calls : Option (List ℕ)) (parts
       are = are ∙ ap (λ xs. xs ++ (read (graph_rules v l) before first parts).items) front_is ∙ ap (λ (x : Reading GraphLine). calls_lines calls ++ x.items) same;
     }
 
-    pub lines_end : (end : TextEnd) → Answers {A = Unit {0}} (Err end) (read (graph_rules v l) before first parts).end → Answers {A = GraphParts} (Err end) (with_lines version len calls parts)
+    pub lines_end : (end : End LineFault) → Answers {A = Unit {0}} (Err end) (read (graph_rules v l) before first parts).end → Answers {A = GraphParts} (Err end) (with_lines version len calls parts)
     lines_end end wrong = ends_whole reading _ end (subst (λ (x : Reading GraphLine). Answers {A = Unit {0}} (Err end) x.end) same wrong)

@@ -4,15 +4,16 @@ use Rattle.std.specs.List.{join_with_byte, list_all}
 use Rattle.std.proofs.lemmas.Bool.{and_from, and_parts}
 use Rattle.std.proofs.lemmas.List.Splits.{join_with_byte-slice_split}
 use Rattle.rv_word.specs.declared.version.GraphVersion.{GraphVersion}
+use Rattle.rv_word.specs.declared.end.End.{End}
 use Rattle.cfi_graph.specs.declared.line.GraphLine.{GraphLine}
 use Rattle.cfi_graph.specs.declared.line.Key.{Key}
-use Rattle.text_lines.specs.declared.end.TextEnd.{TextEnd}
 use Rattle.text_lines.specs.Hex.{hex_text}
 use Rattle.text_lines.specs.Lines.{lines_of, spaced, words_of}
 use Rattle.text_lines.specs.Reading.{if_right, one_named, read, whole}
 use Rattle.text_lines.proofs.Accepts.{Accepts, end_only, if_ok, line_first}
 use Rattle.text_lines.proofs.Whole.{one_named_ok, whole_accepts}
 use Rattle.text_lines.proofs.Written.{join_newlines}
+use Rattle.text_lines.specs.declared.fault.LineFault.{LineFault}
 use Rattle.cfi_graph.specs.Calls.{Listed, calls_of, judged_calls, line_after, may_be_calls}
 use Rattle.cfi_graph.specs.Graph.{GraphParts, IsGraph, are_calls, class_in, fits_version, is_code_length, is_rising, key_below, key_of, line_in_range, targets_rise}
 use Rattle.cfi_graph.specs.Lines.{length_of}
@@ -106,7 +107,7 @@ valid version len calls parts lines length may e =
     accepted version len calls length may (whole_accepts (graph_rules version len) (calls_key calls) (line_after 3 calls) parts lines e)
 
 -- what is read is of the version, the length and the lines that were told
-with_front_ok : (version : GraphVersion) (len : ℕ) (front : List GraphLine) (lines : Result (List GraphLine) TextEnd) (graph : GraphParts) → if_right lines (λ read. Ok (record { version = version; code = len; lines = front ++ read })) ≡ Ok graph → (read : List GraphLine) × (lines ≡ Ok read) × (record { version = version; code = len; lines = front ++ read } ≡ graph)
+with_front_ok : (version : GraphVersion) (len : ℕ) (front : List GraphLine) (lines : Result (List GraphLine) (End LineFault)) (graph : GraphParts) → if_right lines (λ read. Ok (record { version = version; code = len; lines = front ++ read })) ≡ Ok graph → (read : List GraphLine) × (lines ≡ Ok read) × (record { version = version; code = len; lines = front ++ read } ≡ graph)
 with_front_ok version len front (Ok lines) graph e =
     let same : record { version = version; code = len; lines = front ++ lines } ≡ graph = cc in
     (lines, refl, same)
@@ -124,10 +125,10 @@ pub record Third (parts : List (List ℕ)) (told : Listed) : Type 0 where
 same_Ok : {A E : Type 0} (x y : A) → ◌≡◌ {A = Result A E} (Ok x) (Ok y) → x ≡ y
 same_Ok x y e = cc
 
-third_none : (parts : List (List ℕ)) (told : Listed) → ◌≡◌ {A = Result Listed TextEnd} (Ok (record { calls = None; lines = parts })) (Ok told) → Third parts told
+third_none : (parts : List (List ℕ)) (told : Listed) → ◌≡◌ {A = Result Listed (End LineFault)} (Ok (record { calls = None; lines = parts })) (Ok told) → Third parts told
 third_none parts told e = subst (Third parts) (same_Ok (record { calls = None; lines = parts }) told e) (record { may = refl; are = refl })
 
-third_some : (line : List ℕ) (rest : List (List ℕ)) (numbers : List ℕ) (found : Result (List ℕ) TextEnd) (told : Listed) → calls_of (words_of line) ≡ Some numbers → judged_calls 3 (Some numbers) ≡ found → if_right found (λ calls. Ok (record { calls = Some calls; lines = rest })) ≡ Ok told → Third (line ∷ rest) told
+third_some : (line : List ℕ) (rest : List (List ℕ)) (numbers : List ℕ) (found : Result (List ℕ) (End LineFault)) (told : Listed) → calls_of (words_of line) ≡ Some numbers → judged_calls 3 (Some numbers) ≡ found → if_right found (λ calls. Ok (record { calls = Some calls; lines = rest })) ≡ Ok told → Third (line ∷ rest) told
 third_some line rest numbers (Err fault) told is j e = absurd cc
 third_some line rest numbers (Ok calls) told is j e =
     let list = judged_list 3 line calls (ap (judged_calls 3) is ∙ j) in
@@ -149,7 +150,7 @@ with_list : (calls : Option (List ℕ)) (lines : List GraphLine) → list_lines 
 with_list None lines = refl
 with_list (Some calls) lines = refl
 
-with_code_ok : (version : GraphVersion) (len : ℕ) (second : List ℕ) (parts : List (List ℕ)) (found : Result Listed TextEnd) (graph : GraphParts) → is_code_length len ≡ true → second ≡ spaced (codes "code" ∷ codes "40000000" ∷ hex_text 8 len ∷ []) → third_line parts ≡ found → if_right found (λ told. with_lines version len told.calls told.lines) ≡ Ok graph → (GivesAfter (second ∷ parts) graph) × (graph.version ≡ version)
+with_code_ok : (version : GraphVersion) (len : ℕ) (second : List ℕ) (parts : List (List ℕ)) (found : Result Listed (End LineFault)) (graph : GraphParts) → is_code_length len ≡ true → second ≡ spaced (codes "code" ∷ codes "40000000" ∷ hex_text 8 len ∷ []) → third_line parts ≡ found → if_right found (λ told. with_lines version len told.calls told.lines) ≡ Ok graph → (GivesAfter (second ∷ parts) graph) × (graph.version ≡ version)
 with_code_ok version len second parts (Err fault) graph length is third e = absurd cc
 with_code_ok version len second parts (Ok told) graph length is third e =
     let list = third_ok parts told third in

@@ -6,9 +6,9 @@ ghost use Rattle.cfi_pair.specs.Spelled.{Spell};
 
 use cfi_graph::{Graph, read_graph};
 use elf_image::{ImageRefusal, read_image};
-use rv_word::Image;
+use rv_word::{End, Image};
 use std::alloc::Global;
-use text_lines::{Reason, TextEnd};
+use text_lines::{LineFault, Reason};
 
 /// An image and its graph.
 #[derive(Drop)]
@@ -49,7 +49,9 @@ pub fn open_pair<'a>(alloc: Global, image: &'a [u8], graph: &[u8]) -> Result<Pai
     let _code = image.code();
     match read_graph(alloc, graph) {
         Ok(graph) => Ok(Pair { image, graph }),
-        Err(TextEnd::Line(line, reason)) => Err(PairEnd::Fault(PairFault::Graph(line, reason))),
-        Err(TextEnd::NoMemory) => Err(PairEnd::NoMemory),
+        Err(End::Fault(LineFault(line, reason))) => {
+            Err(PairEnd::Fault(PairFault::Graph(line, reason)))
+        }
+        Err(End::NoMemory) => Err(PairEnd::NoMemory),
     }
 }
