@@ -32,7 +32,7 @@ use Rattle.cfi_rules.specs.declared.asks.Asks.{Asks}
 use Rattle.cfi_rules.specs.declared.reject.Rule.TheVariants as R
 use Rattle.cfi_rules.proofs.Find.{UnitHere, no_unit}
 use Rattle.cfi_rules.proofs.LineOrder.{line_at-with, with_key}
-use Rattle.cfi_rules.proofs.Moves.{class_parts}
+use Rattle.cfi_rules.proofs.Leading.{class_parts}
 use Rattle.cfi_rules.proofs.Places.{place_facts}
 use Rattle.cfi_rules.proofs.RuleFacts.{not_false}
 use Rattle.cfi_rules.proofs.Served.{served}
@@ -167,7 +167,7 @@ module _ (p : Profile) (profile : IsProfile p) (image : Contents) (graph : Graph
         let rule = (sites_listed a).0 in
         let both = not_false (is_site_with (line_at graph.lines a) asked && is_some (targets_for graph.lines asked.kind asked.which asked.label)) (rw (here, site) at rule) in
         let (line_a, there_a, at, is) = listed_by graph.lines a (λ o. is_site_with o asked) refl (and_parts _ _ both).0 in
-        let (ts, class, among) = class_parts p profile image graph bytes formed asked.kind asked.which asked.label v inside in
+        let (ts, class, among) = class_parts graph.lines asked.kind asked.which asked.label v inside in
         let s = served graph.lines asked.kind asked.which asked.label ts class in
         let there = class_found graph.lines asked.label s.class s.is in
         let line : Contains graph.lines (Class s.class.sort asked.label ts) =

@@ -16,15 +16,15 @@ use Rattle.cfi_unit.specs.declared.unit.Unit as U
 use Rattle.cfi_unit.specs.declared.unit.Unit.TheVariants as V
 use Rattle.cfi_unit.specs.declared.unit.SystemOp.TheVariants as S
 use Rattle.cfi_unit.specs.declared.place.Place.TheVariants.{Body as body}
+use Rattle.cfi_unit.specs.Leads.{Leads}
 use Rattle.cfi_unit.specs.Recognise.{read_each, recognised}
 use Rattle.cfi_unit.specs.UnitWords.{BAD_TARGET, words_of}
-use Rattle.cfi_rules.specs.Along.{Chooses, Walk}
 use Rattle.cfi_rules.specs.Lines.{class_with, line_at, targets_for}
 use Rattle.cfi_rules.specs.Placed.{AllAhead, AllFit, code_from, lines_from, placed_lines}
 use Rattle.cfi_rules.specs.Rules.{admits}
 use Rattle.cfi_rules.specs.Sound.{IsSound}
 use Rattle.cfi_rules.specs.Split.{is_start, starts, unit_at, unit_in}
-use Rattle.cfi_rules.specs.Walk.{UnitGoes}
+use Rattle.cfi_rules.specs.Walk.{UnitGoes, by_class}
 use Rattle.cfi_rules.specs.declared.reject.Rule.TheVariants as R
 use Rattle.cfi_rules.proofs.ApartRows.{fails_of}
 use Rattle.cfi_rules.proofs.PlacedRows.{all_from, sound_by}
@@ -106,22 +106,22 @@ unfolding line_at lines_from
 no_address = refl
 
 -- with a number of the list the walk goes on behind the unit, with any other to the handler
-abbrev with_64 : Walk
-with_64 = record { at = 0x40000044; pending = []; regs = λ k. 64 }
+abbrev Leads_64 : List ℕ → ℕ → Type 0
+Leads_64 numbers v = Leads version_1 (by_class []) (body (V.Guarded numbers)) 0x40000044 [] (λ k. 64) [] v
 
-goes_on : Chooses [] (body (V.Guarded (63 ∷ 64 ∷ []))) with_64 0x4000005c
-goes_on = inl (refl, refl)
+goes_on : Leads_64 (63 ∷ 64 ∷ []) 0x4000005c
+goes_on = inl (refl, (refl, refl))
 
-goes_on_alone : Chooses [] (body (V.Guarded (63 ∷ 64 ∷ []))) with_64 BAD_TARGET → ⊥
-goes_on_alone (inl on) = let v : BAD_TARGET ≡ 0x4000005c = on.1 in absurd (omega arith)
+goes_on_alone : Leads_64 (63 ∷ 64 ∷ []) BAD_TARGET → ⊥
+goes_on_alone (inl on) = let v : BAD_TARGET ≡ 0x4000005c = on.1.1 in absurd (omega arith)
 goes_on_alone (inr halted) = false≢true (sym halted.0)
 
-halts : Chooses [] (body (V.Guarded (63 ∷ []))) with_64 BAD_TARGET
-halts = inr (refl, refl)
+halts : Leads_64 (63 ∷ []) BAD_TARGET
+halts = inr (refl, (refl, refl))
 
-halts_alone : Chooses [] (body (V.Guarded (63 ∷ []))) with_64 0x40000054 → ⊥
+halts_alone : Leads_64 (63 ∷ []) 0x40000054 → ⊥
 halts_alone (inl on) = false≢true on.0
-halts_alone (inr halted) = let v : 0x40000054 ≡ BAD_TARGET = halted.1 in absurd (omega arith)
+halts_alone (inr halted) = let v : 0x40000054 ≡ BAD_TARGET = halted.1.1 in absurd (omega arith)
 
 -- the walk has no third step
 two_ways : (v : ℕ) (after : List ℕ) → UnitGoes [] (V.Guarded (64 ∷ [])) 0x40000044 [] v after → (v ≡ 0x40000054) ⊎ (v ≡ BAD_TARGET)

@@ -76,7 +76,10 @@ fn program<'a>(
 }
 
 /// The program that objects are, if there is one.
-pub(crate) fn finished<'a>(alloc: Global, objects: &[Object<'a>]) -> Result<Items<'a>, End<JoinFault<'a>>>
+pub(crate) fn finished<'a>(
+    alloc: Global,
+    objects: &[Object<'a>],
+) -> Result<Items<'a>, End<JoinFault<'a>>>
     requires { sum_by e_shnum objects.now ≤ 2 ^ 16 }
     ensures { IsFinished objects.now result }
 {
