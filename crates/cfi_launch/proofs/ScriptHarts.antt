@@ -7,11 +7,12 @@ use Rattle.rv_word.specs.MemoryMap.{MayRun, profile_of}
 use Rattle.rv_word.specs.declared.profile.TheConstants.{MOST_HARTS}
 use Rattle.rv_word.proofs.Cases.{chosen}
 use Rattle.rv_word.proofs.Versions.{is_profile, laid_out}
+use Rattle.rv_word.specs.declared.end.End.{End}
 use Rattle.text_lines.specs.Lines.{lines_of, words_of}
 use Rattle.text_lines.specs.Reading.{if_right, one_named}
-use Rattle.text_lines.specs.declared.end.TextEnd.{TextEnd}
-use Rattle.text_lines.specs.declared.end.TextEnd.TheVariants.{Line}
 use Rattle.text_lines.specs.declared.reason.Reason.TheVariants.{Range}
+use Rattle.text_lines.specs.declared.fault.LineFault.{LineFault}
+use Rattle.text_lines.specs.Answers.{line_fault}
 use Rattle.cfi_script.specs.Script.{Changes, ScriptParts}
 use Rattle.cfi_script.specs.ScriptText.{changes_of_lines, for_one, for_several, harts_of, script_names, script_of, turns_read, with_count, with_harts}
 use Rattle.cfi_launch.specs.SafeRun.{undisturbed_script}
@@ -37,7 +38,7 @@ for_one_alone OneHart harts test = (refl, ltb-true 1 harts test)
 for_one_alone EightHarts harts test = absurd (cc)
 
 -- what comes after a step that was right
-then_right : {A C : Type 0} (step : Result A TextEnd) (next : A → Result C TextEnd) (y : C) → if_right step next ≡ Ok y → (x : A) × (step ≡ Ok x) × (next x ≡ Ok y)
+then_right : {A C : Type 0} (step : Result A (End LineFault)) (next : A → Result C (End LineFault)) (y : C) → if_right step next ≡ Ok y → (x : A) × (step ≡ Ok x) × (next x ≡ Ok y)
 then_right (Ok x) next y e = (x, refl, e)
 then_right (Err end) next y e = absurd (cc)
 
@@ -60,7 +61,7 @@ module _ (script : ScriptParts) where
 
   counted : (count : Option ℕ) (lines : List (List ℕ)) → with_count count lines ≡ Ok script → IsCount script.harts
   counted None lines e = absurd (cc)
-  counted (Some harts) lines e = elim (chosen (nat_le 1 harts && nat_le harts MOST_HARTS) (with_harts harts lines) (Err (Line 2 Range)) (Ok script) e) [
+  counted (Some harts) lines e = elim (chosen (nat_le 1 harts && nat_le harts MOST_HARTS) (with_harts harts lines) (Err (line_fault 2 Range)) (Ok script) e) [
     | inl (test, is) ↦
         let parts = and_parts (nat_le 1 harts) (nat_le harts MOST_HARTS) test in
         is_of harts (record { some = leb-true 1 harts parts.0; most = leb-true harts MOST_HARTS parts.1 }) (harts_told harts lines is)

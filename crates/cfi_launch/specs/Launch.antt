@@ -4,13 +4,14 @@ use Rattle.rv_word.specs.Image.{Contents, image_profile}
 use Rattle.rv_word.specs.MemoryMap.{MayRun}
 use Rattle.rv_word.specs.declared.version.ImageVersion.{ImageVersion}
 use Rattle.rv_word.specs.declared.version.ImageVersion.TheVariants.{OneHart, EightHarts}
+use Rattle.rv_word.specs.declared.end.End.{End}
+use Rattle.text_lines.specs.declared.fault.LineFault.{LineFault}
+use Rattle.text_lines.specs.Answers.{line_fault}
 use Rattle.elf_image.specs.Fault.{version_in}
 use Rattle.cfi_graph.specs.Graph.{GraphParts}
 use Rattle.cfi_rules.specs.Rules.{IsRejected, IsWellFormed}
 use Rattle.cfi_script.specs.Script.{ScriptParts}
 use Rattle.cfi_script.specs.ScriptText.{script_of}
-use Rattle.text_lines.specs.declared.end.TextEnd.{TextEnd}
-use Rattle.text_lines.specs.declared.end.TextEnd.TheVariants.{Line}
 use Rattle.cfi_step.specs.declared.report.RunReport.{RunReport}
 use Rattle.cfi_pair.specs.Opening.{AreRead, IsPairFault}
 use Rattle.cfi_pair.specs.Spelled.{Spell}
@@ -23,7 +24,7 @@ use Rattle.cfi_launch.specs.declared.launching.Launched.{Launched}
 use Rattle.cfi_launch.specs.declared.launching.Launched.TheVariants.{Rejected, Ran}
 
 -- the script that a text spells; without one a single hart runs, undisturbed
-abbrev pub script_given : Option (List ℕ) → Result ScriptParts TextEnd
+abbrev pub script_given : Option (List ℕ) → Result ScriptParts (End LineFault)
 script_given None = Ok undisturbed_script
 script_given (Some text) = script_of text
 
@@ -37,7 +38,7 @@ lacks_harts EightHarts harts = false
 abbrev pub IsLaunchFault : List ℕ → List ℕ → Option (List ℕ) → LaunchFault → Type 0
 IsLaunchFault image graph script (Pair fault) = IsPairFault image graph fault
 IsLaunchFault image graph script (Script line reason) =
-    ((parts : GraphParts) × AreRead image graph parts) × (script_given script ≡ Err (Line line reason))
+    ((parts : GraphParts) × AreRead image graph parts) × (script_given script ≡ Err (line_fault line reason))
 IsLaunchFault image graph script (Harts count) =
     ((parts : GraphParts) × AreRead image graph parts)
     × ((read : ScriptParts) × (script_given script ≡ Ok read) × (read.harts ≡ count))

@@ -9,9 +9,9 @@ use cfi_pair::{Pair, PairEnd, PairFault, open_pair};
 use cfi_script::Script;
 use cfi_step::{RunReport, run};
 use cfi_verify::{Reject, VerifyEnd, verify};
-use rv_word::{Image, ImageVersion, NoMemory};
+use rv_word::{End, Image, ImageVersion, NoMemory};
 use std::alloc::Global;
-use text_lines::{Reason, TextEnd};
+use text_lines::{LineFault, Reason};
 
 /// What a pair that was read comes to.
 #[derive(Drop)]
@@ -43,7 +43,7 @@ pub enum LaunchEnd {
 }
 
 /// The script that a text spells; without a text one hart runs, undisturbed.
-fn script_of(alloc: Global, text: Option<&[u8]>) -> Result<Script, TextEnd>
+fn script_of(alloc: Global, text: Option<&[u8]>) -> Result<Script, End<LineFault>>
     ensures { Answers result (script_given (option_map (λ t. t.now) text.entry)) }
 {
     match text {
@@ -81,10 +81,10 @@ fn open_all<'a>(
     };
     let script = match script_of(alloc, script) {
         Ok(script) => script,
-        Err(TextEnd::Line(line, reason)) => {
+        Err(End::Fault(LineFault(line, reason))) => {
             return Err(LaunchEnd::Fault(LaunchFault::Script(line, reason)));
         }
-        Err(TextEnd::NoMemory) => return Err(LaunchEnd::NoMemory),
+        Err(End::NoMemory) => return Err(LaunchEnd::NoMemory),
     };
     if lacks_harts(&pair.image, &script) {
         return Err(LaunchEnd::Fault(LaunchFault::Harts(script.harts())));
