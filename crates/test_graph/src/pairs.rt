@@ -14,7 +14,13 @@ use std::alloc::Global;
 
 /// The version of an image, its units, the graph, words that are put by their offsets in the code, and the rule that fails with its
 /// address; no text where the pair is accepted.
-struct Pair(ImageVersion, &'static [u32], &'static [u8], Words, &'static str);
+struct Pair(
+    ImageVersion,
+    &'static [u32],
+    &'static [u8],
+    Words,
+    &'static str,
+);
 
 /// `A`, `P` and `JUMP` with graphs of version 2, of which the last is none of its code's.
 const A_APART_GRAPH: &[u8] =

@@ -218,7 +218,13 @@ fn has_prologue(listing: &Listing) -> bool {
 }
 
 /// Whether the code of a version's image is listed as its units are, in pieces of a size.
-fn is_right_under(alloc: Global, version: ImageVersion, calls: &[u16], words: &[u32], size: usize) -> bool
+fn is_right_under(
+    alloc: Global,
+    version: ImageVersion,
+    calls: &[u16],
+    words: &[u32],
+    size: usize,
+) -> bool
     requires { 0 < size }
 {
     if words.len() > 900 {
@@ -318,8 +324,14 @@ fn for_several_harts(rt: HostRuntime) {
             is_right_in(rt.alloc(), ImageVersion::EightHarts, &A_OF_HARTS, size),
             "A_OF_HARTS {size}"
         );
-        assert!(rt; is_right_in(rt.alloc(), ImageVersion::EightHarts, &SHARED, size), "SHARED {size}");
-        assert!(rt; is_right_in(rt.alloc(), ImageVersion::EightHarts, &JOBS, size), "JOBS {size}");
+        assert!(rt;
+            is_right_in(rt.alloc(), ImageVersion::EightHarts, &SHARED, size),
+            "SHARED {size}"
+        );
+        assert!(rt;
+            is_right_in(rt.alloc(), ImageVersion::EightHarts, &JOBS, size),
+            "JOBS {size}"
+        );
     }
 }
 
@@ -337,7 +349,14 @@ fn tells(alloc: Global, calls: &[u16], words: &[u32], index: usize, same: bool) 
     let Some(bytes) = code_in(alloc, ImageVersion::OneHart, words) else {
         return false;
     };
-    let Some(listing) = listed(alloc, ImageVersion::OneHart, calls, &bytes, bytes.len() / 4, 7) else {
+    let Some(listing) = listed(
+        alloc,
+        ImageVersion::OneHart,
+        calls,
+        &bytes,
+        bytes.len() / 4,
+        7,
+    ) else {
         return false;
     };
     listing.entry(index) == Some(Entry::Guarded(same)) && is_listed(&listing, calls, words)

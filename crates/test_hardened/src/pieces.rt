@@ -117,7 +117,13 @@ fn scanned<L: Ledger>(
 }
 
 /// The same under a ledger of its own.
-fn answer(alloc: Global, version: ImageVersion, graph: &Graph, bytes: &[u8], size: usize) -> Option<String>
+fn answer(
+    alloc: Global,
+    version: ImageVersion,
+    graph: &Graph,
+    bytes: &[u8],
+    size: usize,
+) -> Option<String>
     requires { 0 < size }
 {
     scanned::<Brand>(alloc, Blank::new(1), version, graph, bytes, size)
