@@ -16,7 +16,7 @@ use Rattle.cfi_unit.specs.Split.{IsSplit}
 use Rattle.cfi_unit.specs.UnitWords.{Begins, Fits, after_unit, instrs_of, word_count, words_of}
 use Rattle.cfi_rules.specs.Along.{AllRunAlong}
 use Rattle.cfi_rules.specs.Laws.{ReadUnits, SafeAsRecognised}
-use Rattle.cfi_rules.specs.Reading.{IsProper, ReadAs, ReadsAs, place_in}
+use Rattle.cfi_rules.specs.Reading.{IsProper, AreRead, ReadsAs, place_in}
 use Rattle.cfi_rules.specs.Split.{code_words, place_at, place_by, unit_at, unit_in, unit_words}
 use Rattle.cfi_rules.proofs.InRange.{AreInstrs, unit_instrs}
 use Rattle.cfi_rules.proofs.PlacedSplit.{unit_is}
@@ -92,14 +92,14 @@ begins_reads ws at u b = record {
 }
 
 -- so the words are split into the units that they are read as
-read_split : (us : List U.Unit) (ws : List ℕ) (at : ℕ) → AreWords ws → ReadAs ws at us → IsSplit ws at us
-unfolding IsSplit ReadAs
+read_split : (us : List U.Unit) (ws : List ℕ) (at : ℕ) → AreWords ws → AreRead ws at us → IsSplit ws at us
+unfolding IsSplit AreRead
 read_split [] ws at small r = r
 read_split (u ∷ us) ws at small r =
     (reads_begins ws at u small r.0, read_split us (drop (word_count u) ws) (after_unit u at) (All-drop (λ (x : ℕ). x < 2 ^ 32) (word_count u) ws small) r.1)
 
-pub split_read : (us : List U.Unit) (ws : List ℕ) (at : ℕ) → IsSplit ws at us → ReadAs ws at us
-unfolding IsSplit ReadAs
+pub split_read : (us : List U.Unit) (ws : List ℕ) (at : ℕ) → IsSplit ws at us → AreRead ws at us
+unfolding IsSplit AreRead
 split_read [] ws at s = s
 split_read (u ∷ us) ws at s = (begins_reads ws at u s.0, split_read us (drop (word_count u) ws) (after_unit u at) s.1)
 

@@ -35,16 +35,16 @@ pub record ReadsAs (words : List ℕ) (at : ℕ) (unit : U.Unit) : Type 0 where
   pub ahead : IsTrue (may_precede unit at (drop (word_count unit) words))
 
 -- they are these units, one after another
-unfoldable pub ReadAs : List ℕ → ℕ → List U.Unit → Type 0
-ReadAs words at [] = words ≡ []
-ReadAs words at (unit ∷ units) = ReadsAs words at unit × ReadAs (drop (word_count unit) words) (after_unit unit at) units
+unfoldable pub AreRead : List ℕ → ℕ → List U.Unit → Type 0
+AreRead words at [] = words ≡ []
+AreRead words at (unit ∷ units) = ReadsAs words at unit × AreRead (drop (word_count unit) words) (after_unit unit at) units
 
--- the words of a code are these units from the first unit's address on, which is in code
+-- the words of a code, each of 32 bits, are these units from the first unit's address on, which is in code
 pub record AreUnitsOf (p : Profile) (words : List ℕ) (units : List U.Unit) : Type 0 where
   pub low : CODE_START ≤ p.units_from
   pub round : p.units_from % 4 ≡ 0
   pub small : AreWords words
-  pub read : ReadAs (unit_words p words) p.units_from units
+  pub read : AreRead (unit_words p words) p.units_from units
 
 -- what stands at an address, where they start
 abbrev pub place_in : Profile → List ℕ → List U.Unit → ℕ → Option Place

@@ -8,7 +8,12 @@ abbrev pub OnFault : {E : Type 0} → (E → Type 0) → End E → Type 0
 OnFault P (Fault fault) = P fault
 OnFault P NoMemory = Unit {0}
 
--- it is this fault, and no want of memory
+-- it is a fault, and no want of memory
+abbrev pub IsFault : {E : Type 0} → End E → Type 0
+IsFault (Fault fault) = Unit {0}
+IsFault NoMemory = ⊥
+
+-- it is this fault
 abbrev pub IsFaultOf : {E : Type 0} → Option E → End E → Type 0
 IsFaultOf found (Fault fault) = found ≡ Some fault
 IsFaultOf found NoMemory = ⊥

@@ -1,6 +1,6 @@
 //! Accesses where the region of code ends: loads reach eight bytes past it, which are zero; stores do not.
-use rv_mem::{Memory, WriteRefusal, region};
-use rv_word::{Image, ImageVersion};
+use rv_mem::{Memory, StoreFault, region};
+use rv_word::{End, Image, ImageVersion};
 use sample_programs::numbers::{number, rows};
 use std::alloc::{AllocError, Global};
 
@@ -92,7 +92,7 @@ fn stores_fault(memory: &mut Memory, addr: u64, n: u64) -> bool {
         4 => memory.write(addr, 4, 0x5a5a_5a5a),
         _ => memory.write(addr, 8, 0x5a5a_5a5a_5a5a_5a5a),
     };
-    matches!(end, Err(WriteRefusal::StoreFault))
+    matches!(end, Err(End::Fault(StoreFault)))
 }
 
 /// Whether a row holds: no store is taken there, and the load reads what it says.

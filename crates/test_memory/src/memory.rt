@@ -1,5 +1,5 @@
-use rv_mem::{Change, LoadFault, Memory, WriteRefusal, region};
-use rv_word::{Image, ImageVersion, Region};
+use rv_mem::{Change, LoadFault, Memory, StoreFault, region};
+use rv_word::{End, Image, ImageVersion, Region};
 use sample_programs::numbers::{name, number, rows};
 use std::alloc::{AllocError, Global};
 use std::process::Abort;
@@ -53,7 +53,7 @@ fn stores(memory: &mut Memory, row: &Access) -> bool {
     }
     match memory.write(addr, n, 0x1122_3344_5566_7788) {
         Ok(()) => store,
-        Err(end) => !store && matches!(end, WriteRefusal::StoreFault),
+        Err(end) => !store && matches!(end, End::Fault(StoreFault)),
     }
 }
 
