@@ -13,8 +13,8 @@ use Rattle.cfi_pair.specs.declared.opening.PairFault.TheVariants.{Graph, Image}
 use Rattle.cfi_pair.proofs.Determined.{graph_read, no_fault, none_rejected, own}
 use Rattle.cfi_pair.proofs.OneImage.{version_told}
 use Rattle.cfi_launch.specs.Launch.{HasRun, IsLaunchEnd, IsLaunchFault, IsLaunchOf, script_given}
-use Rattle.cfi_launch.specs.declared.launching.LaunchEnd.{LaunchEnd}
-use Rattle.cfi_launch.specs.declared.launching.LaunchEnd.TheVariants.{Fault, NoMemory}
+use Rattle.rv_word.specs.declared.end.End.{End}
+use Rattle.rv_word.specs.declared.end.End.TheVariants.{Fault, NoMemory}
 use Rattle.cfi_launch.specs.declared.launching.LaunchFault.{LaunchFault}
 use Rattle.cfi_launch.specs.declared.launching.LaunchFault.TheVariants.{Pair, Script, Harts}
 use Rattle.cfi_launch.specs.declared.launching.Launched.{Launched}
@@ -42,7 +42,7 @@ module _ (image_bytes graph_bytes : List ℕ) (image : Contents) (graph : GraphP
         let harts : read.harts ≡ count = sym (ap (λ (s : ScriptParts). s.harts) same) ∙ counted in
         few_harts count (subst (λ (n : ℕ). MayRun (image_profile image) n) harts may) first more
 
-    pub no_run : (end : LaunchEnd) (result : Result Launched LaunchEnd) → IsLaunchEnd image_bytes graph_bytes script end → result ≡ Err end
+    pub no_run : (end : End LaunchFault) (result : Result Launched (End LaunchFault)) → IsLaunchEnd image_bytes graph_bytes script end → result ≡ Err end
         → HasRun result ⊎ (result ≡ Err NoMemory)
     no_run NoMemory result has is = inr is
     no_run (Fault fault) result has is = absurd (no_launch_fault fault has)
