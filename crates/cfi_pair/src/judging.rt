@@ -4,7 +4,7 @@ ghost use Rattle.std.specs.Prelude.{IfOk, IfErr};
 ghost use Rattle.cfi_pair.specs.Judgement.{HasJudgement, IsComplete, IsJudgement};
 ghost use Rattle.cfi_pair.specs.Opening.{IsPairEnd};
 
-use crate::opening::{Pair, open_pair};
+use crate::opening::{Pair, PairFault, open_pair};
 use cfi_verify::{Reject, verify};
 use rv_word::{End, NoMemory};
 use std::alloc::Global;
