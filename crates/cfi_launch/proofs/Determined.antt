@@ -48,7 +48,7 @@ module _ (image_bytes graph_bytes : List ℕ) (image : Contents) (graph : GraphP
     no_run (Fault fault) result has is = absurd (no_launch_fault fault has)
 
     pub run_there : (well : IsWellFormed (image_profile image) image graph) (input : List ℕ) (limit : ℕ) (launched : Launched)
-        → IsLaunchOf image_bytes graph_bytes script input limit launched → HasRun (Ok launched) ⊎ (Ok launched ≡ Err NoMemory)
+        → IsLaunchOf image_bytes graph_bytes script input limit launched → HasRun (Ok launched) ⊎ (◌≡◌ {A = Result Launched (End LaunchFault)} (Ok launched) (Err NoMemory))
     run_there well input limit (Ran version report) is = inl tt
     run_there well input limit (Rejected reject) is =
         let (other, lines, made, spelled, second, allowed, rejected) = is in
