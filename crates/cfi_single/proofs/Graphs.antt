@@ -1,5 +1,5 @@
 -- One raw graph and one closed graph are right.
-use Rattle.std.proofs.Common.{◌≡◌, ℕ, suc, List, [], ◌∷◌, refl, sym, ap, map, subst, ◌∙◌, arith}
+use Rattle.std.proofs.Common.{◌≡◌, suc, List, [], ◌∷◌, refl, sym, ap, map, subst, ◌∙◌, arith}
 use Rattle.std.specs.List.{All}
 use Rattle.rv_word.specs.declared.version.GraphVersion.{GraphVersion}
 use Rattle.cfi_policy.specs.Policy.{PolicyParts}
