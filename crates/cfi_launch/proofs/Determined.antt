@@ -13,8 +13,8 @@ use Rattle.cfi_pair.specs.declared.opening.PairFault.TheVariants.{Graph, Image}
 use Rattle.cfi_pair.proofs.Determined.{graph_read, no_fault, none_rejected, own}
 use Rattle.cfi_pair.proofs.OneImage.{version_told}
 use Rattle.cfi_launch.specs.Launch.{HasRun, IsLaunchEnd, IsLaunchFault, IsLaunchOf, script_given}
-use Rattle.cfi_launch.specs.declared.launching.LaunchEnd.{LaunchEnd}
-use Rattle.cfi_launch.specs.declared.launching.LaunchEnd.TheVariants.{Fault, NoMemory}
+use Rattle.rv_word.specs.declared.end.End.{End}
+use Rattle.rv_word.specs.declared.end.End.TheVariants.{Fault, NoMemory}
 use Rattle.cfi_launch.specs.declared.launching.LaunchFault.{LaunchFault}
 use Rattle.cfi_launch.specs.declared.launching.LaunchFault.TheVariants.{Pair, Script, Harts}
 use Rattle.cfi_launch.specs.declared.launching.Launched.{Launched}
@@ -42,13 +42,13 @@ module _ (image_bytes graph_bytes : List ℕ) (image : Contents) (graph : GraphP
         let harts : read.harts ≡ count = sym (ap (λ (s : ScriptParts). s.harts) same) ∙ counted in
         few_harts count (subst (λ (n : ℕ). MayRun (image_profile image) n) harts may) first more
 
-    pub no_run : (end : LaunchEnd) (result : Result Launched LaunchEnd) → IsLaunchEnd image_bytes graph_bytes script end → result ≡ Err end
+    pub no_run : (end : End LaunchFault) (result : Result Launched (End LaunchFault)) → IsLaunchEnd image_bytes graph_bytes script end → result ≡ Err end
         → HasRun result ⊎ (result ≡ Err NoMemory)
     no_run NoMemory result has is = inr is
     no_run (Fault fault) result has is = absurd (no_launch_fault fault has)
 
     pub run_there : (well : IsWellFormed (image_profile image) image graph) (input : List ℕ) (limit : ℕ) (launched : Launched)
-        → IsLaunchOf image_bytes graph_bytes script input limit launched → HasRun (Ok launched) ⊎ (Ok launched ≡ Err NoMemory)
+        → IsLaunchOf image_bytes graph_bytes script input limit launched → HasRun (Ok launched) ⊎ (◌≡◌ {A = Result Launched (End LaunchFault)} (Ok launched) (Err NoMemory))
     run_there well input limit (Ran version report) is = inl tt
     run_there well input limit (Rejected reject) is =
         let (other, lines, made, spelled, second, allowed, rejected) = is in

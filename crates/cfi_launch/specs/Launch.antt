@@ -16,8 +16,7 @@ use Rattle.cfi_step.specs.declared.report.RunReport.{RunReport}
 use Rattle.cfi_pair.specs.Opening.{AreRead, IsPairFault}
 use Rattle.cfi_pair.specs.Spelled.{Spell}
 use Rattle.cfi_launch.specs.SafeRun.{IsSafeRun, undisturbed_script}
-use Rattle.cfi_launch.specs.declared.launching.LaunchEnd.{LaunchEnd}
-use Rattle.cfi_launch.specs.declared.launching.LaunchEnd.TheVariants.{Fault, NoMemory}
+use Rattle.rv_word.specs.declared.end.End.TheVariants.{Fault, NoMemory}
 use Rattle.cfi_launch.specs.declared.launching.LaunchFault.{LaunchFault}
 use Rattle.cfi_launch.specs.declared.launching.LaunchFault.TheVariants.{Pair, Script, Harts}
 use Rattle.cfi_launch.specs.declared.launching.Launched.{Launched}
@@ -45,7 +44,7 @@ IsLaunchFault image graph script (Harts count) =
     × (1 < count) × (version_in image ≡ OneHart)
 
 -- why there is no run; only want of memory is free
-abbrev pub IsLaunchEnd : List ℕ → List ℕ → Option (List ℕ) → LaunchEnd → Type 0
+abbrev pub IsLaunchEnd : List ℕ → List ℕ → Option (List ℕ) → End LaunchFault → Type 0
 IsLaunchEnd image graph script (Fault fault) = IsLaunchFault image graph script fault
 IsLaunchEnd image graph script NoMemory = ⊤
 
@@ -62,12 +61,12 @@ IsLaunchOf image_bytes graph_bytes script input limit launched =
     × IsLaunchOfPair image graph read input limit launched
 
 -- it was run
-abbrev pub HasRun : Result Launched LaunchEnd → Type 0
+abbrev pub HasRun : Result Launched (End LaunchFault) → Type 0
 HasRun (Ok (Ran version report)) = ⊤
 HasRun other = ⊥
 
 -- every pair that meets the rules is run under a script of its form whose harts it may have, but for want of memory
-abbrev pub IsComplete : List ℕ → List ℕ → Option (List ℕ) → Result Launched LaunchEnd → Type 0
+abbrev pub IsComplete : List ℕ → List ℕ → Option (List ℕ) → Result Launched (End LaunchFault) → Type 0
 IsComplete image_bytes graph_bytes script result =
     (image : Contents) (graph : GraphParts) (read : ScriptParts) → Spell image_bytes graph_bytes image graph → script_given script ≡ Ok read
     → MayRun (image_profile image) read.harts → IsWellFormed (image_profile image) image graph → HasRun result ⊎ (result ≡ Err NoMemory)

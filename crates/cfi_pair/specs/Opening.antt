@@ -4,8 +4,8 @@ use Rattle.elf_image.specs.Fault.{fault_of}
 use Rattle.cfi_graph.specs.Graph.{GraphParts}
 use Rattle.cfi_graph.specs.Reading.{graph_of}
 use Rattle.text_lines.specs.Answers.{line_fault}
-use Rattle.cfi_pair.specs.declared.opening.PairEnd.{PairEnd}
-use Rattle.cfi_pair.specs.declared.opening.PairEnd.TheVariants as ends
+use Rattle.rv_word.specs.declared.end.End.{End}
+use Rattle.rv_word.specs.declared.end.End.TheVariants as ends
 use Rattle.cfi_pair.specs.declared.opening.PairFault.{PairFault}
 use Rattle.cfi_pair.specs.declared.opening.PairFault.TheVariants.{Image, Graph}
 
@@ -20,6 +20,6 @@ IsPairFault image graph (Image refusal) = fault_of image ≡ Some refusal
 IsPairFault image graph (Graph line reason) = (fault_of image ≡ None) × (graph_of graph ≡ Err (line_fault line reason))
 
 -- why two texts are not read; only want of memory is free
-abbrev pub IsPairEnd : List ℕ → List ℕ → PairEnd → Type 0
+abbrev pub IsPairEnd : List ℕ → List ℕ → End PairFault → Type 0
 IsPairEnd image graph (ends.Fault fault) = IsPairFault image graph fault
 IsPairEnd image graph ends.NoMemory = ⊤

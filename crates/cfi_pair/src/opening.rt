@@ -26,32 +26,23 @@ pub enum PairFault {
     Graph(u64, Reason),
 }
 
-/// Why two texts are not read.
-#[derive(Clone, Copy)]
-pub enum PairEnd {
-    /// One of them is not what it should be.
-    Fault(PairFault),
-    /// There was no memory.
-    NoMemory,
-}
-
 /// The image and the graph that two texts spell.
-pub fn open_pair<'a>(alloc: Global, image: &'a [u8], graph: &[u8]) -> Result<Pair<'a>, PairEnd>
+pub fn open_pair<'a>(alloc: Global, image: &'a [u8], graph: &[u8]) -> Result<Pair<'a>, End<PairFault>>
     ensures spelled { IfOk result (λ pair. Spell image.now graph.now pair.image pair.graph) }
     ensures read { IfOk result (λ pair. AreRead image.now graph.now pair.graph) }
     ensures refused { IfErr result (IsPairEnd image.now graph.now) }
 {
     let image = match read_image(image) {
         Ok(image) => image,
-        Err(refusal) => return Err(PairEnd::Fault(PairFault::Image(refusal))),
+        Err(refusal) => return Err(End::Fault(PairFault::Image(refusal))),
     };
     // Computes nothing: it tells the proof the sizes of the image.
     let _code = image.code();
     match read_graph(alloc, graph) {
         Ok(graph) => Ok(Pair { image, graph }),
         Err(End::Fault(LineFault(line, reason))) => {
-            Err(PairEnd::Fault(PairFault::Graph(line, reason)))
+            Err(End::Fault(PairFault::Graph(line, reason)))
         }
-        Err(End::NoMemory) => Err(PairEnd::NoMemory),
+        Err(End::NoMemory) => Err(End::NoMemory),
     }
 }

@@ -1,8 +1,8 @@
 //! How images and graphs are answered.
 
 use cfi_graph::Graph;
-use cfi_verify::{VerifyEnd, verify};
-use rv_word::{Image, ImageVersion};
+use cfi_verify::verify;
+use rv_word::{End, Image, ImageVersion};
 use sample_programs::is_told_as;
 use std::alloc::Global;
 
@@ -10,8 +10,8 @@ use std::alloc::Global;
 pub fn is_told(alloc: Global, image: &Image<'_>, graph: &Graph, words: &str) -> bool {
     match verify(alloc, image, graph) {
         Ok(_) => words.is_empty(),
-        Err(VerifyEnd::Reject(reject)) => is_told_as(alloc, &reject, words),
-        Err(VerifyEnd::NoMemory) => false,
+        Err(End::Fault(reject)) => is_told_as(alloc, &reject, words),
+        Err(End::NoMemory) => false,
     }
 }
 

@@ -24,11 +24,11 @@ use cfi_map_text::Map;
 use cfi_rewrite::{HardenEnd, Hardened, rewrite_prepared};
 use cfi_script::Script;
 use cfi_step::{RunReport, run};
-use cfi_verify::{VerifyEnd, verify};
+use cfi_verify::verify;
 use elf_image::read_image;
 use gen_hardened::laws::demo_is_never_refused;
 use obj_program::Items;
-use rv_word::{Form, Image, NoMemory};
+use rv_word::{End, Form, Image, NoMemory};
 use src_machine::laws::wrong_is_not_legal;
 use src_machine::{SourceEnd, SourceRun};
 use std::alloc::Global;
@@ -113,8 +113,8 @@ pub(crate) fn run_accepted(
             &mut Script::none(alloc),
             STEP_LIMIT,
         ),
-        Err(VerifyEnd::Reject(_)) => unreachable!(),
-        Err(VerifyEnd::NoMemory) => Err(NoMemory),
+        Err(End::Fault(_)) => unreachable!(),
+        Err(End::NoMemory) => Err(NoMemory),
     }
 }
 
