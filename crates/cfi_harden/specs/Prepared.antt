@@ -4,8 +4,9 @@ use Rattle.std.specs.Prelude.{◌≡◌, ℕ, ◌⊎◌, List, Option, Some, Non
 use Rattle.rv_word.specs.declared.version.GraphVersion.{GraphVersion}
 use Rattle.rv_word.specs.Form.{graph_version}
 use Rattle.rv_word.specs.declared.form.Form.{Form}
-use Rattle.text_lines.specs.declared.end.TextEnd.{TextEnd}
-use Rattle.text_lines.specs.declared.end.TextEnd.TheVariants.{Line}
+use Rattle.rv_word.specs.declared.end.End.{End}
+use Rattle.rv_word.specs.declared.end.End.TheVariants.{Fault}
+use Rattle.text_lines.specs.declared.fault.LineFault.{LineFault}
 use Rattle.obj_program.specs.Program.{Program}
 use Rattle.cfi_closed.specs.Closed.{ClosedGraph}
 use Rattle.cfi_flow.specs.Closing.{IsClosed}
@@ -41,8 +42,8 @@ abbrev pub IsPrepared : Request → PreparedParts → Type 0
 IsPrepared request p = IsGiven request.given × IsPreparedOf (program_request request) p
 
 -- the text of a policy fails at a line
-abbrev pub FailsAt : Result (Unit {0}) TextEnd → ℕ → Type 0
-FailsAt (Err (Line number reason)) n = number ≡ n
+abbrev pub FailsAt : Result (Unit {0}) (End LineFault) → ℕ → Type 0
+FailsAt (Err (Fault fault)) n = fault.0 ≡ n
 FailsAt other n = ⊥
 
 -- the first wrong line of a policy: one of the right lines of its text that names what it may not, or else the line at which the
