@@ -22,7 +22,7 @@ from machine import Machine
 from make_vectors import ECALL, FUNC, NOTYPE, Object, addi, beq, jal, lui
 from maps import is_unlisted
 from placed import DIGITS, made_of, sizes_of, told as told_of_map
-from program import CODE, Program, UNITS
+from program import CODE, IMAGE_VERSIONS, Program, UNITS
 from rules import verdict
 from runs import answer
 
@@ -284,7 +284,8 @@ PAIRS = """\
 //! prints this, by its model of the rules.
 
 use crate::pairs::verifies;
-use rv_word::NoMemory;
+use rv_word::ImageVersion::{EightHarts, OneHart};
+use rv_word::{ImageVersion, NoMemory};
 use sample_calls::{image_as, put};
 use sample_programs::{code, code_of_harts};
 use std::alloc::Global;
@@ -292,7 +293,7 @@ use std::alloc::Global;
 %s
 /// The version of the image, its units, the offsets of words in its code with what is put there, the graph, and what is told.
 struct Case(
-    u8,
+    ImageVersion,
     &'static [u32],
     &'static [(usize, u32)],
     &'static [u8],
@@ -306,10 +307,9 @@ static CASES: [Case; %d] = [
 
 /// The code of a case.
 fn code_of(alloc: Global, case: &Case) -> Result<Vec<u8>, NoMemory> {
-    let mut bytes = if case.0 == 1 {
-        code(alloc, case.1)?
-    } else {
-        code_of_harts(alloc, case.1)?
+    let mut bytes = match case.0 {
+        OneHart => code(alloc, case.1)?,
+        EightHarts => code_of_harts(alloc, case.1)?,
     };
     for change in case.2 {
         put(&mut bytes, change.0, &change.1.to_le_bytes());
@@ -346,7 +346,7 @@ def pairs():
         tables += "".join(table(name, words, (UNITS[version] - CODE) // 4) + "\n" for name, words in of.items())
         for what, built in cases(version):
             name, changes = name_of(built, of)
-            rows += ["    // %s" % what, '    Case(%d, &%s, &[%s],' % (version, name, ", ".join("(0x%02x, 0x%08x)" % each for each in changes)),
+            rows += ["    // %s" % what, '    Case(%s, &%s, &[%s],' % (IMAGE_VERSIONS[version], name, ", ".join("(0x%02x, 0x%08x)" % each for each in changes)),
                      '        b"%s",' % built.graph.decode().replace("\n", "\\n"),
                      '        "%s\\n"),' % verdict(built.version, built.words, built.graph)]
     print(PAIRS % (tables, len(rows) // 4, "\n".join(rows)), end="")

@@ -11,6 +11,7 @@ from pathlib import Path
 
 sys.dont_write_bytecode = True
 
+from program import IMAGE_VERSIONS
 from rules import verdict
 
 CRATES = Path(__file__).resolve().parents[2] / "crates"
@@ -19,6 +20,7 @@ TABLES = ["test_hostile/src/pairs.rt", "test_hardened/src/pieces.rt", "test_hard
 SHARED = ["sample_programs/src/units.rt", "sample_programs/src/graphs.rt", "sample_runs/src/codes.rt"]
 OF_HARTS = ("SHARED", "JOBS")  # programs for several harts whose names do not say so
 PROLOGUES = {1: "PROLOGUE", 2: "PROLOGUE_OF_HARTS"}
+VERSIONS = {name: version for version, name in IMAGE_VERSIONS.items()}
 VALUE = r'(?:"(?:[^"\\]|\\.)*"|&?\[[^\]]*\]|&?\w+)'
 HEADS = {"Q": ("00000124", "40000040"), "Q_OF_HARTS": ("00000134", "40000050")}  # how long the code is, and its entry
 
@@ -62,7 +64,7 @@ def pair(names, kind, values, second):
         version, changes = program(units[1:]), [(names.number(at), names.number(word))]
     elif kind == "Pair":  # the version, units, the graph, changes, the rule
         version, units, graph, words, told = values
-        version, changes = int(version), names.changes(words)
+        version, changes = VERSIONS[version], names.changes(words)
     elif len(values) == 4:  # classes, sites, changes, the rule; of `Q`, or of `Q_OF_HARTS` in the second table
         classes, sites, words, told = values
         units = "&Q_OF_HARTS" if second else "&Q"
@@ -73,10 +75,10 @@ def pair(names, kind, values, second):
         version, prologue, units, graph, at, word, told = values
         words = names.words[prologue[1:]] + names.words[units[1:]]
         words[int(at)] = names.number(word)
-        return int(version), words, names.texts[graph], told[1:-1]
+        return VERSIONS[version], words, names.texts[graph], told[1:-1]
     else:  # the version, units, the graph, where a word is changed, the word, the rule
         version, units, graph, at, word, told = values
-        version, changes = int(version), [(names.number(at), names.number(word))]
+        version, changes = VERSIONS[version], [(names.number(at), names.number(word))]
     words = names.words[PROLOGUES[version]] + names.words[units[1:]]
     for at, word in changes:
         words[at // 4] = word

@@ -12,6 +12,7 @@ sys.path.insert(0, str(Path(__file__).parents[2] / "bench"))
 
 from images import CODE, OPENING, addi, branch, check, i_form, image_file, jal, prologue, push, r_form, s_form, u_form
 
+IMAGE_VERSIONS = {1: "OneHart", 2: "EightHarts"}  # their names in tables of crates/
 UNITS = {1: 0x40000040, 2: 0x40000050}
 CLOSING = {1: 0x40000038, 2: 0x40000048}
 HANDLERS = {CODE: "__cfi_bad_target", CODE + 4: "__cfi_bad_return", CODE + 8: "__cfi_deep"}

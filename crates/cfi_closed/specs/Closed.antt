@@ -1,8 +1,10 @@
 -- The closed graph: it has sides, each of computed transfers of one sort with the classes of their targets, and each site reaches the
 -- whole class of its targets.
-use Rattle.std.specs.Prelude.{ℕ, ◌+◌, ◌<◌, Bool, true, false, ◌==◌, if◌then◌else◌, Option, Some, None, IfSome, option_map, List, [], ◌∷◌, length}
+use Rattle.std.specs.Prelude.{ℕ, ◌+◌, ◌<◌, Bool, true, false, ◌==◌, Option, Some, None, IfSome, option_map, List, [], ◌∷◌, length}
 use Rattle.std.specs.List.{All, find, flat_map, list_any}
 use Rattle.std.specs.Option.{option_or}
+use Rattle.rv_word.specs.declared.version.GraphVersion.{GraphVersion}
+use Rattle.rv_word.specs.declared.version.GraphVersion.TheVariants.{OneLabel, TwoLabels}
 use Rattle.cfi_graph.specs.declared.line.SiteKind.{SiteKind}
 use Rattle.cfi_graph.specs.declared.line.SiteKind.TheVariants as kinds
 use Rattle.cfi_graph.specs.declared.line.Sort.{Sort}
@@ -20,7 +22,7 @@ pub record Side : Type 0 where
 
 pub record ClosedGraph : Type 0 where
   -- the version of graphs that it is for
-  pub version : ℕ
+  pub version : GraphVersion
   pub sides : List Side
   -- of each place, whether a relocation takes its address
   pub taken : List Bool
@@ -28,8 +30,9 @@ pub record ClosedGraph : Type 0 where
   pub calls : Option (List ℕ)
 
 -- the sorts of its sides: graphs of version 1 have one label for calls and jumps, those of version 2 one for each
-abbrev pub sorts_of : ℕ → List Sort
-sorts_of version = if version == 2 then Calls ∷ Jumps ∷ [] else Both ∷ []
+abbrev pub sorts_of : GraphVersion → List Sort
+sorts_of OneLabel = Both ∷ []
+sorts_of TwoLabels = Calls ∷ Jumps ∷ []
 
 -- a computed transfer of this kind is one of this sort
 abbrev pub is_of : Sort → SiteKind → Bool

@@ -1,7 +1,7 @@
 -- The tables by which the classes and the sites of a side are found at a place, and what the sides of a closed graph are.
 use Rattle.std.specs.Prelude.{◌≡◌, ℕ, ◌<◌, ◌==◌, Option, IfSome, List, length, map}
 use Rattle.std.specs.List.{All, position}
-use Rattle.rv_word.specs.Image.{IsVersion}
+use Rattle.rv_word.specs.declared.version.GraphVersion.{GraphVersion}
 use Rattle.cfi_class.specs.Classes.{class_with}
 use Rattle.cfi_class.specs.Tables.{IsTable}
 use Rattle.cfi_closed.specs.declared.side.Site.{Site}
@@ -18,7 +18,6 @@ pub record AreFound (classes : List (List ℕ)) (sites : List Site) (places : �
   pub site_table : IsTable (site_with sites) places site_at
 
 -- the sides of a closed graph for a version of graphs
-pub record AreSides (version : ℕ) (sides : List Side) (places : ℕ) : Type 0 where
-  pub known : IsVersion version
+pub record AreSides (version : GraphVersion) (sides : List Side) (places : ℕ) : Type 0 where
   pub sorts : map (λ (s : Side). s.sort) sides ≡ sorts_of version
   pub inside : All (IsSideInside places) sides

@@ -1,20 +1,19 @@
 //! The closed graph of a program: a side for each sort of computed transfers.
 
 ghost use Rattle.std.specs.Prelude.{◌≡◌, ◌<◌, ◌≤◌, [], false, length, map, slice_index_or};
-ghost use Rattle.rv_word.specs.Image.{IsVersion};
 ghost use Rattle.cfi_closed.specs.Closed.{IsInside, class_among, class_reaches, classes_of, is_target, sorts_of};
 ghost use Rattle.cfi_closed.specs.Closed as closed;
 ghost use Rattle.cfi_closed.specs.Found.{AreSides};
 
 use crate::side::Side;
-use rv_word::{Numbers, Places};
+use rv_word::{GraphVersion, Numbers, Places};
 use std::marker::Model;
 
 /// The closed graph of a program, for a version of graphs: one side with all computed transfers, or one with the calls
 /// and one with the jumps.
 #[derive(Drop)]
 pub struct Closed {
-    version: u8,
+    version: GraphVersion,
     sides: Vec<Side>,
     taken: Vec<bool>,
     calls: Option<Numbers>,
@@ -34,7 +33,12 @@ impl Model for Closed {
 
 impl Closed {
     /// A closed graph of its parts.
-    pub fn of(version: u8, sides: Vec<Side>, taken: Vec<bool>, calls: Option<Numbers>) -> Closed
+    pub fn of(
+        version: GraphVersion,
+        sides: Vec<Side>,
+        taken: Vec<bool>,
+        calls: Option<Numbers>,
+    ) -> Closed
         requires { AreSides version sides.items (length taken.items) }
         ensures { result ≡ record { version = version; sides = sides.items; taken = taken.items; calls = calls } }
     {
@@ -47,9 +51,8 @@ impl Closed {
     }
 
     /// The version of graphs that it is for.
-    pub fn version(&self) -> u8
-        ensures value { result ≡ self.now.version }
-        ensures known { IsVersion result }
+    pub fn version(&self) -> GraphVersion
+        ensures { result ≡ self.now.version }
     {
         self.version
     }

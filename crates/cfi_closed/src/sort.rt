@@ -4,16 +4,20 @@ ghost use Rattle.std.specs.Prelude.{◌≡◌};
 ghost use Rattle.cfi_closed.specs.Closed.{is_of, sorts_of};
 
 use cfi_graph::{SiteKind, Sort};
+use rv_word::GraphVersion;
 
 const ONE: [Sort; 1] = [Sort::Both];
 
 const TWO: [Sort; 2] = [Sort::Calls, Sort::Jumps];
 
 /// The sorts of the sides under a version of graphs.
-pub fn sorts_of(version: u8) -> &'static [Sort]
+pub fn sorts_of(version: GraphVersion) -> &'static [Sort]
     ensures { result.now ≡ sorts_of version }
 {
-    if version == 2 { &TWO } else { &ONE }
+    match version {
+        GraphVersion::OneLabel => &ONE,
+        GraphVersion::TwoLabels => &TWO,
+    }
 }
 
 /// Whether a computed transfer of this kind is one of this sort.

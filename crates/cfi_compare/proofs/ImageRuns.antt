@@ -1,6 +1,7 @@
 -- An image's run that is under way: one step of it, and the system calls that are alike so far.
 use Rattle.std.proofs.Common.{◌≡◌, true, false, ℕ, zero, suc, ◌+◌, ◌-◌, ◌<◌, ◌≤◌, List, [], ◌∷◌, ◌++◌, length, replicate, slice_get, Option, Some, None, append-nil, refl, sym, ap, subst, ◌∙◌, arith}
 use Rattle.std.proofs.lemmas.Option.{slice_get_past, slice_get_within}
+use Rattle.rv_word.specs.declared.version.ImageVersion.{ImageVersion}
 use Rattle.rv_word.specs.MemoryMap.{Profile, profile_of}
 use Rattle.rv_code.specs.Run.{ByteChange, next_or_stop, run, run_alone}
 use Rattle.rv_code.specs.State.{After, Hart, Shared}
@@ -56,9 +57,9 @@ next_ran (FetchFault pc) a rest e = absurd (cc)
 next_ran (Illegal pc) a rest e = absurd (cc)
 
 -- a step of the version that there was before the run
-pub as_begun : (h : Hart) (s : Shared) (now : Parts) (turn : Turn) (version before : ℕ) → version ≡ before →
+pub as_begun : (h : Hart) (s : Shared) (now : Parts) (turn : Turn) (version before : ImageVersion) → version ≡ before →
     after_step now turn ≡ step (profile_of version) h s → after_step now turn ≡ step (profile_of before) h s
-as_begun h s now turn version before same is = subst (λ (v : ℕ). after_step now turn ≡ step (profile_of v) h s) same is
+as_begun h s now turn version before same is = subst (λ (v : ImageVersion). after_step now turn ≡ step (profile_of v) h s) same is
 
 module _ (p : Profile) (h : Hart) (s : Shared) (now : Parts) (turn : Turn) (stepped : after_step now turn ≡ step p h s) where
   abbrev rest_of : ℕ → List (List ByteChange)

@@ -10,13 +10,13 @@ use Rattle.rv_word.specs.MemoryMap.{IsProfile, Profile}
 use Rattle.rv_word.proofs.Cases.{cases_Option, chosen}
 use Rattle.rv_word.proofs.Versions.{laid_out}
 use Rattle.cfi_graph.specs.declared.line.GraphLine.{GraphLine}
-use Rattle.cfi_graph.specs.declared.line.GraphLine.TheVariants.{Class, CallClass, JumpClass, Site, Edge, Call}
+use Rattle.cfi_graph.specs.declared.line.Sort.TheVariants as sorts
+use Rattle.cfi_graph.specs.declared.line.GraphLine.TheVariants.{Class, Site, Edge, Call}
 use Rattle.cfi_graph.specs.declared.line.Key.TheVariants.{Address}
 use Rattle.cfi_graph.specs.declared.line.SiteKind.{SiteKind}
 use Rattle.cfi_graph.specs.declared.line.SiteKind.TheVariants as K
 use Rattle.cfi_graph.specs.declared.line.Sort.{Sort}
-use Rattle.cfi_graph.specs.declared.line.Sort.TheVariants.{Both, Calls as CallsOnly, Jumps}
-use Rattle.cfi_graph.specs.Graph.{ClassLine, GraphParts, IsGraph, class_in, line_of_class}
+use Rattle.cfi_graph.specs.Graph.{ClassLine, GraphParts, IsGraph, class_in}
 use Rattle.cfi_unit.specs.declared.place.Place.{Place}
 use Rattle.cfi_unit.specs.declared.place.Place.TheVariants.{Body as body}
 use Rattle.cfi_unit.specs.declared.target_word.TargetWord.{TargetWord}
@@ -32,7 +32,7 @@ use Rattle.cfi_rules.specs.declared.asks.Asks.{Asks}
 use Rattle.cfi_rules.specs.declared.reject.Rule.TheVariants as R
 use Rattle.cfi_rules.proofs.Find.{UnitHere, no_unit}
 use Rattle.cfi_rules.proofs.LineOrder.{line_at-with, with_key}
-use Rattle.cfi_rules.proofs.Moves.{class_parts}
+use Rattle.cfi_rules.proofs.Leading.{class_parts}
 use Rattle.cfi_rules.proofs.Places.{place_facts}
 use Rattle.cfi_rules.proofs.RuleFacts.{not_false}
 use Rattle.cfi_rules.proofs.Served.{served}
@@ -55,12 +55,10 @@ line_found (x ∷ xs) a line e =
     ]
 
 abbrev line_of : ClassLine → GraphLine
-line_of class = line_of_class class.sort class.label class.targets
+line_of class = Class class.sort class.label class.targets
 
 line_is : (line : GraphLine) (class : ClassLine) → class_in line ≡ Some class → line_of class ≡ line
-line_is (Class label targets) class e = ap line_of (sym (same_Some _ class e))
-line_is (CallClass label targets) class e = ap line_of (sym (same_Some _ class e))
-line_is (JumpClass label targets) class e = ap line_of (sym (same_Some _ class e))
+line_is (Class sort label targets) class e = ap line_of (sym (same_Some _ class e))
 line_is other class e = absurd (none-some class e)
 
 class_found : (lines : List GraphLine) (l : ℕ) (class : ClassLine) → class_with lines l ≡ Some class → Contains lines (line_of class) × (class.label ≡ l)
@@ -120,12 +118,12 @@ site_is a other asked at e = absurd (cc)
 
 -- the line of a class that serves a transfer
 serving_line : (lines : List GraphLine) (sort : Sort) (kind : SiteKind) (which : TargetWord) (label : ℕ) (ts : List ℕ) → serves sort kind which ≡ true →
-    Contains lines (line_of_class sort label ts) → Contains lines (Class label ts) ⊎ Contains lines (class_line kind label ts)
-serving_line lines Both kind which label ts e there = inl there
-serving_line lines CallsOnly K.Call which label ts e there = inr there
-serving_line lines CallsOnly K.Jump which label ts e there = absurd (cc)
-serving_line lines Jumps K.Jump which label ts e there = inr there
-serving_line lines Jumps K.Call which label ts e there = absurd (cc)
+    Contains lines (Class sort label ts) → Contains lines (Class sorts.Both label ts) ⊎ Contains lines (class_line kind label ts)
+serving_line lines sorts.Both kind which label ts e there = inl there
+serving_line lines sorts.Calls K.Call which label ts e there = inr there
+serving_line lines sorts.Calls K.Jump which label ts e there = absurd (cc)
+serving_line lines sorts.Jumps K.Jump which label ts e there = inr there
+serving_line lines sorts.Jumps K.Call which label ts e there = absurd (cc)
 
 -- the unit of a computed transfer has more than twelve words
 long_site : (place : Place) → is_some (site_of place) ≡ true → (u : U.Unit) × (place ≡ body u) × (12 < word_count u)
@@ -169,12 +167,12 @@ module _ (p : Profile) (profile : IsProfile p) (image : Contents) (graph : Graph
         let rule = (sites_listed a).0 in
         let both = not_false (is_site_with (line_at graph.lines a) asked && is_some (targets_for graph.lines asked.kind asked.which asked.label)) (rw (here, site) at rule) in
         let (line_a, there_a, at, is) = listed_by graph.lines a (λ o. is_site_with o asked) refl (and_parts _ _ both).0 in
-        let (ts, class, among) = class_parts p profile image graph bytes formed asked.kind asked.which asked.label v inside in
+        let (ts, class, among) = class_parts graph.lines asked.kind asked.which asked.label v inside in
         let s = served graph.lines asked.kind asked.which asked.label ts class in
         let there = class_found graph.lines asked.label s.class s.is in
-        let line : Contains graph.lines (line_of_class s.class.sort asked.label ts) =
-        subst (λ (l : ℕ). Contains graph.lines (line_of_class s.class.sort l ts)) there.1
-        (subst (λ (xs : List ℕ). Contains graph.lines (line_of_class s.class.sort s.class.label xs)) s.targets there.0) in
+        let line : Contains graph.lines (Class s.class.sort asked.label ts) =
+        subst (λ (l : ℕ). Contains graph.lines (Class s.class.sort l ts)) there.1
+        (subst (λ (xs : List ℕ). Contains graph.lines (Class s.class.sort s.class.label xs)) s.targets there.0) in
         record {
           label = asked.label;
           targets = ts;

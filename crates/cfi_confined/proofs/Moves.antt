@@ -33,7 +33,7 @@ use Rattle.cfi_unit.specs.declared.unit.Unit as U
 use Rattle.cfi_unit.specs.declared.unit.Unit.TheVariants as V
 use Rattle.cfi_unit.specs.Flow as F
 use Rattle.cfi_unit.specs.Flow.{Exit, Flow, Sites, Test, flow_of}
-use Rattle.cfi_unit.specs.Leads.{Calls, ExitLeads, FlowLeads, HasLabel, Leads, Returns, destination}
+use Rattle.cfi_unit.specs.Leads.{Calls, ExitLeads, FlowLeads, HasLabel, Leads, Returns, by_label, destination}
 use Rattle.cfi_unit.specs.Place.{place_instrs}
 use Rattle.cfi_unit.specs.UnitWords.{after_unit}
 use Rattle.cfi_unit.proofs.ComputedUnits.{arrives}
@@ -111,7 +111,7 @@ module _ (p : Profile) (profile : IsProfile p) (image : Contents) (graph : Graph
 
     -- a step went to an address inside of the place, or to where the place leads
     abbrev pub Went : Place → Type 0
-    Went place = ((place_at p W v ≡ None) × (newer ≡ pending)) ⊎ Leads p (loaded image) place at pending r newer v
+    Went place = ((place_at p W v ≡ None) × (newer ≡ pending)) ⊎ Leads p (by_label (loaded image)) place at pending r newer v
 
     module _ (following : ℕ) where
       exit_keeps : (exit : Exit) → is_untested exit ≡ true → ExitLeads exit F.keeps following pending r newer v → newer ≡ pending
@@ -125,7 +125,7 @@ module _ (p : Profile) (profile : IsProfile p) (image : Contents) (graph : Graph
       exit_keeps other is l = absurd (cc)
 
       abbrev FlowGoes : Flow → Type 0
-      FlowGoes f = FlowLeads (loaded image) f following pending r newer v
+      FlowGoes f = FlowLeads (by_label (loaded image)) f following pending r newer v
 
       flow_keeps : (f : Flow) → Suits f → f.sites ≡ F.keeps → FlowGoes f → newer ≡ pending
       flow_keeps f (untested exit act is) keeps l = exit_keeps exit is l
@@ -199,13 +199,13 @@ module _ (p : Profile) (profile : IsProfile p) (image : Contents) (graph : Graph
         small asked site = label_small (flow_of unit).test (flow_of unit).sites asked (test_fits unit at (place_facts p profile image graph bytes formed at (body unit) is).begins.fits) site
 
     -- where something starts the step came to what the place leads to
-    leads_to : (place there : Place) → place_at p W v ≡ Some there → Went place → Leads p (loaded image) place at pending r newer v
+    leads_to : (place there : Place) → place_at p W v ≡ Some there → Went place → Leads p (by_label (loaded image)) place at pending r newer v
     leads_to place there some (inl went) = absurd (none-some there (sym went.0 ∙ some))
     leads_to place there some (inr leads) = leads
 
     -- a call that is done goes to its target, and puts its site on top
     called_there : (place : Place) → place_at p W at ≡ Some place → (target site : ℕ) → call_of place ≡ Some target → target ≡ v →
-        (Leads p (loaded image) place at pending r newer v → Calls site pending newer v target) → Went place → Contains graph.lines (Call at v) × (newer ≡ site ∷ pending)
+        (Leads p (by_label (loaded image)) place at pending r newer v → Calls site pending newer v target) → Went place → Contains graph.lines (Call at v) × (newer ≡ site ∷ pending)
     called_there place is target site call same calls went =
         let layout = laid_out p profile in
         let (unit, here, there) = at_start p profile image graph bytes formed target (call_starts p image graph formed at place target is call) in

@@ -30,7 +30,7 @@ use Rattle.cfi_unit.specs.declared.place.Place.{Place}
 use Rattle.cfi_unit.specs.declared.place.Place.TheVariants.{Handler as handler, Opening as opening, Closing as closing, Body as body}
 use Rattle.cfi_unit.specs.declared.unit.SystemOp.TheVariants as S
 use Rattle.cfi_unit.specs.declared.unit.Unit as U
-use Rattle.cfi_unit.specs.Leads.{Leads}
+use Rattle.cfi_unit.specs.Leads.{Leads, by_label}
 use Rattle.cfi_unit.specs.Place.{IsWordOf, place_instrs}
 use Rattle.cfi_unit.specs.Shadow.{MOST_PENDING, Holds}
 use Rattle.cfi_unit.specs.Stand.{Stand}
@@ -214,7 +214,7 @@ module _ (p : Profile) (profile : IsProfile p) (image : Contents) (graph : Graph
         (inl (nothing, refl)) c (record { at = w.at; place = w.place; regs = w.regs; is = w.is; stage = w.stage; held = c.kept.held; inside = inside })
     outcome (leaves newer t c x3 leads) =
         let to = (arrive p profile image graph bytes formed w.place (record { at = w.at; pending = pending; regs = w.regs }) left.hart.pc newer w.is facts w.stage leads).settled in
-        ran newer t (λ same. subst (λ (q : Place). Leads p (loaded image) q w.at pending w.regs newer left.hart.pc) same leads) (inr leads) c (record {
+        ran newer t (λ same. subst (λ (q : Place). Leads p (by_label (loaded image)) q w.at pending w.regs newer left.hart.pc) same leads) (inr leads) c (record {
           at = left.hart.pc;
           place = to.place;
           regs = left.hart.regs;

@@ -17,7 +17,8 @@ use Rattle.rv_code.specs.State.{After, Hart, Harts, Shared, last_exit, start_har
 use Rattle.rv_code.specs.Step.{step}
 use Rattle.rv_code.proofs.Runs.{calm}
 use Rattle.cfi_graph.specs.Graph.{GraphParts}
-use Rattle.cfi_graph.specs.declared.line.GraphLine.TheVariants.{Call, CallClass, Class, Edge, Site}
+use Rattle.cfi_graph.specs.declared.line.Sort.TheVariants as sorts
+use Rattle.cfi_graph.specs.declared.line.GraphLine.TheVariants.{Call, Class, Edge, Site}
 use Rattle.cfi_graph.specs.declared.line.SiteKind.{SiteKind}
 use Rattle.cfi_graph.specs.declared.line.SiteKind.TheVariants as K
 use Rattle.cfi_unit.specs.UnitWords.{words_of}
@@ -177,13 +178,13 @@ entry_unconfined confined =
     ]
 
 -- the lines of the computed call have one class, with one target
-only_class : (label : ℕ) (targets : List ℕ) → Contains astray_call_graph.lines (Class label targets) → (0x40000094 ∷ []) ≡ targets
+only_class : (label : ℕ) (targets : List ℕ) → Contains astray_call_graph.lines (Class sorts.Both label targets) → (0x40000094 ∷ []) ≡ targets
 only_class label targets (zero, below, is) = cc
 only_class label targets (suc zero, below, is) = absurd (cc)
 only_class label targets (suc (suc zero), below, is) = absurd (cc)
 only_class label targets (suc (suc (suc k)), below, is) = absurd (omega arith)
 
-no_class : (label : ℕ) (targets : List ℕ) → Contains astray_call_graph.lines (CallClass label targets) → ⊥
+no_class : (label : ℕ) (targets : List ℕ) → Contains astray_call_graph.lines (Class sorts.Calls label targets) → ⊥
 no_class label targets (zero, below, is) = absurd (cc)
 no_class label targets (suc zero, below, is) = absurd (cc)
 no_class label targets (suc (suc zero), below, is) = absurd (cc)

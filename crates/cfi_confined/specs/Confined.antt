@@ -3,6 +3,7 @@
 use Rattle.std.specs.Prelude.{◌≡◌, ℕ, ◌+◌, ◌-◌, ◌<◌, ◌≤◌, ◌==◌, ◌⊎◌, IsTrue, List, [], ◌∷◌, length, Option, Some, None, if◌then◌else◌}
 use Rattle.std.specs.List.{Contains}
 use Rattle.rv_word.specs.Image.{Contents}
+use Rattle.rv_word.specs.declared.version.GraphVersion.{GraphVersion}
 use Rattle.rv_word.specs.MemoryMap.{CODE_START, DATA_END, PART_SIZE, START, MayRun, Profile, part_of}
 use Rattle.rv_word.specs.Memory.{Memory, read}
 use Rattle.rv_word.specs.Numbers.{is_listed}
@@ -15,7 +16,9 @@ use Rattle.rv_code.specs.Step.{step}
 use Rattle.rv_code.specs.declared.turn.Turn.{Turn}
 use Rattle.rv_code.specs.declared.turn.Turn.TheVariants.{Ran, Exit, Break, LoadFault, StoreFault, FetchFault, Illegal}
 use Rattle.cfi_graph.specs.declared.line.GraphLine.{GraphLine}
-use Rattle.cfi_graph.specs.declared.line.GraphLine.TheVariants.{Class, CallClass, JumpClass, Site, Edge, Call}
+use Rattle.cfi_graph.specs.declared.line.Sort.{Sort}
+use Rattle.cfi_graph.specs.declared.line.Sort.TheVariants as sorts
+use Rattle.cfi_graph.specs.declared.line.GraphLine.TheVariants.{Class, Site, Edge, Call}
 use Rattle.cfi_graph.specs.declared.line.SiteKind.{SiteKind}
 use Rattle.cfi_graph.specs.declared.line.SiteKind.TheVariants as K
 use Rattle.cfi_graph.specs.Graph.{GraphParts, calls_in}
@@ -25,27 +28,30 @@ use Rattle.cfi_rules.specs.Along.{AreStepsOf, MayStart, OnRan}
 -- Distances in code, by the version of its graph: how far before a computed transfer the address of its site
 -- line is, how far before a direct call that of its call line, and how far ahead the `ecall` may be to which a
 -- branch leads
-abbrev pub before_site : ℕ → SiteKind → ℕ
+abbrev pub before_site : GraphVersion → SiteKind → ℕ
 before_site version K.Jump = 48
 before_site version K.Call = 76
 
-abbrev pub before_call : ℕ → ℕ
+abbrev pub before_call : GraphVersion → ℕ
 before_call version = 28
 
-abbrev pub most_skip : ℕ → ℕ
+abbrev pub most_skip : GraphVersion → ℕ
 most_skip version = 64
 
--- the line of a class that serves one kind of computed transfers alone
+-- the sort of the classes that serve one kind of computed transfers alone, and the line of such a class
+abbrev pub sort_of : SiteKind → Sort
+sort_of K.Call = sorts.Calls
+sort_of K.Jump = sorts.Jumps
+
 abbrev pub class_line : SiteKind → ℕ → List ℕ → GraphLine
-class_line K.Call label targets = CallClass label targets
-class_line K.Jump label targets = JumpClass label targets
+class_line kind label targets = Class (sort_of kind) label targets
 
 -- the graph has a site line at an address, and the class with its label has a target
 pub record IsSiteTo (lines : List GraphLine) (kind : SiteKind) (site to : ℕ) : Type 0 where
   pub label : ℕ
   pub targets : List ℕ
   pub listed : Contains lines (Site site kind label)
-  pub class : Contains lines (Class label targets) ⊎ Contains lines (class_line kind label targets)
+  pub class : Contains lines (Class sorts.Both label targets) ⊎ Contains lines (class_line kind label targets)
   pub target : Contains targets to
 
 -- the graph has no site line at an address
@@ -53,11 +59,11 @@ abbrev pub NoSite : List GraphLine → ℕ → Type 0
 NoSite lines site = (kind : SiteKind) (label : ℕ) → ¬ Contains lines (Site site kind label)
 
 -- the address of the call line of a `jal x1`: the opening's line stands at the opening's first word
-abbrev pub call_line : Profile → ℕ → ℕ → ℕ
+abbrev pub call_line : Profile → GraphVersion → ℕ → ℕ
 call_line p version pc = if pc == p.opening_call then START else pc - before_call version
 
 -- a branch that goes along no edge leads to the next instruction, or over it, or ahead to an `ecall`
-abbrev pub IsSkip : ℕ → (ℕ → Option Instr) → ℕ → ℕ → Type 0
+abbrev pub IsSkip : GraphVersion → (ℕ → Option Instr) → ℕ → ℕ → Type 0
 IsSkip version code pc to = (to ≡ pc + 4) ⊎ ((to ≡ pc + 8) ⊎ ((pc < to) × (to ≤ pc + most_skip version) × (code to ≡ Some Ecall)))
 
 -- the code's first three words are the handlers

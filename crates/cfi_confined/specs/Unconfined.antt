@@ -1,8 +1,10 @@
 -- Small pairs with one fault each, which are not confined: so it is not said of everything.
 use Rattle.std.specs.Prelude.{[], ◌∷◌}
 use Rattle.rv_word.specs.Image.{Contents}
+use Rattle.rv_word.specs.declared.version.GraphVersion.TheVariants.{OneLabel}
 use Rattle.rv_word.specs.MemoryMap.{version_1, version_2}
 use Rattle.cfi_graph.specs.Graph.{GraphParts}
+use Rattle.cfi_graph.specs.declared.line.Sort.TheVariants as sorts
 use Rattle.cfi_graph.specs.declared.line.GraphLine.TheVariants.{Call, Class, Edge, Site}
 use Rattle.cfi_graph.specs.declared.line.SiteKind.TheVariants as K
 use Rattle.cfi_rules.specs.Unsafe.{astray_call, astray_call_graph, breaking_closing, breaking_closing_graph, calling_opening, graph_of, graph_with, handler_graph, handler_with, high_pointer, illegal_handler, image_with, loading_handler, one_pointer_graph, opening_graph, storing_handler, storing_opening}
@@ -27,7 +29,7 @@ abbrev pub unlisted_entry : Contents
 unlisted_entry = image_with (0xfc1ff06f ∷ [])
 
 abbrev pub unlisted_entry_graph : GraphParts
-unlisted_entry_graph = record { version = 1; code = 0x44; lines = [] }
+unlisted_entry_graph = record { version = OneLabel; code = 0x44; lines = [] }
 
 -- a call of the third word; from there a computed jump, which has a site line, to the second word, where that
 -- call would return to; and from there a return to the closing, though that call is still pending
@@ -35,7 +37,7 @@ abbrev pub early_return : Contents
 early_return = image_with (0x008000ef ∷ 0xff408067 ∷ 0x00008067 ∷ [])
 
 abbrev pub early_return_graph : GraphParts
-early_return_graph = graph_of 0x4c (Class 1 (0x40000044 ∷ []) ∷ []) (Site 0x40000018 K.Jump 1 ∷ Call 0x40000024 0x40000048 ∷ [])
+early_return_graph = graph_of 0x4c (Class sorts.Both 1 (0x40000044 ∷ []) ∷ []) (Site 0x40000018 K.Jump 1 ∷ Call 0x40000024 0x40000048 ∷ [])
 
 -- a handler that runs on
 abbrev pub running_handler : Contents

@@ -2,6 +2,7 @@
 use Rattle.std.specs.Prelude.{◌≡◌, ◌↔◌, ℕ, ◌<◌, Option, None, List, [], ◌∷◌, filter, length, map, slice_index}
 use Rattle.std.specs.List.{All, AllPairs}
 use Rattle.std.specs.List.Sorted.{IsStrictlyIncreasing}
+use Rattle.rv_word.specs.declared.version.GraphVersion.{GraphVersion}
 use Rattle.cfi_graph.specs.declared.line.Sort.{Sort}
 use Rattle.cfi_class.specs.Classes.{AreInOne, IsIn, IsInSome, Joined, class_with}
 use Rattle.cfi_closed.specs.declared.side.Site.{Site}
@@ -39,7 +40,7 @@ pub record IsSide (raw : RawGraph) (side : Side) : Type 0 where
   pub sites : side.sites ≡ map (with_class side.classes) (raw_for side.sort raw).sites
 
 -- the closed graph of a raw one, for a version of graphs
-pub record IsClosed (version : ℕ) (raw : RawGraph) (closed : ClosedGraph) : Type 0 where
+pub record IsClosed (version : GraphVersion) (raw : RawGraph) (closed : ClosedGraph) : Type 0 where
   pub version_is : closed.version ≡ version
   pub sorts : map (λ (s : Side). s.sort) closed.sides ≡ sorts_of version
   pub sides : All (IsSide raw) closed.sides

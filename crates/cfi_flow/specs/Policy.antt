@@ -11,8 +11,9 @@ use Rattle.cfi_graph.specs.declared.line.SiteKind.{SiteKind}
 use Rattle.cfi_policy.specs.declared.policy.PlaceName.{PlaceName}
 use Rattle.cfi_policy.specs.declared.policy.PolicyLine.{PolicyLine}
 use Rattle.cfi_policy.specs.Policy.{PolicyParts, first_line}
-use Rattle.cfi_flow.specs.declared.end.FlowEnd.{FlowEnd}
-use Rattle.cfi_flow.specs.declared.end.FlowEnd.TheVariants as ends
+use Rattle.rv_word.specs.declared.end.End.{End}
+use Rattle.rv_word.specs.declared.end.End.TheVariants.{Fault, NoMemory}
+use Rattle.cfi_flow.specs.declared.wrong_line.WrongLine.{WrongLine}
 use Rattle.cfi_flow.specs.Below.{where_below}
 use Rattle.cfi_flow.specs.Raw.{RawGraph}
 use Rattle.cfi_flow.specs.Sites.{RawSite, reached, site_kind, sites_below}
@@ -90,9 +91,9 @@ pub record IsRaw (program : Program) (policy : PolicyParts) (raw : RawGraph) : T
   pub calls : raw.calls ≡ policy.calls
 
 -- why there is none: the first wrong line, or want of memory
-abbrev pub EndsFrom : ℕ → Program → List PolicyLine → FlowEnd → Type 0
-EndsFrom first program lines (ends.Policy n) = wrong_from first program lines ≡ Some n
-EndsFrom first program lines ends.NoMemory = Unit {0}
+abbrev pub EndsFrom : ℕ → Program → List PolicyLine → End WrongLine → Type 0
+EndsFrom first program lines (Fault wrong) = wrong_from first program lines ≡ Some wrong.number
+EndsFrom first program lines NoMemory = Unit {0}
 
-abbrev pub Ends : Program → PolicyParts → FlowEnd → Type 0
+abbrev pub Ends : Program → PolicyParts → End WrongLine → Type 0
 Ends program policy end = EndsFrom (first_line policy.calls) program policy.lines end

@@ -12,7 +12,7 @@ use crate::raw::Raw;
 use cfi_class::{Entry, blank, note, table_of};
 use cfi_closed::{Closed, Side, Site, sorts_of};
 use cfi_graph::Sort;
-use rv_word::{Form, NoMemory};
+use rv_word::{Form, GraphVersion, NoMemory};
 use std::alloc::Global;
 
 /// The table of the sites that stand at the places.
@@ -59,7 +59,7 @@ fn close_side(alloc: Global, sort: Sort, raw: &Raw) -> Result<Side, NoMemory>
 }
 
 /// The sides under a version of graphs.
-fn close_sides(alloc: Global, version: u8, raw: &Raw) -> Result<Vec<Side>, NoMemory>
+fn close_sides(alloc: Global, version: GraphVersion, raw: &Raw) -> Result<Vec<Side>, NoMemory>
     ensures sorts { IfOk result (λ v. map (λ (s : closed.Side). s.sort) v.items ≡ sorts_of version) }
     ensures right { IfOk result (λ v. All (IsSide raw.now) v.items) }
     ensures inside { IfOk result (λ v. All (IsSideInside (length raw.now.taken)) v.items) }

@@ -11,16 +11,16 @@ ghost use Rattle.cfi_class.specs.Tables.{IsTable};
 
 use crate::begin::begun;
 use crate::draw::Drawing;
-use crate::end::FlowEnd;
 use crate::kind::site_kind;
 use crate::policy::{allowed, lines_by_site};
 use crate::raw::Raw;
 use crate::span::{reach, span_into};
+use crate::wrong_line::WrongLine;
 use cfi_class::Entry;
 use cfi_graph::SiteKind;
 use cfi_policy::{Policy, PolicyLine};
 use obj_program::Items;
-use rv_word::NoMemory;
+use rv_word::{End, NoMemory};
 use std::alloc::Global;
 
 /// Of each place, whether a relocation takes its address.
@@ -123,7 +123,7 @@ fn drawn(
 
 /// The raw graph of a program under a policy: its computed calls and jumps with the places that each may go to. A line of
 /// the policy gives one site its targets in place of those that the program gives it.
-pub fn raw_graph(alloc: Global, items: &Items, policy: &Policy) -> Result<Raw, FlowEnd>
+pub fn raw_graph(alloc: Global, items: &Items, policy: &Policy) -> Result<Raw, End<WrongLine>>
     ensures { MatchResult result (λ r. IsRaw items.now policy.now r) (λ e. Ends items.now policy.now e) }
 {
     let lines = policy.as_slice();

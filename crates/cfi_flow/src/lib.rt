@@ -3,17 +3,16 @@
 #![tactic(auto)]
 
 pub use closing::close;
-pub use end::FlowEnd;
 pub use graph::raw_graph;
 pub use label::used_labels;
 pub use named::entry_place;
 pub use raw::{Raw, RawSite};
+pub use wrong_line::WrongLine;
 
 mod begin;
 mod below;
 mod closing;
 mod draw;
-mod end;
 mod found;
 mod graph;
 mod join;
@@ -24,3 +23,4 @@ mod points;
 mod policy;
 mod raw;
 mod span;
+mod wrong_line;

@@ -6,13 +6,13 @@ ghost use Rattle.cfi_flow.specs.Drawn.{free_site, line_for};
 ghost use Rattle.cfi_flow.specs.Policy.{EndsFrom, allowed, misses_target, place_named, wrong_from};
 ghost use Rattle.cfi_class.specs.Tables.{IsTable};
 
-use crate::end::FlowEnd;
 use crate::kind::site_kind;
 use crate::named::place_named;
+use crate::wrong_line::WrongLine;
 use cfi_class::{Entry, blank, note};
 use cfi_policy::PolicyLine;
 use obj_program::Items;
-use rv_word::{NoMemory, Places};
+use rv_word::{End, NoMemory, Places};
 use std::alloc::Global;
 
 /// Whether a line has a target that names no instruction.
@@ -48,7 +48,7 @@ pub(crate) fn lines_by_site(
     items: &Items,
     lines: &[PolicyLine],
     first: u64,
-) -> Result<Vec<Entry>, FlowEnd>
+) -> Result<Vec<Entry>, End<WrongLine>>
     requires { first ≤ 3 }
     ensures { MatchResult result
         (λ v. (wrong_from first items.now lines.now ≡ None) × IsTable (line_for items.now lines.now) (count items.now) v.items)
@@ -58,7 +58,9 @@ pub(crate) fn lines_by_site(
     for j in 0..lines.len() {
         match free_site(items, table.as_slice(), &lines[j]) {
             Some(k) => note(&mut table, k, j as u64)?,
-            None => return Err(FlowEnd::Policy(j as u64 + first)),
+            None => return Err(End::Fault(WrongLine {
+                number: j as u64 + first,
+            })),
         }
     }
     Ok(table)

@@ -1,19 +1,21 @@
 -- The spelling of a graph is read as that graph.
-use Rattle.std.proofs.Common.{◌≡◌, ℕ, ◌+◌, ◌%◌, ◌^◌, ◌<◌, ◌≤◌, ◌==◌, ◌&&◌, ◌||◌, nat_lt, not, Bool, true, false, if◌then◌else◌, List, [], ◌∷◌, ◌++◌, codes, map, position, Option, Some, None, Ok, inl, inr, refl, sym, subst, ◌∙◌, ap, arith}
+use Rattle.std.proofs.Common.{◌≡◌, ℕ, ◌+◌, ◌%◌, ◌^◌, ◌<◌, ◌≤◌, ◌==◌, ◌&&◌, nat_lt, not, Bool, true, false, List, [], ◌∷◌, ◌++◌, codes, map, position, Option, Some, None, Ok, inl, inr, refl, sym, ◌∙◌, ap, arith}
 use Rattle.std.specs.List.{list_all}
 use Rattle.std.specs.Str.{bytes_eq}
-use Rattle.std.proofs.lemmas.Bool.{and_from, and_parts, cases_Bool, eqb-true, leb-true, ltb-true, or_cases}
+use Rattle.std.proofs.lemmas.Bool.{and_from, and_parts, cases_Bool, leb-true, ltb-true}
 use Rattle.std.proofs.lemmas.Slice.Eq.{bytes_eq-Decides}
 use Rattle.std.proofs.Math.Dec.{leb, ltb}
+use Rattle.rv_word.specs.declared.version.GraphVersion.TheVariants.{OneLabel, TwoLabels}
+use Rattle.rv_word.specs.declared.version.GraphVersion.{GraphVersion}
 use Rattle.cfi_graph.specs.declared.line.GraphLine.{GraphLine}
-use Rattle.cfi_graph.specs.declared.line.GraphLine.TheVariants.{Calls, Class, CallClass, JumpClass, Site, Edge, Call}
+use Rattle.cfi_graph.specs.declared.line.GraphLine.TheVariants.{Calls, Class, Site, Edge, Call}
 use Rattle.cfi_graph.specs.declared.line.SiteKind.TheVariants as kind
 use Rattle.cfi_graph.specs.declared.line.Sort.{Sort}
 use Rattle.cfi_graph.specs.declared.line.Sort.TheVariants as sorts
 use Rattle.cfi_graph.specs.declared.line.Key.{Key}
 use Rattle.cfi_graph.specs.declared.line.Key.TheVariants.{Head, Label, Address}
 use Rattle.cfi_graph.specs.Calls.{calls_of, line_after}
-use Rattle.cfi_graph.specs.Graph.{GraphParts, IsGraph, are_calls, class_in, class_in_range, fits_version, is_code_address, is_code_length, is_label, is_rising, is_sort_of, key_below, key_of, line_in_range, line_of_class, targets_rise}
+use Rattle.cfi_graph.specs.Graph.{GraphParts, IsGraph, are_calls, class_in, class_in_range, fits_version, is_code_address, is_code_length, is_label, is_rising, is_sort_of, key_below, key_of, line_in_range, targets_rise}
 use Rattle.text_lines.specs.Hex.{hex, hex_text}
 use Rattle.text_lines.specs.Lines.{lines_of, spaced, words_of}
 use Rattle.text_lines.specs.Reading.{if_right, one_named}
@@ -32,9 +34,7 @@ other_after : (before : Key) (l : GraphLine) → key_below before (key_of l) ≡
 other_after Head (Calls numbers) e = absurd cc
 other_after (Label k) (Calls numbers) e = absurd cc
 other_after (Address a) (Calls numbers) e = absurd cc
-other_after before (Class label targets) e = refl
-other_after before (CallClass label targets) e = refl
-other_after before (JumpClass label targets) e = refl
+other_after before (Class sort label targets) e = refl
 other_after before (Site address k label) e = refl
 other_after before (Edge from to) e = refl
 other_after before (Call from to) e = refl
@@ -61,8 +61,8 @@ addresses_back len (a ∷ rest) small e =
     let p = and_parts (is_code_address len a) (list_all (is_code_address len) rest) e in
     rw (address_back len a small p.0, addresses_back len rest small p.1) refl
 
-module _ (version len : ℕ) (small : len ≤ 0x100000) where
-  class_back : (sort : Sort) (label : ℕ) (targets : List ℕ) → is_sort_of version sort ≡ true → class_in_range len label targets ≡ true → line_of version (words_of_class sort label targets) ≡ Some (line_of_class sort label targets)
+module _ (version : GraphVersion) (len : ℕ) (small : len ≤ 0x100000) where
+  class_back : (sort : Sort) (label : ℕ) (targets : List ℕ) → is_sort_of version sort ≡ true → class_in_range len label targets ≡ true → line_of version (words_of_class sort label targets) ≡ Some (Class sort label targets)
   unfolding line_of
   class_back sort label targets fits e =
       let p = and_parts (is_label label) (list_all (is_code_address len) targets) e in
@@ -76,9 +76,7 @@ module _ (version len : ℕ) (small : len ≤ 0x100000) where
   named_back : (l : GraphLine) → is_list l ≡ false → fits_version version (class_in l) ≡ true → line_in_range len l ≡ true → line_of version (words_of_line l) ≡ Some l
   unfolding line_of
   named_back (Calls numbers) other fits e = absurd cc
-  named_back (Class label targets) other fits e = class_back sorts.Both label targets fits e
-  named_back (CallClass label targets) other fits e = class_back sorts.Calls label targets fits e
-  named_back (JumpClass label targets) other fits e = class_back sorts.Jumps label targets fits e
+  named_back (Class sort label targets) other fits e = class_back sort label targets fits e
   named_back (Site a kind.Call label) other fits e =
       let p = and_parts (is_code_address len a) (is_label label) e in
       rw (address_back len a small p.0, label_back label p.1) refl
@@ -99,9 +97,7 @@ class_words_back sort label targets =
 
 line_words_back : (l : GraphLine) → is_list l ≡ false → words_of (spaced (words_of_line l)) ≡ words_of_line l
 line_words_back (Calls numbers) other = absurd cc
-line_words_back (Class label targets) other = class_words_back sorts.Both label targets
-line_words_back (CallClass label targets) other = class_words_back sorts.Calls label targets
-line_words_back (JumpClass label targets) other = class_words_back sorts.Jumps label targets
+line_words_back (Class sort label targets) other = class_words_back sort label targets
 line_words_back (Site a k label) other =
     words_back (codes "site") (hex_text 8 a ∷ kind_name k ∷ hex_text 5 label ∷ []) (words_plain (Site a k label) refl)
 line_words_back (Edge from to) other =
@@ -131,7 +127,7 @@ others_after before (l ∷ lines) e =
     let p = and_parts (key_below before (key_of l)) _ e in
     and_from _ _ (ap not (other_after before l p.0)) (others_after (key_of l) lines p.1)
 
-module _ (version len : ℕ) (small : len ≤ 0x100000) where
+module _ (version : GraphVersion) (len : ℕ) (small : len ≤ 0x100000) where
   accepts : (before : Option Key) (lines : List GraphLine) → list_all (λ l. not (is_list l)) lines ≡ true → list_all (λ line. fits_version version (class_in line)) lines ≡ true → list_all (line_in_range len) lines ≡ true → list_all targets_rise lines ≡ true → rises_after before (map key_of lines) ≡ true → Accepts (graph_rules version len) before (spellings lines ++ [] ∷ []) lines
   accepts before [] n f r t o = end_only
   accepts before (l ∷ lines) n f r t o =
@@ -145,7 +141,7 @@ module _ (version len : ℕ) (small : len ≤ 0x100000) where
       line_first back p.0 s.0 (accepts (Some (key_of l)) lines other.1 fits.1 p.1 q.1 s.1)
 
 -- a line of another form is no list
-no_calls : (version : ℕ) (words : List (List ℕ)) (l : GraphLine) → line_of version words ≡ Some l → calls_of words ≡ None
+no_calls : (version : GraphVersion) (words : List (List ℕ)) (l : GraphLine) → line_of version words ≡ Some l → calls_of words ≡ None
 unfolding line_of
 no_calls version [] l e = refl
 no_calls version (name ∷ words) l e =
@@ -165,7 +161,7 @@ length_back len e =
     let small = length_small len e in
     ap length_of (words_back (codes "code") (codes "40000000" ∷ hex_text 8 len ∷ []) (and_from _ true (hex_plain 8 len) refl)) ∙ hex_back 8 len (omega arith)
 
-module _ (version len : ℕ) where
+module _ (version : GraphVersion) (len : ℕ) where
   -- lines that are no lists are read after the list, if there is one
   body_back : (calls : Option (List ℕ)) (lines : List GraphLine) → Accepts (graph_rules version len) (calls_key calls) (spellings lines ++ [] ∷ []) lines → with_lines version len calls (spellings lines ++ [] ∷ []) ≡ Ok (record { version = version; code = len; lines = calls_lines calls ++ lines })
   body_back calls lines are = rw (read_back (graph_rules version len) (no_end version) (line_after 3 calls) are) refl
@@ -189,9 +185,7 @@ module _ (version len : ℕ) where
   third_list numbers (l ∷ lines) are rising = rw (calls_back numbers are, judged_back 3 numbers are rising) refl
 
   listed_back : (l : GraphLine) (lines : List GraphLine) → is_list l ≡ true → IsGraph (record { version = version; code = len; lines = l ∷ lines }) → with_code version len (spellings (l ∷ lines) ++ [] ∷ []) ≡ Ok (record { version = version; code = len; lines = l ∷ lines })
-  listed_back (Class label targets) lines e is = absurd cc
-  listed_back (CallClass label targets) lines e is = absurd cc
-  listed_back (JumpClass label targets) lines e is = absurd cc
+  listed_back (Class sort label targets) lines e is = absurd cc
   listed_back (Site address k label) lines e is = absurd cc
   listed_back (Edge from to) lines e is = absurd cc
   listed_back (Call from to) lines e is = absurd cc
@@ -223,24 +217,18 @@ module _ (version len : ℕ) where
   after_first_back (l ∷ lines) is = rw (length_back len is.length, is.length) (code_back (l ∷ lines) is)
 
 -- the first line of a version, by its place among the first lines
-record Named (version : ℕ) : Type 0 where
+record Named (version : GraphVersion) : Type 0 where
   pub which : ℕ
   pub there : position (bytes_eq (graph_name version)) graph_names ≡ Some which
   pub tells : version_at which ≡ version
 
-named : (version : ℕ) → (version == 1 || version == 2) ≡ true → Named version
-named version known =
-    elim (or_cases (version == 1) (version == 2) known) [
-      | inl one ↦ subst Named (sym (eqb-true version 1 one)) (record { which = 0; there = refl; tells = refl })
-      | inr two ↦ subst Named (sym (eqb-true version 2 two)) (record { which = 1; there = refl; tells = refl })
-    ]
+named : (version : GraphVersion) → Named version
+named OneLabel = record { which = 0; there = refl; tells = refl }
+named TwoLabels = record { which = 1; there = refl; tells = refl }
 
-name_lacks : (version : ℕ) → lacks 10 (graph_name version) ≡ true
-name_lacks version = by_test (version == 2)
-  where
-    by_test : (b : Bool) → lacks 10 (if b then codes "rvcfi-graph 2" else codes "rvcfi-graph 1") ≡ true
-    by_test true = refl
-    by_test false = refl
+name_lacks : (version : GraphVersion) → lacks 10 (graph_name version) ≡ true
+name_lacks OneLabel = refl
+name_lacks TwoLabels = refl
 
 second_lacks : (len : ℕ) → lacks 10 (spaced (second_words (hex_text 8 len))) ≡ true
 second_lacks len =
@@ -252,9 +240,7 @@ all_lack len [] range order = refl
 all_lack len (Calls numbers ∷ lines) range order =
     let p = and_parts (are_calls numbers) (list_all (line_in_range len) lines) range in
     and_from _ _ (spaced_line (words_of_calls numbers) (calls_plain numbers p.0)) (lines_lack lines (others_after Head lines order))
-all_lack len (Class label targets ∷ lines) range order = lines_lack (Class label targets ∷ lines) (others_after (Label label) lines order)
-all_lack len (CallClass label targets ∷ lines) range order = lines_lack (CallClass label targets ∷ lines) (others_after (Label label) lines order)
-all_lack len (JumpClass label targets ∷ lines) range order = lines_lack (JumpClass label targets ∷ lines) (others_after (Label label) lines order)
+all_lack len (Class sort label targets ∷ lines) range order = lines_lack (Class sort label targets ∷ lines) (others_after (Label label) lines order)
 all_lack len (Site address k label ∷ lines) range order = lines_lack (Site address k label ∷ lines) (others_after (Address address) lines order)
 all_lack len (Edge from to ∷ lines) range order = lines_lack (Edge from to ∷ lines) (others_after (Address from) lines order)
 all_lack len (Call from to ∷ lines) range order = lines_lack (Call from to ∷ lines) (others_after (Address from) lines order)
@@ -263,7 +249,7 @@ module _ (graph : GraphParts) (is : IsGraph graph) where
   from_lines_back : if_right (one_named graph_names (graph_lines graph ++ [] ∷ [])) (λ first. after_first (version_at first.0) first.1) ≡ Ok graph
   unfolding one_named graph_lines
   from_lines_back =
-      let name = named graph.version is.version in
+      let name = named graph.version in
       rw (name.there, name.tells) (after_first_back graph.version graph.code graph.lines is)
 
   -- the lines of a graph's text

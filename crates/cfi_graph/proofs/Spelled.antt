@@ -6,8 +6,9 @@ use Rattle.std.proofs.lemmas.Slice.Eq.{bytes_eq-Decides}
 use Rattle.std.proofs.lemmas.Bool.{and_parts}
 use Rattle.std.proofs.lemmas.Option.{same_Some}
 use Rattle.std.proofs.lemmas.List.Splits.{join_with_byte-slice_split}
+use Rattle.rv_word.specs.declared.version.GraphVersion.{GraphVersion}
 use Rattle.cfi_graph.specs.declared.line.GraphLine.{GraphLine}
-use Rattle.cfi_graph.specs.declared.line.GraphLine.TheVariants.{Site, Edge, Call}
+use Rattle.cfi_graph.specs.declared.line.GraphLine.TheVariants.{Class, Site, Edge, Call}
 use Rattle.cfi_graph.specs.declared.line.SiteKind.{SiteKind}
 use Rattle.cfi_graph.specs.declared.line.Sort.{Sort}
 use Rattle.cfi_graph.specs.declared.line.Sort.TheVariants.{Both, Calls, Jumps}
@@ -16,7 +17,7 @@ use Rattle.text_lines.specs.Lines.{spaced, words_of}
 use Rattle.text_lines.proofs.Numbers.{hex_spelled}
 use Rattle.rv_word.proofs.Cases.{guarded}
 use Rattle.text_lines.proofs.Options.{and_then, chosen, mapped}
-use Rattle.cfi_graph.specs.Graph.{class_in, fits_version, is_sort_of, line_of_class}
+use Rattle.cfi_graph.specs.Graph.{class_in, fits_version, is_sort_of}
 use Rattle.cfi_graph.specs.Text.{class_name, kind_name, words_of_class, words_of_line}
 use Rattle.cfi_graph.specs.Lines.{addresses_of, class_of, class_or_other, kind_of, length_of, line_of, other_of, pair_of, site_of, sort_named, sort_with}
 
@@ -31,7 +32,7 @@ addresses_spelled (word ∷ rest) addresses e =
     mapped (λ ys. a ∷ ys) (addresses_of rest) addresses others (λ ys is whole.
     rw whole (ap (λ w. w ∷ rest) (hex_spelled 8 word a first) ∙ ap (λ ws. hex_text 8 a ∷ ws) (addresses_spelled rest ys is))))
 
-class_words : (sort : Sort) (label : ℕ) (targets : List ℕ) → words_of_line (line_of_class sort label targets) ≡ words_of_class sort label targets
+class_words : (sort : Sort) (label : ℕ) (targets : List ℕ) → words_of_line (Class sort label targets) ≡ words_of_class sort label targets
 class_words Both label targets = refl
 class_words Calls label targets = refl
 class_words Jumps label targets = refl
@@ -40,7 +41,7 @@ class_spelled : (sort : Sort) (words : List (List ℕ)) (l : GraphLine) → clas
 class_spelled sort [] l e = absurd cc
 class_spelled sort (label ∷ rest) l e =
     and_then _ (hex 5 label) l e (λ k first others.
-    mapped (λ targets. line_of_class sort k targets) (addresses_of rest) l others (λ targets is whole.
+    mapped (λ targets. Class sort k targets) (addresses_of rest) l others (λ targets is whole.
     rw whole (ap (λ w. class_name sort ∷ w ∷ rest) (hex_spelled 5 label k first) ∙ ap (λ ws. class_name sort ∷ hex_text 5 k ∷ ws) (addresses_spelled rest targets is) ∙ sym (class_words sort k targets))))
 
 -- a name of a class's line names its sort
@@ -50,7 +51,7 @@ sort_spelled name sort e =
     chosen (bytes_eq name (codes "callclass")) _ _ _ e1 (λ t s. same_bytes name _ t ∙ ap class_name (same_Some _ _ s)) (λ f2 e2.
     let g = guarded (bytes_eq name (codes "jumpclass")) _ _ e2 in same_bytes name _ g.0 ∙ ap class_name (same_Some _ _ g.1)))
 
-sort_read : (version : ℕ) (name : List ℕ) (sort : Sort) → sort_named version name ≡ Some sort → (name ≡ class_name sort) × (is_sort_of version sort ≡ true)
+sort_read : (version : GraphVersion) (name : List ℕ) (sort : Sort) → sort_named version name ≡ Some sort → (name ≡ class_name sort) × (is_sort_of version sort ≡ true)
 sort_read version name sort e =
     and_then _ (sort_with name) sort e (λ found is others.
     let g = guarded (is_sort_of version found) _ _ others in
@@ -92,7 +93,7 @@ other_spelled name words l e =
     let g = guarded (bytes_eq name (codes "call")) _ _ e2 in
     mapped (λ (p : ℕ × ℕ). Call p.0 p.1) (pair_of words) l g.1 (λ p is whole. rw whole (ap (λ n. n ∷ words) (same_bytes name _ g.0) ∙ ap (λ ws. codes "call" ∷ ws) (pair_spelled words p is)))))
 
-module _ (version : ℕ) where
+module _ (version : GraphVersion) where
   named_spelled : (sort : Option Sort) (name : List ℕ) (words : List (List ℕ)) (l : GraphLine) → sort_named version name ≡ sort → class_or_other sort name words ≡ Some l → name ∷ words ≡ words_of_line l
   named_spelled None name words l named e = other_spelled name words l e
   named_spelled (Some sort) name words l named e =
@@ -108,22 +109,22 @@ module _ (version : ℕ) where
       sym (join_with_byte-slice_split 32 line) ∙ ap (join_with_byte 32) (words_spelled (words_of line) l e)
 
 -- the last line of a text spells none
-pub no_end : (version : ℕ) → line_of version (words_of (codes "end")) ≡ None
+pub no_end : (version : GraphVersion) → line_of version (words_of (codes "end")) ≡ None
 unfolding line_of
 no_end version = refl
 
 -- ---- a line that is read fits its version
 
-class_fits : (version : ℕ) (sort : Sort) (label : ℕ) (targets : List ℕ) → is_sort_of version sort ≡ true → fits_version version (class_in (line_of_class sort label targets)) ≡ true
+class_fits : (version : GraphVersion) (sort : Sort) (label : ℕ) (targets : List ℕ) → is_sort_of version sort ≡ true → fits_version version (class_in (Class sort label targets)) ≡ true
 class_fits version Both label targets e = e
 class_fits version Calls label targets e = e
 class_fits version Jumps label targets e = e
 
-class_read : (version : ℕ) (sort : Sort) (words : List (List ℕ)) (l : GraphLine) → is_sort_of version sort ≡ true → class_of sort words ≡ Some l → fits_version version (class_in l) ≡ true
+class_read : (version : GraphVersion) (sort : Sort) (words : List (List ℕ)) (l : GraphLine) → is_sort_of version sort ≡ true → class_of sort words ≡ Some l → fits_version version (class_in l) ≡ true
 class_read version sort [] l fits e = absurd cc
 class_read version sort (label ∷ rest) l fits e =
     and_then _ (hex 5 label) l e (λ k first others.
-    mapped (λ targets. line_of_class sort k targets) (addresses_of rest) l others (λ targets is whole.
+    mapped (λ targets. Class sort k targets) (addresses_of rest) l others (λ targets is whole.
     rw whole (class_fits version sort k targets fits)))
 
 site_read : (words : List (List ℕ)) (l : GraphLine) → site_of words ≡ Some l → class_in l ≡ None
@@ -143,7 +144,7 @@ other_read name words l e =
     let g = guarded (bytes_eq name (codes "call")) _ _ e2 in
     mapped (λ (p : ℕ × ℕ). Call p.0 p.1) (pair_of words) l g.1 (λ p is whole. ap class_in whole)))
 
-module _ (version : ℕ) where
+module _ (version : GraphVersion) where
   named_read : (sort : Option Sort) (name : List ℕ) (words : List (List ℕ)) (l : GraphLine) → sort_named version name ≡ sort → class_or_other sort name words ≡ Some l → fits_version version (class_in l) ≡ true
   named_read None name words l named e = ap (fits_version version) (other_read name words l e)
   named_read (Some sort) name words l named e =

@@ -6,10 +6,11 @@ use Rattle.std.specs.Str.{bytes_eq}
 use Rattle.std.proofs.lemmas.List.Splits.{join_with_byte-slice_split}
 use Rattle.std.proofs.lemmas.Slice.Eq.{bytes_eq-Decides}
 use Rattle.rv_word.proofs.Cases.{cases_Option, guarded, unmapped}
+use Rattle.rv_word.specs.declared.end.End.{End}
 use Rattle.text_lines.specs.Lines.{lines_of, words_of}
-use Rattle.text_lines.specs.declared.end.TextEnd.{TextEnd}
 use Rattle.text_lines.proofs.Options.{mapped}
 use Rattle.text_lines.proofs.Steps.{some_line}
+use Rattle.text_lines.specs.declared.fault.LineFault.{LineFault}
 use Rattle.cfi_graph.specs.Calls.{Listed, calls_of, decimals_of, few_in, judged_calls, small_in}
 use Rattle.cfi_graph.specs.Reading.{listed, third_line}
 
@@ -59,8 +60,8 @@ module _ (rest : List ℕ) {parts : List (List ℕ)} {line : List ℕ} (p : part
   pub no_list : None ≡ option_map small_in (calls_of (words_of line)) → third_line parts ≡ Ok (without parts)
   no_list e = is_listed ∙ ap (λ found. listed found parts (lines_of rest)) (unmapped small_in (calls_of (words_of line)) (sym e))
 
-  module _ (numbers : Option (List ℕ)) (answer : Result (List ℕ) TextEnd) (is : Some numbers ≡ option_map small_in (calls_of (words_of line))) (judges : (calls : List ℕ) → numbers ≡ small_in calls → answer ≡ judged_calls 3 (Some calls)) where
-    pub refused_list : (end : TextEnd) → answer ≡ Err end → third_line parts ≡ Err end
+  module _ (numbers : Option (List ℕ)) (answer : Result (List ℕ) (End LineFault)) (is : Some numbers ≡ option_map small_in (calls_of (words_of line))) (judges : (calls : List ℕ) → numbers ≡ small_in calls → answer ≡ judged_calls 3 (Some calls)) where
+    pub refused_list : (end : End LineFault) → answer ≡ Err end → third_line parts ≡ Err end
     refused_list end e =
         mapped small_in (calls_of (words_of line)) numbers (sym is) (λ calls found small.
         is_listed ∙ ap (λ o. listed o parts (lines_of rest)) found ∙ rw (sym (judges calls small) ∙ e) refl)

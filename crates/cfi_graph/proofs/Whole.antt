@@ -1,17 +1,19 @@
 -- A text that is read as a graph is that graph's spelling, and the graph is one that may be.
-use Rattle.std.proofs.Common.{◌≡◌, ℕ, zero, suc, ◌<◌, ◌==◌, ◌||◌, nat_lt, Bool, true, false, if◌then◌else◌, List, [], ◌∷◌, ◌++◌, codes, get_or, map, Option, Some, None, Result, Ok, Err, refl, sym, subst, ◌∙◌, ap, arith}
+use Rattle.std.proofs.Common.{◌≡◌, ℕ, zero, suc, ◌<◌, nat_lt, Bool, true, List, [], ◌∷◌, ◌++◌, codes, get_or, map, Option, Some, None, Result, Ok, Err, refl, sym, subst, ◌∙◌, ap, arith}
 use Rattle.std.specs.List.{join_with_byte, list_all}
 use Rattle.std.proofs.lemmas.Bool.{and_from, and_parts}
 use Rattle.std.proofs.lemmas.List.Splits.{join_with_byte-slice_split}
+use Rattle.rv_word.specs.declared.version.GraphVersion.{GraphVersion}
+use Rattle.rv_word.specs.declared.end.End.{End}
 use Rattle.cfi_graph.specs.declared.line.GraphLine.{GraphLine}
 use Rattle.cfi_graph.specs.declared.line.Key.{Key}
-use Rattle.text_lines.specs.declared.end.TextEnd.{TextEnd}
 use Rattle.text_lines.specs.Hex.{hex_text}
 use Rattle.text_lines.specs.Lines.{lines_of, spaced, words_of}
 use Rattle.text_lines.specs.Reading.{if_right, one_named, read, whole}
 use Rattle.text_lines.proofs.Accepts.{Accepts, end_only, if_ok, line_first}
 use Rattle.text_lines.proofs.Whole.{one_named_ok, whole_accepts}
 use Rattle.text_lines.proofs.Written.{join_newlines}
+use Rattle.text_lines.specs.declared.fault.LineFault.{LineFault}
 use Rattle.cfi_graph.specs.Calls.{Listed, calls_of, judged_calls, line_after, may_be_calls}
 use Rattle.cfi_graph.specs.Graph.{GraphParts, IsGraph, are_calls, class_in, fits_version, is_code_length, is_rising, key_below, key_of, line_in_range, targets_rise}
 use Rattle.cfi_graph.specs.Lines.{length_of}
@@ -42,7 +44,7 @@ rises_none (Some k) = refl
 abbrev pub spellings : List GraphLine → List (List ℕ)
 spellings lines = map (λ l. spaced (words_of_line l)) lines ++ codes "end" ∷ []
 
-module _ (version len : ℕ) where
+module _ (version : GraphVersion) (len : ℕ) where
   in_range : {before : Option Key} {parts : List (List ℕ)} {lines : List GraphLine} → Accepts (graph_rules version len) before parts lines → list_all (line_in_range len) lines ≡ true
   in_range end_only = refl
   in_range (line_first found range order rest) = and_from _ _ range (in_range rest)
@@ -78,23 +80,21 @@ pub record GivesAfter (parts : List (List ℕ)) (graph : GraphParts) : Type 0 wh
   pub parts_are : parts ≡ second ∷ rest
   pub second_is : second ≡ spaced (codes "code" ∷ codes "40000000" ∷ hex_text 8 graph.code ∷ [])
   pub spelled : rest ≡ spellings graph.lines ++ [] ∷ []
-  pub allowed : (graph.version == 1 || graph.version == 2) ≡ true → IsGraph graph
+  pub allowed : IsGraph graph
 
 -- a graph of a version that there is, whose lines from the third on are accepted
-accepted : (version len : ℕ) (calls : Option (List ℕ)) {parts : List (List ℕ)} {lines : List GraphLine} → (version == 1 || version == 2) ≡ true → is_code_length len ≡ true → may_be_calls calls ≡ true → Accepts (graph_rules version len) (calls_key calls) parts lines → IsGraph (record { version = version; code = len; lines = calls_lines calls ++ lines })
-accepted version len None known length may accepts =
+accepted : (version : GraphVersion) (len : ℕ) (calls : Option (List ℕ)) {parts : List (List ℕ)} {lines : List GraphLine} → is_code_length len ≡ true → may_be_calls calls ≡ true → Accepts (graph_rules version len) (calls_key calls) parts lines → IsGraph (record { version = version; code = len; lines = calls_lines calls ++ lines })
+accepted version len None length may accepts =
     record {
-      version = known;
       sorts = fits version len accepts;
       length = length;
       range = in_range version len accepts;
       targets = targets version len accepts;
       order = rises version len accepts;
     }
-accepted version len (Some calls) known length may accepts =
+accepted version len (Some calls) length may accepts =
     let p = and_parts (are_calls calls) (is_rising nat_lt calls) may in
     record {
-      version = known;
       sorts = fits version len accepts;
       length = length;
       range = and_from _ _ p.0 (in_range version len accepts);
@@ -102,12 +102,12 @@ accepted version len (Some calls) known length may accepts =
       order = rises version len accepts;
     }
 
-pub valid : (version len : ℕ) (calls : Option (List ℕ)) (parts : List (List ℕ)) (lines : List GraphLine) → (version == 1 || version == 2) ≡ true → is_code_length len ≡ true → may_be_calls calls ≡ true → whole (read (graph_rules version len) (calls_key calls) (line_after 3 calls) parts) ≡ Ok lines → IsGraph (record { version = version; code = len; lines = calls_lines calls ++ lines })
-valid version len calls parts lines known length may e =
-    accepted version len calls known length may (whole_accepts (graph_rules version len) (calls_key calls) (line_after 3 calls) parts lines e)
+pub valid : (version : GraphVersion) (len : ℕ) (calls : Option (List ℕ)) (parts : List (List ℕ)) (lines : List GraphLine) → is_code_length len ≡ true → may_be_calls calls ≡ true → whole (read (graph_rules version len) (calls_key calls) (line_after 3 calls) parts) ≡ Ok lines → IsGraph (record { version = version; code = len; lines = calls_lines calls ++ lines })
+valid version len calls parts lines length may e =
+    accepted version len calls length may (whole_accepts (graph_rules version len) (calls_key calls) (line_after 3 calls) parts lines e)
 
 -- what is read is of the version, the length and the lines that were told
-with_front_ok : (version len : ℕ) (front : List GraphLine) (lines : Result (List GraphLine) TextEnd) (graph : GraphParts) → if_right lines (λ read. Ok (record { version = version; code = len; lines = front ++ read })) ≡ Ok graph → (read : List GraphLine) × (lines ≡ Ok read) × (record { version = version; code = len; lines = front ++ read } ≡ graph)
+with_front_ok : (version : GraphVersion) (len : ℕ) (front : List GraphLine) (lines : Result (List GraphLine) (End LineFault)) (graph : GraphParts) → if_right lines (λ read. Ok (record { version = version; code = len; lines = front ++ read })) ≡ Ok graph → (read : List GraphLine) × (lines ≡ Ok read) × (record { version = version; code = len; lines = front ++ read } ≡ graph)
 with_front_ok version len front (Ok lines) graph e =
     let same : record { version = version; code = len; lines = front ++ lines } ≡ graph = cc in
     (lines, refl, same)
@@ -125,10 +125,10 @@ pub record Third (parts : List (List ℕ)) (told : Listed) : Type 0 where
 same_Ok : {A E : Type 0} (x y : A) → ◌≡◌ {A = Result A E} (Ok x) (Ok y) → x ≡ y
 same_Ok x y e = cc
 
-third_none : (parts : List (List ℕ)) (told : Listed) → ◌≡◌ {A = Result Listed TextEnd} (Ok (record { calls = None; lines = parts })) (Ok told) → Third parts told
+third_none : (parts : List (List ℕ)) (told : Listed) → ◌≡◌ {A = Result Listed (End LineFault)} (Ok (record { calls = None; lines = parts })) (Ok told) → Third parts told
 third_none parts told e = subst (Third parts) (same_Ok (record { calls = None; lines = parts }) told e) (record { may = refl; are = refl })
 
-third_some : (line : List ℕ) (rest : List (List ℕ)) (numbers : List ℕ) (found : Result (List ℕ) TextEnd) (told : Listed) → calls_of (words_of line) ≡ Some numbers → judged_calls 3 (Some numbers) ≡ found → if_right found (λ calls. Ok (record { calls = Some calls; lines = rest })) ≡ Ok told → Third (line ∷ rest) told
+third_some : (line : List ℕ) (rest : List (List ℕ)) (numbers : List ℕ) (found : Result (List ℕ) (End LineFault)) (told : Listed) → calls_of (words_of line) ≡ Some numbers → judged_calls 3 (Some numbers) ≡ found → if_right found (λ calls. Ok (record { calls = Some calls; lines = rest })) ≡ Ok told → Third (line ∷ rest) told
 third_some line rest numbers (Err fault) told is j e = absurd cc
 third_some line rest numbers (Ok calls) told is j e =
     let list = judged_list 3 line calls (ap (judged_calls 3) is ∙ j) in
@@ -150,7 +150,7 @@ with_list : (calls : Option (List ℕ)) (lines : List GraphLine) → list_lines 
 with_list None lines = refl
 with_list (Some calls) lines = refl
 
-with_code_ok : (version len : ℕ) (second : List ℕ) (parts : List (List ℕ)) (found : Result Listed TextEnd) (graph : GraphParts) → is_code_length len ≡ true → second ≡ spaced (codes "code" ∷ codes "40000000" ∷ hex_text 8 len ∷ []) → third_line parts ≡ found → if_right found (λ told. with_lines version len told.calls told.lines) ≡ Ok graph → (GivesAfter (second ∷ parts) graph) × (graph.version ≡ version)
+with_code_ok : (version : GraphVersion) (len : ℕ) (second : List ℕ) (parts : List (List ℕ)) (found : Result Listed (End LineFault)) (graph : GraphParts) → is_code_length len ≡ true → second ≡ spaced (codes "code" ∷ codes "40000000" ∷ hex_text 8 len ∷ []) → third_line parts ≡ found → if_right found (λ told. with_lines version len told.calls told.lines) ≡ Ok graph → (GivesAfter (second ∷ parts) graph) × (graph.version ≡ version)
 with_code_ok version len second parts (Err fault) graph length is third e = absurd cc
 with_code_ok version len second parts (Ok told) graph length is third e =
     let list = third_ok parts told third in
@@ -163,11 +163,11 @@ with_code_ok version len second parts (Ok told) graph length is third e =
       parts_are = refl;
       second_is = is;
       spelled = spelled_as;
-      allowed = λ known. accepted version len told.calls known length list.may accepts;
+      allowed = accepted version len told.calls length list.may accepts;
     } in
     (subst (GivesAfter (second ∷ parts)) found.2 after, ap (λ (g : GraphParts). g.version) (sym found.2))
 
-with_length_ok : (version : ℕ) (line : List ℕ) (parts : List (List ℕ)) (graph : GraphParts) → with_length version (length_of (words_of line)) parts ≡ Ok graph → (GivesAfter (line ∷ parts) graph) × (graph.version ≡ version)
+with_length_ok : (version : GraphVersion) (line : List ℕ) (parts : List (List ℕ)) (graph : GraphParts) → with_length version (length_of (words_of line)) parts ≡ Ok graph → (GivesAfter (line ∷ parts) graph) × (graph.version ≡ version)
 with_length_ok version line parts graph e = told (length_of (words_of line)) refl e
   where
     told : (found : Option ℕ) → length_of (words_of line) ≡ found → with_length version found parts ≡ Ok graph → (GivesAfter (line ∷ parts) graph) × (graph.version ≡ version)
@@ -176,20 +176,13 @@ with_length_ok version line parts graph e = told (length_of (words_of line)) ref
         let range = if_ok (is_code_length len) _ _ _ h in
         with_code_ok version len line parts (third_line parts) graph range.0 (length_spelled line len is) refl range.1
 
-after_first_ok : (version : ℕ) (parts : List (List ℕ)) (graph : GraphParts) → after_first version parts ≡ Ok graph → (GivesAfter parts graph) × (graph.version ≡ version)
+after_first_ok : (version : GraphVersion) (parts : List (List ℕ)) (graph : GraphParts) → after_first version parts ≡ Ok graph → (GivesAfter parts graph) × (graph.version ≡ version)
 unfolding after_first
 after_first_ok version [] graph e = absurd cc
 after_first_ok version (line ∷ []) graph e = absurd cc
 after_first_ok version (line ∷ part ∷ parts) graph e = with_length_ok version line (part ∷ parts) graph e
 
--- each first line tells a version, whose name it is
-pub version_known : (which : ℕ) → (version_at which == 1 || version_at which == 2) ≡ true
-version_known which = by_test (which == 0)
-  where
-    by_test : (b : Bool) → ((if b then 1 else 2) == 1 || (if b then 1 else 2) == 2) ≡ true
-    by_test true = refl
-    by_test false = refl
-
+-- each first line is the name of the version that it tells
 name_at : (which : ℕ) → which < 2 → get_or graph_names which [] ≡ graph_name (version_at which)
 name_at zero lt = refl
 name_at (suc zero) lt = refl
@@ -203,7 +196,7 @@ from_lines_ok parts graph e =
     let after = p.0 in
     let others : rest ≡ spaced (codes "code" ∷ codes "40000000" ∷ hex_text 8 graph.code ∷ []) ∷ (spellings graph.lines ++ [] ∷ []) = after.parts_are ∙ ap (λ second. second ∷ after.rest) after.second_is ∙ ap (λ ls. spaced (codes "code" ∷ codes "40000000" ∷ hex_text 8 graph.code ∷ []) ∷ ls) after.spelled in
     record {
-      allowed = after.allowed (ap (λ v. v == 1 || v == 2) p.1 ∙ version_known which);
+      allowed = after.allowed;
       lines = parts_are ∙ ap (λ first. first ∷ rest) (name_at which known ∙ ap graph_name (sym p.1)) ∙ ap (λ ls. graph_name graph.version ∷ ls) others;
     })
 

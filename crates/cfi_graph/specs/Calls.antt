@@ -4,9 +4,10 @@ use Rattle.std.specs.Prelude.{ℕ, ◌+◌, ◌^◌, nat_lt, nat_le, Bool, true,
 use Rattle.std.specs.List.{list_all}
 use Rattle.std.specs.Str.{bytes_eq}
 use Rattle.rv_word.specs.Numbers.{MOST_NUMBERS}
+use Rattle.rv_word.specs.declared.end.End.{End}
 use Rattle.text_lines.specs.Decimal.{decimal}
 use Rattle.text_lines.specs.Reading.{LineRules, judged}
-use Rattle.text_lines.specs.declared.end.TextEnd.{TextEnd}
+use Rattle.text_lines.specs.declared.fault.LineFault.{LineFault}
 use Rattle.cfi_graph.specs.Graph.{are_calls, is_rising}
 
 -- the numbers that decimal words spell
@@ -38,7 +39,7 @@ calls_rules = record {
 }
 
 -- the numbers, or the first reason why the line with this number is refused
-abbrev pub judged_calls : ℕ → Option (List ℕ) → Result (List ℕ) TextEnd
+abbrev pub judged_calls : ℕ → Option (List ℕ) → Result (List ℕ) (End LineFault)
 judged_calls number spelled = judged calls_rules tt number spelled
 
 -- what stands before a text's lines: the list of system calls, if there is one, and then those lines

@@ -1,18 +1,20 @@
 -- A graph of control flow: its version, the length of the code that it is of, and its lines. The rules
 -- here say which lines a version has, which numbers a line may have and in which order lines stand.
-use Rattle.std.specs.Prelude.{ℕ, ◌+◌, ◌%◌, ◌^◌, ◌==◌, nat_lt, nat_le, Bool, true, false, ◌&&◌, ◌||◌, IsTrue, List, [], ◌∷◌, length, Option, Some, None, is_some, map}
+use Rattle.std.specs.Prelude.{ℕ, ◌+◌, ◌%◌, ◌^◌, ◌==◌, nat_lt, nat_le, Bool, true, false, ◌&&◌, IsTrue, List, [], ◌∷◌, length, Option, Some, None, is_some, map}
 use Rattle.std.specs.List.{list_all}
 use Rattle.rv_word.specs.MemoryMap.{CODE_START, CODE_SIZE}
 use Rattle.rv_word.specs.Numbers.{MOST_NUMBERS}
+use Rattle.rv_word.specs.declared.version.GraphVersion.{GraphVersion}
+use Rattle.rv_word.specs.declared.version.GraphVersion.TheVariants.{OneLabel, TwoLabels}
 use Rattle.cfi_graph.specs.declared.line.GraphLine.{GraphLine}
-use Rattle.cfi_graph.specs.declared.line.GraphLine.TheVariants.{Calls, Class, CallClass, JumpClass, Site, Edge, Call}
+use Rattle.cfi_graph.specs.declared.line.GraphLine.TheVariants.{Calls, Class, Site, Edge, Call}
 use Rattle.cfi_graph.specs.declared.line.Sort.{Sort}
 use Rattle.cfi_graph.specs.declared.line.Sort.TheVariants as sorts
 use Rattle.cfi_graph.specs.declared.line.Key.{Key}
 use Rattle.cfi_graph.specs.declared.line.Key.TheVariants.{Head, Label, Address}
 
 pub record GraphParts : Type 0 where
-  pub version : ℕ
+  pub version : GraphVersion
   pub code : ℕ
   pub lines : List GraphLine
 
@@ -25,9 +27,7 @@ pub record ClassLine : Type 0 where
 -- the class of a line, where it is a class's
 abbrev pub class_in : GraphLine → Option ClassLine
 class_in (Calls numbers) = None
-class_in (Class label targets) = Some (record { sort = sorts.Both; label = label; targets = targets })
-class_in (CallClass label targets) = Some (record { sort = sorts.Calls; label = label; targets = targets })
-class_in (JumpClass label targets) = Some (record { sort = sorts.Jumps; label = label; targets = targets })
+class_in (Class sort label targets) = Some (record { sort = sort; label = label; targets = targets })
 class_in (Site address kind label) = None
 class_in (Edge from to) = None
 class_in (Call from to) = None
@@ -36,27 +36,22 @@ class_in (Call from to) = None
 abbrev pub calls_in : List GraphLine → Option (List ℕ)
 calls_in [] = None
 calls_in (Calls numbers ∷ lines) = Some numbers
-calls_in (Class label targets ∷ lines) = None
-calls_in (CallClass label targets ∷ lines) = None
-calls_in (JumpClass label targets ∷ lines) = None
+calls_in (Class sort label targets ∷ lines) = None
 calls_in (Site address kind label ∷ lines) = None
 calls_in (Edge from to ∷ lines) = None
 calls_in (Call from to ∷ lines) = None
 
--- the line of a class of a sort
-abbrev pub line_of_class : Sort → ℕ → List ℕ → GraphLine
-line_of_class sorts.Both label targets = Class label targets
-line_of_class sorts.Calls label targets = CallClass label targets
-line_of_class sorts.Jumps label targets = JumpClass label targets
-
 -- Versions. The classes of version 1 serve computed calls and jumps alike; those of version 2 serve either
-abbrev pub is_sort_of : ℕ → Sort → Bool
-is_sort_of version sorts.Both = version == 1
-is_sort_of version sorts.Calls = version == 2
-is_sort_of version sorts.Jumps = version == 2
+abbrev pub is_sort_of : GraphVersion → Sort → Bool
+is_sort_of OneLabel sorts.Both = true
+is_sort_of OneLabel sorts.Calls = false
+is_sort_of OneLabel sorts.Jumps = false
+is_sort_of TwoLabels sorts.Both = false
+is_sort_of TwoLabels sorts.Calls = true
+is_sort_of TwoLabels sorts.Jumps = true
 
 -- a line may stand in a graph of a version
-abbrev pub fits_version : ℕ → Option ClassLine → Bool
+abbrev pub fits_version : GraphVersion → Option ClassLine → Bool
 fits_version version None = true
 fits_version version (Some class) = is_sort_of version class.sort
 
@@ -82,9 +77,7 @@ are_calls numbers =
 
 abbrev pub line_in_range : ℕ → GraphLine → Bool
 line_in_range len (Calls numbers) = are_calls numbers
-line_in_range len (Class label targets) = class_in_range len label targets
-line_in_range len (CallClass label targets) = class_in_range len label targets
-line_in_range len (JumpClass label targets) = class_in_range len label targets
+line_in_range len (Class sort label targets) = class_in_range len label targets
 line_in_range len (Site address kind label) = is_code_address len address && is_label label
 line_in_range len (Edge from to) = is_code_address len from && is_code_address len to
 line_in_range len (Call from to) = is_code_address len from && is_code_address len to
@@ -98,9 +91,7 @@ is_rising below (x ∷ y ∷ rest) = below x y && is_rising below (y ∷ rest)
 -- the list of system calls stands first; a class line is ordered by its label, any other by its first address
 abbrev pub key_of : GraphLine → Key
 key_of (Calls numbers) = Head
-key_of (Class label targets) = Label label
-key_of (CallClass label targets) = Label label
-key_of (JumpClass label targets) = Label label
+key_of (Class sort label targets) = Label label
 key_of (Site address kind label) = Address address
 key_of (Edge from to) = Address from
 key_of (Call from to) = Address from
@@ -120,16 +111,13 @@ key_below (Address a) (Address b) = nat_lt a b
 -- the addresses of a class rise, and so do the numbers of system calls
 abbrev pub targets_rise : GraphLine → Bool
 targets_rise (Calls numbers) = is_rising nat_lt numbers
-targets_rise (Class label targets) = is_rising nat_lt targets
-targets_rise (CallClass label targets) = is_rising nat_lt targets
-targets_rise (JumpClass label targets) = is_rising nat_lt targets
+targets_rise (Class sort label targets) = is_rising nat_lt targets
 targets_rise (Site address kind label) = true
 targets_rise (Edge from to) = true
 targets_rise (Call from to) = true
 
 -- the parts that a graph may have
 pub record IsGraph (graph : GraphParts) : Type 0 where
-  pub version : IsTrue (graph.version == 1 || graph.version == 2)
   pub sorts : IsTrue (list_all (λ line. fits_version graph.version (class_in line)) graph.lines)
   pub length : IsTrue (is_code_length graph.code)
   pub range : IsTrue (list_all (line_in_range graph.code) graph.lines)
@@ -142,9 +130,7 @@ is_class line = is_some (class_in line)
 
 abbrev pub is_site : GraphLine → Bool
 is_site (Calls numbers) = false
-is_site (Class label targets) = false
-is_site (CallClass label targets) = false
-is_site (JumpClass label targets) = false
+is_site (Class sort label targets) = false
 is_site (Site address kind label) = true
 is_site (Edge from to) = false
 is_site (Call from to) = false

@@ -2,14 +2,15 @@
 -- forms. A version names its own sorts of classes.
 use Rattle.std.specs.Prelude.{ℕ, ◌&&◌, if◌then◌else◌, List, [], ◌∷◌, codes, Option, Some, None, option_map, option_and_then}
 use Rattle.std.specs.Str.{bytes_eq}
+use Rattle.rv_word.specs.declared.version.GraphVersion.{GraphVersion}
 use Rattle.text_lines.specs.Hex.{hex}
 use Rattle.cfi_graph.specs.declared.line.GraphLine.{GraphLine}
-use Rattle.cfi_graph.specs.declared.line.GraphLine.TheVariants.{Site, Edge, Call}
+use Rattle.cfi_graph.specs.declared.line.GraphLine.TheVariants.{Class, Site, Edge, Call}
 use Rattle.cfi_graph.specs.declared.line.SiteKind.{SiteKind}
 use Rattle.cfi_graph.specs.declared.line.SiteKind.TheVariants as kind
 use Rattle.cfi_graph.specs.declared.line.Sort.{Sort}
 use Rattle.cfi_graph.specs.declared.line.Sort.TheVariants.{Both, Calls, Jumps}
-use Rattle.cfi_graph.specs.Graph.{is_sort_of, line_of_class}
+use Rattle.cfi_graph.specs.Graph.{is_sort_of}
 use Rattle.cfi_graph.specs.Text.{class_name}
 
 -- the numbers of eight digits that words spell
@@ -22,7 +23,7 @@ addresses_of (word ∷ rest) =
 abbrev pub class_of : Sort → List (List ℕ) → Option GraphLine
 class_of sort [] = None
 class_of sort (label ∷ rest) =
-    option_and_then (λ l. option_map (λ targets. line_of_class sort l targets) (addresses_of rest)) (hex 5 label)
+    option_and_then (λ l. option_map (λ targets. Class sort l targets) (addresses_of rest)) (hex 5 label)
 
 -- the sort whose classes have a name
 abbrev pub sort_with : List ℕ → Option Sort
@@ -32,7 +33,7 @@ sort_with name =
     if bytes_eq name (class_name Jumps) then Some Jumps else None
 
 -- the same, where it is a sort of a version
-abbrev pub sort_named : ℕ → List ℕ → Option Sort
+abbrev pub sort_named : GraphVersion → List ℕ → Option Sort
 sort_named version name =
     option_and_then (λ sort. if is_sort_of version sort then Some sort else None) (sort_with name)
 
@@ -72,7 +73,7 @@ class_or_other (Some sort) name words = class_of sort words
 class_or_other None name words = other_of name words
 
 -- the line of a version that words spell, if they spell one
-unfoldable pub line_of : ℕ → List (List ℕ) → Option GraphLine
+unfoldable pub line_of : GraphVersion → List (List ℕ) → Option GraphLine
 line_of version [] = None
 line_of version (name ∷ words) = class_or_other (sort_named version name) name words
 

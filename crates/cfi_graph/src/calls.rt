@@ -6,8 +6,8 @@ ghost use Rattle.text_lines.specs.Lines.{parts_after, words_of};
 ghost use Rattle.cfi_graph.specs.Calls.{calls_of, few_in, judged_calls, line_after, small_in, with_size};
 
 use crate::rules::calls_rise;
-use rv_word::{MOST_NUMBERS, Numbers};
-use text_lines::{Reason, TextEnd, cut, decimal_of, is_word};
+use rv_word::{End, MOST_NUMBERS, Numbers};
+use text_lines::{LineFault, Reason, cut, decimal_of, is_word};
 
 /// The number that a decimal word spells, and whether it is too large for a system call's; then 0 stands
 /// for it.
@@ -62,24 +62,24 @@ pub(crate) fn calls_of(line: &[u8]) -> Option<Option<Numbers>>
 
 /// The numbers of a list in the line with this number, where all are small enough, or the first reason why
 /// it is refused.
-pub(crate) fn judged(number: u64, numbers: Option<Numbers>) -> Result<Numbers, TextEnd>
+pub(crate) fn judged(number: u64, numbers: Option<Numbers>) -> Result<Numbers, End<LineFault>>
     ensures { (calls : List ℕ) → numbers ≡ small_in calls → result ≡ judged_calls number (Some calls) }
 {
     let Some(numbers) = numbers else {
-        return Err(TextEnd::Line(number, Reason::Range));
+        return Err(End::Fault(LineFault(number, Reason::Range)));
     };
     if calls_rise(&numbers) {
         return Ok(numbers);
     }
-    Err(TextEnd::Line(number, Reason::Order))
+    Err(End::Fault(LineFault(number, Reason::Order)))
 }
 
 /// The numbers of the line with this number, or the first reason why it is refused.
-pub fn judged_calls(number: u64, line: &[u8]) -> Result<Numbers, TextEnd>
+pub fn judged_calls(number: u64, line: &[u8]) -> Result<Numbers, End<LineFault>>
     ensures { result ≡ judged_calls number (calls_of (words_of line.now)) }
 {
     let Some(numbers) = calls_of(line) else {
-        return Err(TextEnd::Line(number, Reason::Form));
+        return Err(End::Fault(LineFault(number, Reason::Form)));
     };
     judged(number, numbers)
 }

@@ -3,6 +3,7 @@
 
 ghost use Rattle.std.specs.Prelude.{◌≡◌, ◌∷◌, ◌++◌, ℕ, IfSome, Some, length};
 ghost use Rattle.std.specs.Str.{bytes_eq};
+ghost use Rattle.rv_word.specs.declared.version.GraphVersion.{GraphVersion};
 ghost use Rattle.text_lines.specs.Lines.{words_of};
 ghost use Rattle.text_lines.specs.Reading.{FirstLine};
 ghost use Rattle.cfi_graph.specs.Lines.{line_of};
@@ -28,7 +29,7 @@ pub(crate) const PAIR_LINE: usize = 22;
 /// any other line it says nothing.
 #[inline(always)]
 fn pair_line(line: &[u8]) -> Option<GraphLine>
-    ensures { IfSome result (λ l. (version : ℕ) → line_of version (words_of line.now) ≡ Some l) }
+    ensures { IfSome result (λ l. (version : GraphVersion) → line_of version (words_of line.now) ≡ Some l) }
 {
     if line.len() != PAIR_LINE {
         return None;
@@ -54,7 +55,7 @@ const SITE_LINE: usize = 24;
 /// line it says nothing.
 #[inline(always)]
 fn site_line(line: &[u8]) -> Option<GraphLine>
-    ensures { IfSome result (λ l. (version : ℕ) → line_of version (words_of line.now) ≡ Some l) }
+    ensures { IfSome result (λ l. (version : GraphVersion) → line_of version (words_of line.now) ≡ Some l) }
 {
     if line.len() != SITE_LINE {
         return None;
@@ -83,7 +84,7 @@ fn before_newline(text: &[u8], len: usize) -> Option<(&[u8], &[u8])>
 /// other line it says nothing.
 #[inline(always)]
 pub(crate) fn first_line(text: &[u8]) -> Option<(GraphLine, &[u8])>
-    ensures { IfSome result (λ f. (version len : ℕ) → FirstLine (graph_rules version len) text.now f.0 f.1.now) }
+    ensures { IfSome result (λ f. (version : GraphVersion) (len : ℕ) → FirstLine (graph_rules version len) text.now f.0 f.1.now) }
 {
     if let Some((line, rest)) = before_newline(text, PAIR_LINE) {
         let found = pair_line(line)?;

@@ -18,7 +18,7 @@ ghost use Rattle.cfi_graph.specs.Lines.{
 ghost use Rattle.text_lines.specs.Lines.{parts_after, words_of};
 
 use crate::line::{GraphLine, SiteKind, Sort};
-use rv_word::{NoMemory, Places};
+use rv_word::{GraphVersion, NoMemory, Places};
 use std::alloc::Global;
 use text_lines::{cut, hex_of, is_word};
 
@@ -71,7 +71,7 @@ fn class(alloc: Global, sort: Sort, words: Option<&[u8]>) -> Result<Option<Graph
     let Some(targets) = addresses(alloc, targets)? else {
         return Ok(None);
     };
-    Ok(Some(GraphLine::of_class(sort, label, targets)))
+    Ok(Some(GraphLine::Class(sort, label, targets)))
 }
 
 /// The sort whose classes have a name.
@@ -91,7 +91,7 @@ fn sort_with(name: &[u8]) -> Option<Sort>
 }
 
 /// The sort of a version whose classes have a name.
-fn sort_named(version: u8, name: &[u8]) -> Option<Sort>
+fn sort_named(version: GraphVersion, name: &[u8]) -> Option<Sort>
     ensures { result ≡ sort_named version name.now }
 {
     let sort = sort_with(name)?;
@@ -179,7 +179,7 @@ fn other(name: &[u8], words: Option<&[u8]>) -> Option<GraphLine>
 #[tactic(auto, unfolding(crate::specs::Lines::line_of))]
 pub(crate) fn line_of(
     alloc: Global,
-    version: u8,
+    version: GraphVersion,
     line: &[u8],
 ) -> Result<Option<GraphLine>, NoMemory>
     ensures { IfOk result (λ r. r ≡ line_of version (words_of line.now)) }

@@ -1,7 +1,7 @@
 ghost use Rattle.std.specs.Prelude.{◌≡◌, ◌<◌, ◌==◌, length, slice_get, count_by, Ok, Some};
 
 use crate::line::GraphLine;
-use rv_word::{NoMemory, Numbers};
+use rv_word::{GraphVersion, NoMemory, Numbers};
 use std::alloc::Global;
 use std::marker::Model;
 
@@ -61,7 +61,7 @@ impl GraphLines {
 /// graph has only lengths, lines, labels, addresses and an order that a graph of its version may have.
 #[derive(Drop)]
 pub struct Graph {
-    pub(crate) version: u8,
+    pub(crate) version: GraphVersion,
     pub(crate) code: u32,
     pub(crate) lines: GraphLines,
 }
@@ -80,7 +80,12 @@ impl Graph {
     ghost use Rattle.cfi_graph.specs.Graph.{IsGraph, calls_in, is_class, is_site};
 
     /// The graph with these parts, which are those that a graph may have. It takes no memory.
-    pub fn of(_alloc: Global, version: u8, code: u32, lines: GraphLines) -> Result<Graph, NoMemory>
+    pub fn of(
+        _alloc: Global,
+        version: GraphVersion,
+        code: u32,
+        lines: GraphLines,
+    ) -> Result<Graph, NoMemory>
         requires { IsGraph (record { version = version; code = code; lines = lines }) }
         ensures { result ≡ Ok (record { version = version; code = code; lines = lines }) }
     {
@@ -91,8 +96,8 @@ impl Graph {
         })
     }
 
-    /// The version, 1 or 2.
-    pub fn version(&self) -> u8
+    /// The version.
+    pub fn version(&self) -> GraphVersion
         ensures { result ≡ self.now.version }
     {
         self.version

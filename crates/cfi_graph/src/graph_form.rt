@@ -4,7 +4,7 @@ use crate::fixed::first_line;
 use crate::forms::line_of;
 use crate::line::{GraphLine, Key};
 use crate::rules::{in_order, line_in_range};
-use rv_word::NoMemory;
+use rv_word::{GraphVersion, NoMemory};
 use std::alloc::Global;
 use text_lines::LineForm;
 
@@ -12,7 +12,7 @@ use text_lines::LineForm;
 /// lines so far.
 #[derive(Drop)]
 pub(crate) struct GraphForm {
-    pub(crate) version: u8,
+    pub(crate) version: GraphVersion,
     pub(crate) code: u32,
     pub(crate) before: Option<Key>,
     pub(crate) lines: Vec<GraphLine>,

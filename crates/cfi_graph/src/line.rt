@@ -1,7 +1,7 @@
 ghost use Rattle.std.specs.Prelude.{◌≡◌};
 
 use crate::class::Class;
-use rv_word::{Numbers, Places};
+use rv_word::{GraphVersion, Numbers, Places};
 
 /// The two kinds of transfer to a computed address.
 #[derive(Clone, Copy, PartialEq, Eq)]
@@ -27,13 +27,12 @@ impl Sort {
     ghost use Rattle.cfi_graph.specs.Graph.{is_sort_of};
 
     /// Whether graphs of this version have classes of the sort.
-    pub fn is_of(self, version: u8) -> bool
+    pub fn is_of(self, version: GraphVersion) -> bool
         ensures { result ≡ is_sort_of version self }
     {
-        match self {
-            Sort::Both => version == 1,
-            Sort::Calls => version == 2,
-            Sort::Jumps => version == 2,
+        match version {
+            GraphVersion::OneLabel => matches!(self, Sort::Both),
+            GraphVersion::TwoLabels => matches!(self, Sort::Calls | Sort::Jumps),
         }
     }
 }
@@ -43,12 +42,8 @@ impl Sort {
 pub enum GraphLine {
     /// The numbers of the system calls that the program may make.
     Calls(Numbers),
-    /// A class that serves calls and jumps: its label, and the addresses of its targets.
-    Class(u32, Places),
-    /// A class that serves calls alone: its label, and the addresses of its targets.
-    CallClass(u32, Places),
-    /// A class that serves jumps alone: its label, and the addresses of its targets.
-    JumpClass(u32, Places),
+    /// A class: which transfers it serves, its label, and the addresses of its targets.
+    Class(Sort, u32, Places),
     /// A transfer to a computed address: where its unit starts, its kind, and its class's label.
     Site(u64, SiteKind, u32),
     /// A branch or jump: where its unit starts, and its target.
@@ -70,18 +65,7 @@ pub enum Key {
 }
 
 impl GraphLine {
-    ghost use Rattle.cfi_graph.specs.Graph.{class_in, is_class, is_site, key_of, line_of_class};
-
-    /// The line of a class of this sort.
-    pub fn of_class(sort: Sort, label: u32, targets: Places) -> GraphLine
-        ensures { result ≡ line_of_class sort label targets }
-    {
-        match sort {
-            Sort::Both => GraphLine::Class(label, targets),
-            Sort::Calls => GraphLine::CallClass(label, targets),
-            Sort::Jumps => GraphLine::JumpClass(label, targets),
-        }
-    }
+    ghost use Rattle.cfi_graph.specs.Graph.{class_in, is_class, is_site, key_of};
 
     /// What the line is ordered by.
     pub fn key(&self) -> Key
@@ -89,9 +73,7 @@ impl GraphLine {
     {
         match self {
             GraphLine::Calls(_) => Key::Head,
-            GraphLine::Class(label, _) => Key::Label(*label),
-            GraphLine::CallClass(label, _) => Key::Label(*label),
-            GraphLine::JumpClass(label, _) => Key::Label(*label),
+            GraphLine::Class(_, label, _) => Key::Label(*label),
             GraphLine::Site(address, _, _) => Key::Address(*address),
             GraphLine::Edge(from, _) => Key::Address(*from),
             GraphLine::Call(from, _) => Key::Address(*from),
@@ -103,14 +85,8 @@ impl GraphLine {
         ensures { result ≡ class_in self.now }
     {
         match self {
-            GraphLine::Class(label, targets) => {
-                Some(Class::of(Sort::Both, *label, targets.as_slice()))
-            }
-            GraphLine::CallClass(label, targets) => {
-                Some(Class::of(Sort::Calls, *label, targets.as_slice()))
-            }
-            GraphLine::JumpClass(label, targets) => {
-                Some(Class::of(Sort::Jumps, *label, targets.as_slice()))
+            GraphLine::Class(sort, label, targets) => {
+                Some(Class::of(*sort, *label, targets.as_slice()))
             }
             _ => None,
         }

@@ -1,4 +1,4 @@
-ghost use Rattle.std.specs.Prelude.{◌≡◌, ◌≤◌, ◌==◌, ◌||◌, not, IsTrue, IfOk, MatchResult, None, Ok, Err, length};
+ghost use Rattle.std.specs.Prelude.{◌≡◌, ◌≤◌, not, IsTrue, IfOk, MatchResult, None, Ok, Err, length};
 ghost use Rattle.cfi_graph.specs.Calls.{may_be_calls};
 ghost use Rattle.cfi_graph.specs.Graph.{GraphParts, IsGraph, is_code_length};
 ghost use Rattle.cfi_graph.specs.Text.{graph_name, graph_text};
@@ -13,30 +13,30 @@ use crate::graph::{Graph, GraphLines};
 use crate::graph_form::GraphForm;
 use crate::line::{GraphLine, Key};
 use crate::rules::is_code_length;
-use rv_word::{NoMemory, Numbers};
+use rv_word::{End, GraphVersion, NoMemory, Numbers};
 use std::alloc::Global;
-use text_lines::{Reason, TextEnd, after_one_of, cut, read_lines};
+use text_lines::{LineFault, Reason, after_one_of, cut, read_lines};
 
 /// The first lines that a graph may have.
 const NAMES: [&[u8]; 2] = [b"rvcfi-graph 1", b"rvcfi-graph 2"];
 
 /// The version that the first line tells, by its place among these.
-fn version_at(which: usize) -> u8
+fn version_at(which: usize) -> GraphVersion
     ensures { result ≡ version_at which }
 {
     match which {
-        0 => 1,
-        _ => 2,
+        0 => GraphVersion::OneLabel,
+        _ => GraphVersion::TwoLabels,
     }
 }
 
 /// The first line of a version's graphs.
-pub(crate) fn name_of(version: u8) -> &'static [u8]
+pub(crate) fn name_of(version: GraphVersion) -> &'static [u8]
     ensures { result.now ≡ graph_name version }
 {
     match version {
-        2 => NAMES[1],
-        _ => NAMES[0],
+        GraphVersion::OneLabel => NAMES[0],
+        GraphVersion::TwoLabels => NAMES[1],
     }
 }
 
@@ -48,7 +48,7 @@ fn begins_calls(text: &[u8]) -> bool
 }
 
 /// The list of system calls that may be the third line, and what stands after it.
-fn third_line(text: &[u8]) -> Result<(Option<Numbers>, &[u8]), TextEnd>
+fn third_line(text: &[u8]) -> Result<(Option<Numbers>, &[u8]), End<LineFault>>
     ensures told { MatchResult result
         (λ told. third_line (lines_of text.now) ≡ Ok (record { calls = told.0; lines = lines_of told.1.now }))
         (λ end. third_line (lines_of text.now) ≡ Err end) }
@@ -73,7 +73,7 @@ fn third_line(text: &[u8]) -> Result<(Option<Numbers>, &[u8]), TextEnd>
 /// room for the lines of `len` bytes, of which few are shorter than an edge's.
 fn begun(
     alloc: Global,
-    version: u8,
+    version: GraphVersion,
     code: u32,
     calls: Option<Numbers>,
     len: usize,
@@ -99,12 +99,11 @@ fn begun(
 /// The graph of a version, a length and a list of system calls, if there is one, with the lines after these.
 fn with_lines(
     alloc: Global,
-    version: u8,
+    version: GraphVersion,
     code: u32,
     calls: Option<Numbers>,
     text: &[u8],
-) -> Result<Graph, TextEnd>
-    requires version { IsTrue (version == 1 || version == 2) }
+) -> Result<Graph, End<LineFault>>
     requires length { IsTrue (is_code_length code) }
     requires calls { IsTrue (may_be_calls calls) }
     ensures { Answers result (with_lines version code calls (lines_of text.now)) }
@@ -120,8 +119,12 @@ fn with_lines(
 }
 
 /// The graph of a version and a length that stands after the second line.
-fn with_code(alloc: Global, version: u8, code: u32, text: &[u8]) -> Result<Graph, TextEnd>
-    requires version { IsTrue (version == 1 || version == 2) }
+fn with_code(
+    alloc: Global,
+    version: GraphVersion,
+    code: u32,
+    text: &[u8],
+) -> Result<Graph, End<LineFault>>
     requires length { IsTrue (is_code_length code) }
     ensures { Answers result (with_code version code (lines_of text.now)) }
 {
@@ -133,25 +136,24 @@ fn with_code(alloc: Global, version: u8, code: u32, text: &[u8]) -> Result<Graph
 }
 
 /// The graph of a version that stands after the first line.
-fn after_first(alloc: Global, version: u8, text: &[u8]) -> Result<Graph, TextEnd>
-    requires { IsTrue (version == 1 || version == 2) }
+fn after_first(alloc: Global, version: GraphVersion, text: &[u8]) -> Result<Graph, End<LineFault>>
     ensures { Answers result (after_first version (lines_of text.now)) }
 {
     let (line, rest) = cut(text, b'\n');
     let Some(rest) = rest else {
-        return Err(TextEnd::Line(2, Reason::Form));
+        return Err(End::Fault(LineFault(2, Reason::Form)));
     };
     let Some(code) = code_length(line) else {
-        return Err(TextEnd::Line(2, Reason::Form));
+        return Err(End::Fault(LineFault(2, Reason::Form)));
     };
     if !is_code_length(code) {
-        return Err(TextEnd::Line(2, Reason::Range));
+        return Err(End::Fault(LineFault(2, Reason::Range)));
     }
     with_code(alloc, version, code, rest)
 }
 
 /// The graph that a text spells.
-fn graph_in(alloc: Global, text: &[u8]) -> Result<Graph, TextEnd>
+fn graph_in(alloc: Global, text: &[u8]) -> Result<Graph, End<LineFault>>
     ensures { Answers result (graph_of text.now) }
 {
     let (which, rest) = after_one_of(text, &NAMES)?;
@@ -159,7 +161,7 @@ fn graph_in(alloc: Global, text: &[u8]) -> Result<Graph, TextEnd>
 }
 
 /// Reads the text of a graph, of which it keeps no copy. The lines of a text count from 1.
-pub fn read_graph(alloc: Global, text: &[u8]) -> Result<Graph, TextEnd>
+pub fn read_graph(alloc: Global, text: &[u8]) -> Result<Graph, End<LineFault>>
     // The right answer, but for want of memory.
     ensures exact { Answers result (graph_of text.now) }
 

@@ -76,9 +76,7 @@ pub(crate) fn line_in_range(len: u32, line: &GraphLine) -> bool
 {
     match line {
         GraphLine::Calls(numbers) => are_calls(numbers),
-        GraphLine::Class(label, targets)
-        | GraphLine::CallClass(label, targets)
-        | GraphLine::JumpClass(label, targets) => class_in_range(len, *label, targets.as_slice()),
+        GraphLine::Class(_, label, targets) => class_in_range(len, *label, targets.as_slice()),
         GraphLine::Site(address, _, label) => is_code_address(len, *address) && is_label(*label),
         GraphLine::Edge(from, to) => is_code_address(len, *from) && is_code_address(len, *to),
         GraphLine::Call(from, to) => is_code_address(len, *from) && is_code_address(len, *to),
@@ -121,9 +119,7 @@ fn targets_rise(line: &GraphLine) -> bool
 {
     match line {
         GraphLine::Calls(numbers) => calls_rise(numbers),
-        GraphLine::Class(_, targets)
-        | GraphLine::CallClass(_, targets)
-        | GraphLine::JumpClass(_, targets) => is_rising(targets.as_slice()),
+        GraphLine::Class(_, _, targets) => is_rising(targets.as_slice()),
         _ => true,
     }
 }

@@ -102,14 +102,8 @@ fn push_words(alloc: Global, out: &mut Vec<u8>, line: &GraphLine) -> Result<(), 
 {
     match line {
         GraphLine::Calls(numbers) => push_list(alloc, out, numbers),
-        GraphLine::Class(label, targets) => {
-            push_class(out, Sort::Both, *label, targets.as_slice())
-        }
-        GraphLine::CallClass(label, targets) => {
-            push_class(out, Sort::Calls, *label, targets.as_slice())
-        }
-        GraphLine::JumpClass(label, targets) => {
-            push_class(out, Sort::Jumps, *label, targets.as_slice())
+        GraphLine::Class(sort, label, targets) => {
+            push_class(out, *sort, *label, targets.as_slice())
         }
         GraphLine::Site(address, kind, label) => push_site(out, *address, *kind, *label),
         GraphLine::Edge(from, to) => push_pair(out, b"edge", *from, *to),

@@ -1,11 +1,9 @@
 -- A placement in which no value leaves its range, with labels, makes an accepted choice of a program with its closed graph.
-use Rattle.std.proofs.Common.{◌≡◌, ℕ, ◌+◌, ◌-◌, ◌<◌, inl, inr, true, false, List, Option, Some, None, refl, sym, ap, subst, ◌∙◌, arith}
+use Rattle.std.proofs.Common.{◌≡◌, ℕ, ◌+◌, ◌-◌, ◌<◌, true, false, List, Option, Some, None, sym, ap, subst, ◌∙◌, arith}
 use Rattle.std.specs.Prelude.{is_some, slice_get}
+use Rattle.rv_word.specs.declared.version.GraphVersion.{GraphVersion}
 use Rattle.rv_word.proofs.Versions.{is_profile}
-use Rattle.rv_word.specs.Form.{graph_version, image_version}
-use Rattle.rv_word.specs.Image.{IsVersion}
-use Rattle.rv_word.specs.declared.form.Form.{Form}
-use Rattle.rv_word.specs.declared.form.Form.TheVariants.{Plain, Harts, Split, HartsSplit}
+use Rattle.rv_word.specs.Form.{image_version}
 use Rattle.obj_program.specs.AtMap.{instr_at}
 use Rattle.obj_program.specs.Program.{Program, count, is_end, item_of}
 use Rattle.cfi_graph.specs.Calls.{may_be_calls}
@@ -30,14 +28,14 @@ use Rattle.cfi_writer.proofs.CodeRoom.{room_there}
 use Rattle.cfi_writer.proofs.SitesThere.{side_at, site_class_there, site_of}
 
 -- a closed graph under a policy is one of its program, for the version that was asked
-pub graph_there : (version : ℕ) (program : Program) (policy : Option (List ℕ)) (closed : ClosedGraph) → IsClosedUnder version program policy closed →
+pub graph_there : (version : GraphVersion) (program : Program) (policy : Option (List ℕ)) (closed : ClosedGraph) → IsClosedUnder version program policy closed →
     IsGraphOf program closed × (closed.version ≡ version)
 graph_there version program policy closed under =
     let (raw, is, of) = under.drawn in
-    ((_, raw, is, subst (λ (v : ℕ). IsClosed v raw closed) (sym of.version_is) of), of.version_is)
+    ((_, raw, is, subst (λ (v : GraphVersion). IsClosed v raw closed) (sym of.version_is) of), of.version_is)
 
 -- its list of system calls is the policy's
-pub calls_there : (version : ℕ) (program : Program) (policy : Option (List ℕ)) (closed : ClosedGraph) → IsClosedUnder version program policy closed →
+pub calls_there : (version : GraphVersion) (program : Program) (policy : Option (List ℕ)) (closed : ClosedGraph) → IsClosedUnder version program policy closed →
     may_be_calls closed.calls ≡ true
 calls_there version program policy closed under =
     let (raw, is, of) = under.drawn in
@@ -47,12 +45,6 @@ calls_there version program policy closed under =
 last_there : (program : Program) → 0 < count program → is_end (item_of program (count program - 1)).kind ≡ true →
     (k : ℕ) × (count program ≡ k + 1) × (is_end (item_of program k).kind ≡ true)
 last_there program some last = (count program - 1, omega arith, last)
-
-known_form : (form : Form) → IsVersion (graph_version form)
-known_form Plain = inl refl
-known_form Harts = inl refl
-known_form Split = inr refl
-known_form HartsSplit = inr refl
 
 -- what is chosen for a program: a placement in which no value leaves its range, and labels
 module _ (p : PreparedParts) (ready : IsReady p) (s : Spaced) (fitting : IsFitting p s) (labels : List ℕ) (given : AreGiven p.program p.closed labels) where
@@ -90,7 +82,6 @@ module _ (p : PreparedParts) (ready : IsReady p) (s : Spaced) (fitting : IsFitti
         room = room_there (chosen here labels) ready.sound values groups_here (is_profile (image_version p.form)) placed_here.legal placed_here.size;
         values = values;
         calls = ready.calls;
-        version = subst IsVersion (sym ready.version) (known_form p.form);
         sorts = closes.sorts;
         members = λ j c k side there h. members_there p.program policy raw side is (of j side there) k (c, h);
         rising = λ j side there. (of j side there).classes.rising;

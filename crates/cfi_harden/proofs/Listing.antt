@@ -2,19 +2,20 @@
 use Rattle.std.proofs.Common.{◌≡◌, ℕ, nat_lt, Bool, true, false, if◌then◌else◌, Option, Some, None, Result, Ok, Err, List, [], ◌∷◌, refl}
 use Rattle.std.specs.Prelude.{◌==◌}
 use Rattle.std.proofs.lemmas.Bool.{and_from}
+use Rattle.rv_word.specs.declared.end.End.{End}
 use Rattle.text_lines.specs.Lines.{lines_of, words_of}
 use Rattle.text_lines.specs.Reading.{if_right, one_named}
-use Rattle.text_lines.specs.declared.end.TextEnd.{TextEnd}
+use Rattle.text_lines.specs.declared.fault.LineFault.{LineFault}
 use Rattle.cfi_graph.specs.Calls.{Listed, calls_of, judged_calls, may_be_calls}
 use Rattle.cfi_graph.specs.Graph.{are_calls, is_rising}
 use Rattle.cfi_policy.specs.Policy.{calls_told, head_at, listed_head, policy_head, policy_names}
 use Rattle.cfi_graph.proofs.CallsLine.{judged_list}
 use Rattle.cfi_harden.specs.Request.{policy_asked}
 
-abbrev told_with : List (List ℕ) → Result (List ℕ) TextEnd → Result Listed TextEnd
+abbrev told_with : List (List ℕ) → Result (List ℕ) (End LineFault) → Result Listed (End LineFault)
 told_with lines judged = if_right judged (λ (calls : List ℕ). Ok (record { calls = Some calls; lines = lines }))
 
-line_right : (line : List ℕ) (lines : List (List ℕ)) (judged : Result (List ℕ) TextEnd) → judged_calls 2 (calls_of (words_of line)) ≡ judged →
+line_right : (line : List ℕ) (lines : List (List ℕ)) (judged : Result (List ℕ) (End LineFault)) → judged_calls 2 (calls_of (words_of line)) ≡ judged →
     may_be_calls (calls_told (told_with lines judged)) ≡ true
 line_right line lines (Err fault) is = refl
 line_right line lines (Ok numbers) is =
@@ -31,7 +32,7 @@ version_right : (b : Bool) (lines : List (List ℕ)) → may_be_calls (calls_tol
 version_right true lines = refl
 version_right false lines = head_right lines
 
-first_right : (first : Result (ℕ × List (List ℕ)) TextEnd) →
+first_right : (first : Result (ℕ × List (List ℕ)) (End LineFault)) →
     may_be_calls (calls_told (if_right first (λ (named : ℕ × List (List ℕ)). head_at named.0 named.1))) ≡ true
 first_right (Err fault) = refl
 first_right (Ok named) = version_right (named.0 == 0) named.1

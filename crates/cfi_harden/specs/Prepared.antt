@@ -1,10 +1,12 @@
 -- What a request comes to before anything is placed: the program with its closed graph under the policy and its entry, or the first of
 -- what stands against that: what is given is no program; an entry that is not there; a wrong line of the policy.
 use Rattle.std.specs.Prelude.{◌≡◌, ℕ, ◌⊎◌, List, Option, Some, None, Result, Ok, Err}
+use Rattle.rv_word.specs.declared.version.GraphVersion.{GraphVersion}
 use Rattle.rv_word.specs.Form.{graph_version}
 use Rattle.rv_word.specs.declared.form.Form.{Form}
-use Rattle.text_lines.specs.declared.end.TextEnd.{TextEnd}
-use Rattle.text_lines.specs.declared.end.TextEnd.TheVariants.{Line}
+use Rattle.rv_word.specs.declared.end.End.{End}
+use Rattle.rv_word.specs.declared.end.End.TheVariants.{Fault}
+use Rattle.text_lines.specs.declared.fault.LineFault.{LineFault}
 use Rattle.obj_program.specs.Program.{Program}
 use Rattle.cfi_closed.specs.Closed.{ClosedGraph}
 use Rattle.cfi_flow.specs.Closing.{IsClosed}
@@ -15,7 +17,7 @@ use Rattle.cfi_harden.specs.Given.{IsGiven}
 use Rattle.cfi_harden.specs.Request.{ProgramRequest, Request, policy_asked, policy_end, program_request}
 
 -- the closed graph of a program, for a version of graphs, under a policy that has no wrong line
-pub record IsClosedUnder (version : ℕ) (program : Program) (policy : Option (List ℕ)) (closed : ClosedGraph) : Type 0 where
+pub record IsClosedUnder (version : GraphVersion) (program : Program) (policy : Option (List ℕ)) (closed : ClosedGraph) : Type 0 where
   pub whole : policy_end policy ≡ Ok tt
   pub drawn : (raw : RawGraph) × IsRaw program (policy_asked policy) raw × IsClosed version raw closed
 
@@ -40,8 +42,8 @@ abbrev pub IsPrepared : Request → PreparedParts → Type 0
 IsPrepared request p = IsGiven request.given × IsPreparedOf (program_request request) p
 
 -- the text of a policy fails at a line
-abbrev pub FailsAt : Result (Unit {0}) TextEnd → ℕ → Type 0
-FailsAt (Err (Line number reason)) n = number ≡ n
+abbrev pub FailsAt : Result (Unit {0}) (End LineFault) → ℕ → Type 0
+FailsAt (Err (Fault fault)) n = fault.0 ≡ n
 FailsAt other n = ⊥
 
 -- the first wrong line of a policy: one of the right lines of its text that names what it may not, or else the line at which the

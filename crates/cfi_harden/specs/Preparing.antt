@@ -1,5 +1,6 @@
 -- What the steps of preparing a request come to: the program that is given, then its entry and its closed graph.
 use Rattle.std.specs.Prelude.{◌≡◌, ℕ, List, Option, Some, None, IsSome, Result, Ok, Err}
+use Rattle.rv_word.specs.declared.version.GraphVersion.{GraphVersion}
 use Rattle.obj_program.specs.Program.{Program}
 use Rattle.cfi_closed.specs.Closed.{ClosedGraph}
 use Rattle.cfi_flow.specs.Entry.{entry_place}
@@ -25,7 +26,7 @@ Joins objects (Err (end.Duplicate name)) = DuplicateIn (joined objects) name.now
 Joins objects (Err end.NoMemory) = Unit {0}
 
 -- where a program is entered, with its closed graph for a version of graphs. Only a private contract cites this
-abbrev pub Enters : ℕ → Program → List ℕ → Option (List ℕ) → Result (ℕ × ClosedGraph) HardenEnd → Type 0
+abbrev pub Enters : GraphVersion → Program → List ℕ → Option (List ℕ) → Result (ℕ × ClosedGraph) HardenEnd → Type 0
 Enters version program entry policy (Ok (at, closed)) = (entry_place program entry ≡ Some at) × IsClosedUnder version program policy closed
 Enters version program entry policy (Err (Refused NoEntry)) = entry_place program entry ≡ None
 Enters version program entry policy (Err (Refused (Policy n))) = IsSome (entry_place program entry) × IsWrongPolicy program policy n

@@ -2,7 +2,8 @@
 -- given as stands for it.
 use Rattle.std.specs.Prelude.{ℕ, List, Option, Some, None, Result, Ok}
 use Rattle.rv_word.specs.declared.form.Form.{Form}
-use Rattle.text_lines.specs.declared.end.TextEnd.{TextEnd}
+use Rattle.rv_word.specs.declared.end.End.{End}
+use Rattle.text_lines.specs.declared.fault.LineFault.{LineFault}
 use Rattle.cfi_policy.specs.Policy.{PolicyParts, no_policy, policy_begun, policy_read}
 use Rattle.obj_program.specs.Program.{Program}
 use Rattle.cfi_harden.specs.Given.{Given, program_given}
@@ -29,6 +30,6 @@ abbrev pub policy_asked : Option (List ℕ) → PolicyParts
 policy_asked None = no_policy
 policy_asked (Some text) = policy_begun text
 
-abbrev pub policy_end : Option (List ℕ) → Result (Unit {0}) TextEnd
+abbrev pub policy_end : Option (List ℕ) → Result (Unit {0}) (End LineFault)
 policy_end None = Ok tt
 policy_end (Some text) = (policy_read text).end

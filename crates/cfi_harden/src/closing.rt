@@ -11,12 +11,12 @@ use cfi_closed::Closed;
 use cfi_flow::{close, raw_graph};
 use cfi_policy::{Policy, read_policy_part};
 use obj_program::Items;
-use rv_word::Form;
+use rv_word::{End, Form};
 use std::alloc::Global;
-use text_lines::TextEnd;
+use text_lines::LineFault;
 
 /// The policy that a text spells before its first fault, and that fault; without a text there is neither.
-fn policy_part(alloc: Global, policy: Option<&[u8]>) -> (Policy, Result<(), TextEnd>)
+fn policy_part(alloc: Global, policy: Option<&[u8]>) -> (Policy, Result<(), End<LineFault>>)
     ensures exact { Answers result.1 (policy_end (option_copied policy.entry)) }
     ensures read { UnlessNoMemory result.1 (result.0 ≡ policy_asked (option_copied policy.entry)) }
 {
@@ -27,11 +27,11 @@ fn policy_part(alloc: Global, policy: Option<&[u8]>) -> (Policy, Result<(), Text
 }
 
 /// The line at which the text of a policy fails, if it does.
-fn failed_line(end: &Result<(), TextEnd>) -> Option<u64>
+fn failed_line(end: &Result<(), End<LineFault>>) -> Option<u64>
     ensures { result ≡ failed_line end.now }
 {
     match end {
-        Err(TextEnd::Line(number, _)) => Some(*number),
+        Err(End::Fault(fault)) => Some(fault.0),
         _ => None,
     }
 }
@@ -46,7 +46,7 @@ pub(crate) fn closed_under(
     ensures { Closes (graph_version form) items.now (option_copied policy.entry) result }
 {
     let (policy, end) = policy_part(alloc, policy);
-    if let Err(TextEnd::NoMemory) = end {
+    if let Err(End::NoMemory) = end {
         return Err(HardenEnd::NoMemory);
     }
     let raw = raw_graph(alloc, items, &policy)?;

@@ -1,22 +1,25 @@
 -- A script is for one to eight harts, and how many of them an image may have.
-use Rattle.std.proofs.Common.{◌≡◌, ◌≤◌, ◌==◌, ◌&&◌, ℕ, nat_le, nat_lt, false, List, [], ◌∷◌, Option, Some, None, Result, Ok, Err, inl, inr, ap, arith, refl, subst, sym}
-use Rattle.std.proofs.lemmas.Bool.{and_cases, and_parts, leb-true, ltb-false}
+use Rattle.std.proofs.Common.{◌≡◌, ◌≤◌, ◌<◌, ◌==◌, ◌&&◌, ℕ, nat_le, true, false, List, [], ◌∷◌, Option, Some, None, Result, Ok, Err, inl, inr, ap, arith, refl, subst, sym}
+use Rattle.std.proofs.lemmas.Bool.{and_parts, leb-true, ltb-false, ltb-true}
+use Rattle.rv_word.specs.declared.version.ImageVersion.{ImageVersion}
+use Rattle.rv_word.specs.declared.version.ImageVersion.TheVariants.{OneHart, EightHarts}
 use Rattle.rv_word.specs.MemoryMap.{MayRun, profile_of}
 use Rattle.rv_word.specs.declared.profile.TheConstants.{MOST_HARTS}
 use Rattle.rv_word.proofs.Cases.{chosen}
 use Rattle.rv_word.proofs.Versions.{is_profile, laid_out}
+use Rattle.rv_word.specs.declared.end.End.{End}
 use Rattle.text_lines.specs.Lines.{lines_of, words_of}
 use Rattle.text_lines.specs.Reading.{if_right, one_named}
-use Rattle.text_lines.specs.declared.end.TextEnd.{TextEnd}
-use Rattle.text_lines.specs.declared.end.TextEnd.TheVariants.{Line}
 use Rattle.text_lines.specs.declared.reason.Reason.TheVariants.{Range}
+use Rattle.text_lines.specs.declared.fault.LineFault.{LineFault}
+use Rattle.text_lines.specs.Answers.{line_fault}
 use Rattle.cfi_script.specs.Script.{Changes, ScriptParts}
 use Rattle.cfi_script.specs.ScriptText.{changes_of_lines, for_one, for_several, harts_of, script_names, script_of, turns_read, with_count, with_harts}
 use Rattle.cfi_launch.specs.SafeRun.{undisturbed_script}
-use Rattle.cfi_launch.specs.Launch.{script_given}
+use Rattle.cfi_launch.specs.Launch.{lacks_harts, script_given}
 
 -- every image may have one hart
-pub one_may_run : (version : ℕ) → MayRun (profile_of version) 1
+pub one_may_run : (version : ImageVersion) → MayRun (profile_of version) 1
 one_may_run version = record { some = omega arith; most = (laid_out (profile_of version) (is_profile version)).some }
 
 -- from one hart to as many as there may be
@@ -25,17 +28,17 @@ pub record IsCount (harts : ℕ) : Type 0 where
   pub most : harts ≤ MOST_HARTS
 
 -- where a script is not for several harts or an image not for one, the image may have the script's
-pub may_run : (version harts : ℕ) → IsCount harts → ((version == 1) && nat_lt 1 harts) ≡ false → MayRun (profile_of version) harts
-may_run version harts count test = elim (and_cases (version == 1) (nat_lt 1 harts) test) [
-  | inl other ↦ record { some = count.some; most = rw other count.most }
-  | inr one ↦
-      let most = ltb-false 1 harts one in
-      let least = (laid_out (profile_of version) (is_profile version)).some in
-      record { some = count.some; most = omega (arith, most, least) }
-]
+pub may_run : (version : ImageVersion) (harts : ℕ) → IsCount harts → lacks_harts version harts ≡ false → MayRun (profile_of version) harts
+may_run OneHart harts count test = record { some = count.some; most = ltb-false 1 harts test }
+may_run EightHarts harts count test = record { some = count.some; most = count.most }
+
+-- and where it may not, the image is for one and the script for several
+pub for_one_alone : (version : ImageVersion) (harts : ℕ) → lacks_harts version harts ≡ true → (version ≡ OneHart) × (1 < harts)
+for_one_alone OneHart harts test = (refl, ltb-true 1 harts test)
+for_one_alone EightHarts harts test = absurd (cc)
 
 -- what comes after a step that was right
-then_right : {A C : Type 0} (step : Result A TextEnd) (next : A → Result C TextEnd) (y : C) → if_right step next ≡ Ok y → (x : A) × (step ≡ Ok x) × (next x ≡ Ok y)
+then_right : {A C : Type 0} (step : Result A (End LineFault)) (next : A → Result C (End LineFault)) (y : C) → if_right step next ≡ Ok y → (x : A) × (step ≡ Ok x) × (next x ≡ Ok y)
 then_right (Ok x) next y e = (x, refl, e)
 then_right (Err end) next y e = absurd (cc)
 
@@ -58,7 +61,7 @@ module _ (script : ScriptParts) where
 
   counted : (count : Option ℕ) (lines : List (List ℕ)) → with_count count lines ≡ Ok script → IsCount script.harts
   counted None lines e = absurd (cc)
-  counted (Some harts) lines e = elim (chosen (nat_le 1 harts && nat_le harts MOST_HARTS) (with_harts harts lines) (Err (Line 2 Range)) (Ok script) e) [
+  counted (Some harts) lines e = elim (chosen (nat_le 1 harts && nat_le harts MOST_HARTS) (with_harts harts lines) (Err (line_fault 2 Range)) (Ok script) e) [
     | inl (test, is) ↦
         let parts = and_parts (nat_le 1 harts) (nat_le harts MOST_HARTS) test in
         is_of harts (record { some = leb-true 1 harts parts.0; most = leb-true harts MOST_HARTS parts.1 }) (harts_told harts lines is)

@@ -1,17 +1,17 @@
-ghost use Rattle.std.specs.Prelude.{◌≡◌, ◌==◌, ◌&&◌, Ok, IfOk, IfErr, nat_lt, option_map};
+ghost use Rattle.std.specs.Prelude.{◌≡◌, Ok, IfOk, IfErr, option_map};
 ghost use Rattle.rv_word.specs.Image.{image_profile};
 ghost use Rattle.rv_word.specs.MemoryMap.{MayRun};
 ghost use Rattle.text_lines.specs.Answers.{Answers};
 ghost use Rattle.cfi_pair.specs.Spelled.{Spell};
-ghost use Rattle.cfi_launch.specs.Launch.{IsComplete, IsLaunchEnd, IsLaunchOf, IsLaunchOfPair, script_given};
+ghost use Rattle.cfi_launch.specs.Launch.{IsComplete, IsLaunchEnd, IsLaunchOf, IsLaunchOfPair, lacks_harts, script_given};
 
-use cfi_pair::{Pair, PairEnd, PairFault, open_pair};
+use cfi_pair::{Pair, PairFault, open_pair};
 use cfi_script::Script;
 use cfi_step::{RunReport, run};
-use cfi_verify::{Reject, VerifyEnd, verify};
-use rv_word::{Image, NoMemory};
+use cfi_verify::{Reject, verify};
+use rv_word::{End, Image, ImageVersion, NoMemory};
 use std::alloc::Global;
-use text_lines::{Reason, TextEnd};
+use text_lines::{LineFault, Reason};
 
 /// What a pair that was read comes to.
 #[derive(Drop)]
@@ -19,7 +19,7 @@ pub enum Launched {
     /// It breaks a rule: the first that fails, at its least address.
     Rejected(Reject),
     /// The version of the image, and the report of its run.
-    Ran(u8, RunReport),
+    Ran(ImageVersion, RunReport),
 }
 
 /// Why texts are not run: the first of them that is not what it should be.
@@ -33,17 +33,8 @@ pub enum LaunchFault {
     Harts(u8),
 }
 
-/// Why there is no run.
-#[derive(Clone, Copy)]
-pub enum LaunchEnd {
-    /// One of the texts is not what it should be.
-    Fault(LaunchFault),
-    /// There was no memory.
-    NoMemory,
-}
-
 /// The script that a text spells; without a text one hart runs, undisturbed.
-fn script_of(alloc: Global, text: Option<&[u8]>) -> Result<Script, TextEnd>
+fn script_of(alloc: Global, text: Option<&[u8]>) -> Result<Script, End<LineFault>>
     ensures { Answers result (script_given (option_map (λ t. t.now) text.entry)) }
 {
     match text {
@@ -54,9 +45,12 @@ fn script_of(alloc: Global, text: Option<&[u8]>) -> Result<Script, TextEnd>
 
 /// Whether a script is for several harts, and an image for one.
 fn lacks_harts(image: &Image<'_>, script: &Script) -> bool
-    ensures { result ≡ (image.now.version == 1) && nat_lt 1 script.now.harts }
+    ensures { result ≡ lacks_harts image.now.version script.now.harts }
 {
-    image.version() == 1 && script.harts() > 1
+    match image.version() {
+        ImageVersion::OneHart => script.harts() > 1,
+        ImageVersion::EightHarts => false,
+    }
 }
 
 /// The image, the graph and the script that texts spell, whose harts the image may have.
@@ -65,7 +59,7 @@ fn open_all<'a>(
     image: &'a [u8],
     graph: &[u8],
     script: Option<&[u8]>,
-) -> Result<(Pair<'a>, Script), LaunchEnd>
+) -> Result<(Pair<'a>, Script), End<LaunchFault>>
     ensures spelled { IfOk result (λ all. Spell image.now graph.now all.0.image all.0.graph) }
     ensures given { IfOk result (λ all. script_given (option_map (λ t. t.now) script.entry) ≡ Ok all.1) }
     ensures may_run { IfOk result (λ all. MayRun (image_profile all.0.image) all.1.harts) }
@@ -73,18 +67,18 @@ fn open_all<'a>(
 {
     let pair = match open_pair(alloc, image, graph) {
         Ok(pair) => pair,
-        Err(PairEnd::Fault(fault)) => return Err(LaunchEnd::Fault(LaunchFault::Pair(fault))),
-        Err(PairEnd::NoMemory) => return Err(LaunchEnd::NoMemory),
+        Err(End::Fault(fault)) => return Err(End::Fault(LaunchFault::Pair(fault))),
+        Err(End::NoMemory) => return Err(End::NoMemory),
     };
     let script = match script_of(alloc, script) {
         Ok(script) => script,
-        Err(TextEnd::Line(line, reason)) => {
-            return Err(LaunchEnd::Fault(LaunchFault::Script(line, reason)));
+        Err(End::Fault(LineFault(line, reason))) => {
+            return Err(End::Fault(LaunchFault::Script(line, reason)));
         }
-        Err(TextEnd::NoMemory) => return Err(LaunchEnd::NoMemory),
+        Err(End::NoMemory) => return Err(End::NoMemory),
     };
     if lacks_harts(&pair.image, &script) {
-        return Err(LaunchEnd::Fault(LaunchFault::Harts(script.harts())));
+        return Err(End::Fault(LaunchFault::Harts(script.harts())));
     }
     Ok((pair, script))
 }
@@ -106,8 +100,8 @@ fn run_pair(
             pair.image.version(),
             run(alloc, &checked, input, harts, script, limit)?,
         )),
-        Err(VerifyEnd::Reject(reject)) => Ok(Launched::Rejected(reject)),
-        Err(VerifyEnd::NoMemory) => Err(NoMemory),
+        Err(End::Fault(reject)) => Ok(Launched::Rejected(reject)),
+        Err(End::NoMemory) => Err(NoMemory),
     }
 }
 
@@ -120,7 +114,7 @@ pub fn launch(
     script: Option<&[u8]>,
     input: &[u8],
     limit: u64,
-) -> Result<Launched, LaunchEnd>
+) -> Result<Launched, End<LaunchFault>>
     ensures launched { IfOk result (IsLaunchOf image.now graph.now (option_map (λ t. t.now) script.entry) input.now limit) }
     ensures refused { IfErr result (IsLaunchEnd image.now graph.now (option_map (λ t. t.now) script.entry)) }
     ensures complete { IsComplete image.now graph.now (option_map (λ t. t.now) script.entry) result }
@@ -131,6 +125,6 @@ pub fn launch(
     };
     match run_pair(alloc, &pair, &mut script, input, limit) {
         Ok(launched) => Ok(launched),
-        Err(NoMemory) => Err(LaunchEnd::NoMemory),
+        Err(NoMemory) => Err(End::NoMemory),
     }
 }

@@ -2,6 +2,6 @@
 //! judged by the rules, and then it runs.
 #![tactic(auto)]
 
-pub use launching::{LaunchEnd, LaunchFault, Launched, launch};
+pub use launching::{LaunchFault, Launched, launch};
 
 mod launching;

@@ -2,13 +2,13 @@
 //! prologue, with every branch long, or with each branch short that can be.
 #![tactic(auto)]
 
-pub use end::PlaceEnd;
+pub use code_too_large::CodeTooLarge;
 pub use placement::{Placement, place};
 pub use short::{Short, are_shorts};
 pub use shortening::shorten;
 pub use starts::code_size;
 
-mod end;
+mod code_too_large;
 pub mod laws;
 mod placement;
 mod reach;

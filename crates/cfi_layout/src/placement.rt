@@ -2,12 +2,12 @@ ghost use Rattle.std.specs.Prelude.{◌≡◌, ◌<◌, ◌≤◌, [], IfOk, IfE
 ghost use Rattle.rv_word.specs.Form.{profile_for};
 ghost use Rattle.rv_word.specs.MemoryMap.{CODE_SIZE};
 ghost use Rattle.cfi_layout.specs.Starts.{code_size, flag, starts_from};
-ghost use Rattle.cfi_layout.specs.declared.end.PlaceEnd.TheVariants.{CodeTooLarge, NoMemory as NoPlaceMemory};
+ghost use Rattle.rv_word.specs.declared.end.End.TheVariants.{Fault, NoMemory as NoPlaceMemory};
 
-use crate::end::PlaceEnd;
+use crate::code_too_large::CodeTooLarge;
 use crate::starts::{code_size, starts_of};
-use rv_word::Form;
 use rv_word::memory_map::CODE_SIZE;
+use rv_word::{End, Form};
 use std::alloc::Global;
 use std::marker::Model;
 
@@ -55,17 +55,17 @@ impl Placement {
 
 /// Places parts of these sizes, in bytes, one after another from the address after the prologue of a form's
 /// images; each part is long. Code that is too large is told whether there is memory or not.
-pub fn place(alloc: Global, form: Form, sizes: &[u32]) -> Result<Placement, PlaceEnd>
+pub fn place(alloc: Global, form: Form, sizes: &[u32]) -> Result<Placement, End<CodeTooLarge>>
     ensures starts { IfOk result (λ p. p.starts ≡ starts_from (profile_for form).units_from sizes.now) }
     ensures long { IfOk result (λ p. p.long ≡ []) }
     ensures fits { IfOk result (λ _. code_size (profile_for form).units_from sizes.now ≤ CODE_SIZE) }
     ensures too_large { CODE_SIZE < code_size (profile_for form).units_from sizes.now →
-        result ≡ Err (CodeTooLarge (code_size (profile_for form).units_from sizes.now)) }
+        result ≡ Err (Fault (record { bytes = code_size (profile_for form).units_from sizes.now })) }
     ensures refused { IfErr result (λ end. code_size (profile_for form).units_from sizes.now ≤ CODE_SIZE → end ≡ NoPlaceMemory) }
 {
     let bytes = code_size(form, sizes);
     if bytes > u128::from(CODE_SIZE) {
-        return Err(PlaceEnd::CodeTooLarge(bytes));
+        return Err(End::Fault(CodeTooLarge { bytes }));
     }
     let starts = starts_of(alloc, form, sizes)?;
     Ok(Placement {

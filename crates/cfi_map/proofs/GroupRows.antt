@@ -1,5 +1,6 @@
 -- Worked rows: stores that may join the one before them and stores that may not, and the sizes of a program with a group of two.
 use Rattle.std.proofs.Common.{◌≡◌, ℕ, Bool, true, false, List, [], ◌∷◌, Some, None, pos, refl}
+use Rattle.rv_word.specs.declared.version.GraphVersion.TheVariants.{OneLabel}
 use Rattle.rv_word.specs.declared.form.Form.TheVariants.{Plain}
 use Rattle.rv_code.specs.Decode.{decoded}
 use Rattle.obj_input.specs.declared.item_kind.ItemKind.{ItemKind}
@@ -21,7 +22,7 @@ abbrev program : List Item → Program
 program items = record { items = items; init = []; relocations = []; data_end = 65536; funcs = []; names = [] }
 
 abbrev closed : List (List ℕ) → List Bool → ClosedGraph
-closed classes taken = record { version = 1; sides = record { sort = Both; classes = classes; sites = [] } ∷ []; taken = taken; calls = None }
+closed classes taken = record { version = OneLabel; sides = record { sort = Both; classes = classes; sites = [] } ∷ []; taken = taken; calls = None }
 
 -- `addi x2,x2,-32`, two stores, `ld x1,24(x2)`, `addi x2,x2,32`, `ret`
 abbrev stores : ℕ → ℕ → Program

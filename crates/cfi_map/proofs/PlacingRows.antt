@@ -1,6 +1,7 @@
 -- Worked rows: sizes and branches of small programs. The first two are a branch over one instruction and a branch over a jump, before a
 -- return; their code has 96 bytes and 100.
 use Rattle.std.proofs.Common.{◌≡◌, ℕ, Bool, true, false, List, [], ◌∷◌, Option, Some, None, refl}
+use Rattle.rv_word.specs.declared.version.GraphVersion.TheVariants.{OneLabel, TwoLabels}
 use Rattle.rv_word.specs.declared.form.Form.TheVariants.{Plain, Harts, Split, HartsSplit}
 use Rattle.rv_code.specs.Decode.{decoded}
 use Rattle.obj_input.specs.declared.item_kind.ItemKind.{ItemKind}
@@ -24,12 +25,12 @@ program items = record { items = items; init = []; relocations = []; data_end = 
 
 -- classes, and no sites
 abbrev closed : List (List ℕ) → ClosedGraph
-closed classes = record { version = 1; sides = record { sort = Both; classes = classes; sites = [] } ∷ []; taken = []; calls = None }
+closed classes = record { version = OneLabel; sides = record { sort = Both; classes = classes; sites = [] } ∷ []; taken = []; calls = None }
 
 -- classes of calls, and of jumps
 abbrev split : List (List ℕ) → List (List ℕ) → ClosedGraph
 split calls jumps = record {
-  version = 2;
+  version = TwoLabels;
   sides = record { sort = Calls; classes = calls; sites = [] } ∷ record { sort = Jumps; classes = jumps; sites = [] } ∷ [];
   taken = [];
   calls = None;

@@ -2,6 +2,7 @@
 -- gates and counts of steps are worked out by hand.
 use Rattle.std.proofs.Common.{◌≡◌, ℕ, ◌+◌, ◌-◌, ◌^◌, true, false, List, [], ◌∷◌, Option, Some, None, length, replicate, pos, refl}
 use Rattle.std.specs.Prelude.{option_map}
+use Rattle.rv_word.specs.declared.version.GraphVersion.TheVariants.{OneLabel, TwoLabels}
 use Rattle.rv_word.specs.MemoryMap.{version_1}
 use Rattle.rv_word.specs.Memory.{placed, write}
 use Rattle.rv_instr.specs.Registers.{set_reg}
@@ -43,7 +44,7 @@ program items init relocations gates closed = record {
 }
 
 abbrev no_classes : ClosedGraph
-no_classes = record { version = 1; sides = record { sort = Both; classes = []; sites = [] } ∷ []; taken = []; calls = None }
+no_classes = record { version = OneLabel; sides = record { sort = Both; classes = []; sites = [] } ∷ []; taken = []; calls = None }
 
 -- what is seen after so many steps, and how the next one ends
 abbrev seen : {A : Type 0} → (Source → A) → ProgramAtMap → ℕ → Option A
@@ -99,7 +100,7 @@ off_data = (refl, refl)
 -- `jalr x1, 0(x5)` whose site has no targets
 abbrev nowhere : ProgramAtMap
 nowhere = program (at 0 is.Icall 0x000280e7 ∷ at 4 is.Return 0x00008067 ∷ end 8 ∷ []) [] [] (0x40000040 ∷ 0x40000090 ∷ 0x400000a4 ∷ [])
-    (record { version = 1; sides = record { sort = Both; classes = []; sites = record { place = 0; class = None } ∷ [] } ∷ []; taken = false ∷ false ∷ false ∷ []; calls = None })
+    (record { version = OneLabel; sides = record { sort = Both; classes = []; sites = record { place = 0; class = None } ∷ [] } ∷ []; taken = false ∷ false ∷ false ∷ []; calls = None })
 
 off_graph : turn nowhere 0 ≡ Some (untame why.Graph 0)
 unfolding source_step after_steps decoded instr_at words_from last_exit data_at
@@ -134,7 +135,7 @@ wrong_return = (refl, refl, refl)
 -- `jal x1` to the return; the place after the call is a target, so the link is its gate, and its AUIPC reads the word behind that
 abbrev linked : ProgramAtMap
 linked = program (to 2 (at 0 is.Call 0x008000ef) ∷ at 4 is.Plain 0x00000297 ∷ at 8 is.Return 0x00008067 ∷ end 12 ∷ []) [] []
-    (0x40000040 ∷ 0x40000060 ∷ 0x40000068 ∷ 0x4000007c ∷ []) (record { version = 1; sides = record { sort = Both; classes = (1 ∷ []) ∷ []; sites = [] } ∷ []; taken = false ∷ true ∷ false ∷ false ∷ []; calls = None })
+    (0x40000040 ∷ 0x40000060 ∷ 0x40000068 ∷ 0x4000007c ∷ []) (record { version = OneLabel; sides = record { sort = Both; classes = (1 ∷ []) ∷ []; sites = [] } ∷ []; taken = false ∷ true ∷ false ∷ false ∷ []; calls = None })
 
 links_to_gates : (seen (λ st. st.regs 1) linked 1 ≡ Some 0x40000060) × (seen (λ st. st.pending) linked 1 ≡ Some (1 ∷ [])) × (seen (λ st. st.place) linked 1 ≡ Some (Some 2))
     × (seen (λ st. st.place) linked 2 ≡ Some (Some 1)) × (seen (λ st. st.pending) linked 2 ≡ Some []) × (seen (λ st. st.regs 5) linked 3 ≡ Some 0x40000064)
@@ -197,7 +198,7 @@ pointer = program
     ∷ at 44 is.Return 0x00008067 ∷ end 48 ∷ [])
     (replicate 16 0) (relocated 0 8 ∷ relocated 8 10 ∷ [])
     (0x40000040 ∷ 0x40000044 ∷ 0x40000054 ∷ 0x40000058 ∷ 0x4000005c ∷ 0x400000ac ∷ 0x400000b0 ∷ 0x400000b4 ∷ 0x400000c8 ∷ 0x400000d0 ∷ 0x400000e4 ∷ 0x400000ec ∷ 0x40000100 ∷ [])
-    (record { version = 1; sides = record { sort = Both; classes = (8 ∷ 10 ∷ []) ∷ []; sites = record { place = 4; class = Some 0 } ∷ [] } ∷ []; taken = []; calls = None })
+    (record { version = OneLabel; sides = record { sort = Both; classes = (8 ∷ 10 ∷ []) ∷ []; sites = record { place = 4; class = Some 0 } ∷ [] } ∷ []; taken = []; calls = None })
 
 pointer_runs : (seen (λ st. st.regs 5) pointer 4 ≡ Some 0x400000c8) × (seen (λ st. st.place) pointer 5 ≡ Some (Some 8)) × (seen (λ st. st.pending) pointer 5 ≡ Some (5 ∷ []))
     × (seen (λ st. st.regs 1) pointer 5 ≡ Some 0x400000ac) × (seen (λ st. st.place) pointer 7 ≡ Some (Some 5)) × (turn pointer 10 ≡ Some (exits 1))
@@ -219,7 +220,7 @@ computed_targets = (refl, refl, refl, refl, refl)
 -- `jalr x0, 0(x5)` to a class of jumps and `jalr x1, 0(x5)` to one of calls: each reaches its own class alone
 abbrev two_sides : ClosedGraph
 two_sides = record {
-  version = 2;
+  version = TwoLabels;
   sides =
       record { sort = Calls; classes = (3 ∷ []) ∷ []; sites = record { place = 1; class = Some 0 } ∷ [] }
       ∷ record { sort = Jumps; classes = (2 ∷ []) ∷ []; sites = record { place = 0; class = Some 0 } ∷ [] }

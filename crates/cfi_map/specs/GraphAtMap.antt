@@ -11,7 +11,6 @@ use Rattle.obj_program.specs.Program.{Program}
 use Rattle.cfi_graph.specs.declared.line.GraphLine.{GraphLine}
 use Rattle.cfi_graph.specs.declared.line.GraphLine.TheVariants as line
 use Rattle.cfi_graph.specs.declared.line.SiteKind.TheVariants as site
-use Rattle.cfi_graph.specs.Graph.{line_of_class}
 use Rattle.cfi_closed.specs.Closed.{ClosedGraph}
 use Rattle.cfi_map.specs.LabelOf.{Tagged, site_label, tagged}
 use Rattle.cfi_map.specs.Placement.{word_of, words_from}
@@ -44,7 +43,7 @@ gate_to layout (Some k) = gate layout k
 
 -- the lines of classes, each with its label
 unfoldable pub class_lines : List ℕ → List ℕ → List Tagged → List GraphLine
-class_lines gates (label ∷ labels) (t ∷ ts) = line_of_class t.sort label (map (slice_index gates) t.class) ∷ class_lines gates labels ts
+class_lines gates (label ∷ labels) (t ∷ ts) = line.Class t.sort label (map (slice_index gates) t.class) ∷ class_lines gates labels ts
 class_lines gates labels ts = []
 
 abbrev pub line_of_kind : ItemKind → ℕ → ℕ → ℕ → Option GraphLine

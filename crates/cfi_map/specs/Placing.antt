@@ -5,8 +5,9 @@ use Rattle.rv_word.specs.MemoryMap.{CODE_SIZE}
 use Rattle.rv_word.specs.declared.form.Form.{Form}
 use Rattle.obj_program.specs.Program.{Program, count, item_of}
 use Rattle.obj_program.specs.Sound.{IsSound}
-use Rattle.cfi_layout.specs.declared.end.PlaceEnd.{PlaceEnd}
-use Rattle.cfi_layout.specs.declared.end.PlaceEnd.TheVariants as ends
+use Rattle.rv_word.specs.declared.end.End.{End}
+use Rattle.rv_word.specs.declared.end.End.TheVariants.{Fault, NoMemory}
+use Rattle.cfi_layout.specs.declared.code_too_large.CodeTooLarge.{CodeTooLarge}
 use Rattle.cfi_layout.specs.LongSet.{IsLongSet, starts_under}
 use Rattle.cfi_layout.specs.LongSet.{is_branch as is_part}
 use Rattle.cfi_layout.specs.Starts.{Placed, code_size, flag}
@@ -47,9 +48,9 @@ pub record IsPlacementOf (form : Form) (program : Program) (closed : ClosedGraph
   pub placed : IsPlacement form s
 
 -- the code has no room with every branch long and each store alone, or there was no memory
-abbrev pub PlaceEnds : Form → Program → ClosedGraph → PlaceEnd → Type 0
-PlaceEnds form program closed (ends.CodeTooLarge bytes) = (bytes ≡ whole_size form program closed) × (CODE_SIZE < bytes)
-PlaceEnds form program closed ends.NoMemory = Unit {0}
+abbrev pub PlaceEnds : Form → Program → ClosedGraph → End CodeTooLarge → Type 0
+PlaceEnds form program closed (Fault large) = (large.bytes ≡ whole_size form program closed) × (CODE_SIZE < large.bytes)
+PlaceEnds form program closed NoMemory = Unit {0}
 
 -- Words of private contracts. Of each place whether its unit has its whole size, by the flags of stores and those of branches
 abbrev pub joined : Program → List Bool → List Bool → ℕ → Bool

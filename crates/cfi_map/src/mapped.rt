@@ -17,9 +17,9 @@ ghost use Rattle.cfi_map.specs.Untame.{place_with_gate};
 use crate::sizes::lead_size;
 use cfi_closed::Closed;
 use least::Place;
-use obj_program::{DataEnd, Item, Items};
+use obj_program::{Item, Items};
 use rv_instr::Instr;
-use rv_word::{Form, NoMemory};
+use rv_word::{End, Form, NoMemory};
 use std::alloc::Global;
 use std::marker::Model;
 
@@ -230,8 +230,8 @@ impl<'a, 'b> Mapped<'a, 'b> {
         let _count = self.count();
         match self.items.data_at(alloc, self.gates()) {
             Ok(data) => Ok(data),
-            Err(DataEnd::RelocRange) => unreachable!(),
-            Err(DataEnd::NoMemory) => Err(NoMemory),
+            Err(End::Fault(_)) => unreachable!(),
+            Err(End::NoMemory) => Err(NoMemory),
         }
     }
 

@@ -15,10 +15,10 @@ use crate::mapped::Mapped;
 use crate::shorts::shorts;
 use crate::sizes::{flag_at, grouped_sizes};
 use cfi_closed::Closed;
-use cfi_layout::{PlaceEnd, Placement, code_size, shorten};
+use cfi_layout::{CodeTooLarge, Placement, code_size, shorten};
 use obj_program::Items;
 use rv_word::memory_map::CODE_SIZE;
-use rv_word::{Form, NoMemory};
+use rv_word::{End, Form, NoMemory};
 use std::alloc::Global;
 use std::marker::Model;
 
@@ -55,7 +55,12 @@ impl<'a, 'b> Spacing<'a, 'b> {
 }
 
 /// Whether the code of a program has room in a form with every branch long and no group.
-fn has_room(alloc: Global, form: Form, items: &Items, closed: &Closed) -> Result<(), PlaceEnd>
+fn has_room(
+    alloc: Global,
+    form: Form,
+    items: &Items,
+    closed: &Closed,
+) -> Result<(), End<CodeTooLarge>>
     ensures { MatchResult result
         (λ _. whole_size form items.now closed.now ≤ CODE_SIZE)
         (λ e. PlaceEnds form items.now closed.now e) }
@@ -63,7 +68,7 @@ fn has_room(alloc: Global, form: Form, items: &Items, closed: &Closed) -> Result
     let sizes = grouped_sizes(alloc, items, closed, &[])?;
     let bytes = code_size(form, sizes.as_slice());
     if bytes > u128::from(CODE_SIZE) {
-        return Err(PlaceEnd::CodeTooLarge(bytes));
+        return Err(End::Fault(CodeTooLarge { bytes }));
     }
     Ok(())
 }
@@ -155,7 +160,7 @@ pub fn place_program<'a, 'b>(
     items: &'a Items<'b>,
     closed: &'a Closed,
     entry: u64,
-) -> Result<Spacing<'a, 'b>, PlaceEnd>
+) -> Result<Spacing<'a, 'b>, End<CodeTooLarge>>
     requires version { closed.now.version ≡ graph_version form }
     requires entry { entry < count items.now }
     ensures { MatchResult result

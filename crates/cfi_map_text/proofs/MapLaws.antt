@@ -6,8 +6,6 @@ use Rattle.std.proofs.lemmas.Bool.{and_from, and_parts, ltb-true}
 use Rattle.std.proofs.lemmas.List.Splits.{join_with_byte-slice_split}
 use Rattle.std.proofs.lemmas.Slice.Eq.{bytes_eq-Decides}
 use Rattle.std.proofs.Math.Dec.{leb, ltb}
-use Rattle.text_lines.specs.declared.end.TextEnd.{TextEnd}
-use Rattle.text_lines.specs.declared.end.TextEnd.TheVariants.{Line, NoMemory}
 use Rattle.text_lines.specs.Answers.{Answers}
 use Rattle.text_lines.specs.Hex.{hex, hex_text}
 use Rattle.text_lines.specs.Lines.{lines_of, spaced, words_of}
@@ -18,9 +16,12 @@ use Rattle.rv_word.proofs.Cases.{guarded}
 use Rattle.text_lines.proofs.Options.{and_then, mapped}
 use Rattle.text_lines.proofs.Whole.{ends_whole, named_back, one_named_ok, whole_accepts, whole_back}
 use Rattle.text_lines.proofs.Written.{hex_back, hex_plain, join_newlines, lacks, spaced_line, split_join, words_back}
+use Rattle.text_lines.specs.declared.fault.LineFault.{LineFault}
 use Rattle.rv_word.specs.Form.{profile_for}
 use Rattle.rv_word.specs.declared.form.Form.{Form}
 use Rattle.rv_word.specs.declared.form.Form.TheVariants.{Plain, Harts, Split, HartsSplit}
+use Rattle.rv_word.specs.declared.end.End.{End}
+use Rattle.rv_word.specs.declared.end.End.TheVariants.{Fault, NoMemory}
 use Rattle.cfi_map_text.specs.declared.map.MapLine.{MapLine}
 use Rattle.cfi_graph.specs.Graph.{is_rising}
 use Rattle.cfi_map_text.specs.Map.{IsMap, MapParts, is_gate, map_line_below, map_line_in_range}
@@ -165,7 +166,7 @@ map_of-map_text m is =
 
 -- ---- what an answer says
 
-read_with : (form : Form) (answer : Result (List MapLine) TextEnd) (m : MapParts) → if_right answer (λ read. Ok (record { form = form; lines = read })) ≡ Ok m → (answer ≡ Ok m.lines) × (m.form ≡ form)
+read_with : (form : Form) (answer : Result (List MapLine) (End LineFault)) (m : MapParts) → if_right answer (λ read. Ok (record { form = form; lines = read })) ≡ Ok m → (answer ≡ Ok m.lines) × (m.form ≡ form)
 read_with form (Ok lines) m e =
     let read : MapParts = record { form = form; lines = lines } in
     let is : read ≡ m = cc in
@@ -195,10 +196,10 @@ map_of_spelled text m e =
 pub map_collected : (form : Form) (which : ℕ) (lines : List (List ℕ)) (items : List MapLine) → form ≡ form_at which → whole (read (map_rules form) None 2 lines) ≡ Ok items → map_with (form_at which) lines ≡ Ok (record { form = form; lines = items })
 map_collected form which lines items is e = rw (← is, e) refl
 
-pub map_refused : (form : Form) (which : ℕ) (lines : List (List ℕ)) (end : TextEnd) → form ≡ form_at which → Answers {A = Unit {0}} (Err end) (read (map_rules form) None 2 lines).end → Answers {A = MapParts} (Err end) (map_with (form_at which) lines)
+pub map_refused : (form : Form) (which : ℕ) (lines : List (List ℕ)) (end : End LineFault) → form ≡ form_at which → Answers {A = Unit {0}} (Err end) (read (map_rules form) None 2 lines).end → Answers {A = MapParts} (Err end) (map_with (form_at which) lines)
 map_refused form which lines end is e = rw (← is) (ends_whole (read (map_rules form) None 2 lines) (λ read. Ok (record { form = form; lines = read })) end e)
 
-pub record IsMapReading (text : List ℕ) (answer : Result MapParts TextEnd) : Type 0 where
+pub record IsMapReading (text : List ℕ) (answer : Result MapParts (End LineFault)) : Type 0 where
   pub allowed : IfOk answer IsMap
   pub spelled : IfOk answer (λ m. text ≡ map_text m)
   pub only : (m : MapParts) → IsMap m → text ≡ map_text m → Answers answer (Ok m)
@@ -206,14 +207,14 @@ pub record IsMapReading (text : List ℕ) (answer : Result MapParts TextEnd) : T
 read_of : (text : List ℕ) (m : MapParts) → IsMap m → text ≡ map_text m → map_of text ≡ Ok m
 read_of text m is e = ap map_of e ∙ map_of-map_text m is
 
-pub reading : (text : List ℕ) (answer : Result MapParts TextEnd) → Answers answer (map_of text) → IsMapReading text answer
+pub reading : (text : List ℕ) (answer : Result MapParts (End LineFault)) → Answers answer (map_of text) → IsMapReading text answer
 reading text (Ok m) right =
     record {
       allowed = map_of_allowed text m right;
       spelled = map_of_spelled text m right;
       only = λ other is e. sym (read_of text other is e) ∙ right;
     }
-reading text (Err (Line number reason)) right =
+reading text (Err (Fault fault)) right =
     record { allowed = tt; spelled = tt; only = λ other is e. sym (read_of text other is e) ∙ right }
 reading text (Err NoMemory) right =
     record { allowed = tt; spelled = tt; only = λ other is e. tt }

@@ -5,10 +5,11 @@ use Rattle.std.specs.List.{flat_map}
 use Rattle.std.specs.Str.{bytes_eq}
 use Rattle.rv_word.specs.declared.form.Form.{Form}
 use Rattle.rv_word.specs.declared.form.Form.TheVariants.{Plain, Harts, Split, HartsSplit}
+use Rattle.rv_word.specs.declared.end.End.{End}
 use Rattle.text_lines.specs.Hex.{hex, hex_text}
 use Rattle.text_lines.specs.Lines.{lines_of, spaced}
 use Rattle.text_lines.specs.Reading.{LineRules, if_right, one_named, read, whole}
-use Rattle.text_lines.specs.declared.end.TextEnd.{TextEnd}
+use Rattle.text_lines.specs.declared.fault.LineFault.{LineFault}
 use Rattle.cfi_map_text.specs.declared.map.MapLine.{MapLine}
 use Rattle.cfi_map_text.specs.Map.{MapParts, map_line_below, map_line_in_range}
 
@@ -65,10 +66,10 @@ abbrev pub form_at : ℕ → Form
 form_at which = if which == 0 then Plain else if which == 1 then Harts else if which == 2 then Split else HartsSplit
 
 -- the map of a form, and of the lines from the second on
-abbrev pub map_with : Form → List (List ℕ) → Result MapParts TextEnd
+abbrev pub map_with : Form → List (List ℕ) → Result MapParts (End LineFault)
 map_with form lines =
     if_right (whole (read (map_rules form) None 2 lines)) (λ read. Ok (record { form = form; lines = read }))
 
 -- what a text is read as
-unfoldable pub map_of : List ℕ → Result MapParts TextEnd
+unfoldable pub map_of : List ℕ → Result MapParts (End LineFault)
 map_of text = if_right (one_named map_names (lines_of text)) (λ first. map_with (form_at first.0) first.1)

@@ -6,9 +6,11 @@ ghost use Rattle.cfi_map_text.specs.Map.{IsMap, MapParts};
 ghost use Rattle.cfi_map_text.specs.MapText.{form_at, in_map_order, map_line_of, map_name, map_of, map_rules, map_text, map_words};
 
 use crate::map::{Map, MapLine, MapLines};
-use rv_word::{Form, NoMemory};
+use rv_word::{End, Form, NoMemory};
 use std::alloc::Global;
-use text_lines::{LineForm, TextEnd, after_one_of, cut, hex_of, is_word, push_number, read_lines};
+use text_lines::{
+    LineFault, LineForm, after_one_of, cut, hex_of, is_word, push_number, read_lines,
+};
 
 /// The line of a map that these bytes spell, if they have the form of one.
 fn map_line_of(line: &[u8]) -> Option<MapLine>
@@ -110,7 +112,7 @@ fn name_of(form: Form) -> &'static [u8]
 }
 
 /// Reads the text of a map, of which it keeps no copy. The lines of a text count from 1.
-pub fn read_map(alloc: Global, text: &[u8]) -> Result<Map, TextEnd>
+pub fn read_map(alloc: Global, text: &[u8]) -> Result<Map, End<LineFault>>
     // The right answer, but for want of memory.
     ensures exact { Answers result (map_of text.now) }
 

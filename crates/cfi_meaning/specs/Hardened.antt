@@ -20,7 +20,7 @@ hardened_at_map p h = program_at p.form p.program p.closed (gates_of h.map.lines
 -- something holds of a prepared program at the map, which is legal, and of what the image contains
 pub record HoldsOf (Holds : ProgramAtMap → Contents → Type 0) (p : PreparedParts) (h : HardenedParts) : Type 0 where
   pub contents : Contents
-  -- bytes, of an image's lengths: so no other contents of a known version have this spelling
+  -- bytes, of an image's lengths: so no other contents have this spelling
   pub bytes : AreBytes contents
   pub version : contents.version ≡ image_version p.form
   pub image : h.image ≡ spelling contents.version contents.code contents.init

@@ -14,14 +14,15 @@ use Rattle.cfi_pair.specs.Opening.{IsPairEnd}
 use Rattle.cfi_pair.specs.Spelled.{IsImage, Spell}
 use Rattle.cfi_pair.specs.declared.judging.Verdict.{Verdict}
 use Rattle.cfi_pair.specs.declared.judging.Verdict.TheVariants.{Accepted, Rejected}
-use Rattle.cfi_pair.specs.declared.opening.PairEnd.{PairEnd}
-use Rattle.cfi_pair.specs.declared.opening.PairEnd.TheVariants.{Fault, NoMemory}
+use Rattle.rv_word.specs.declared.end.End.{End}
+use Rattle.cfi_pair.specs.declared.opening.PairFault.{PairFault}
+use Rattle.rv_word.specs.declared.end.End.TheVariants.{Fault, NoMemory}
 use Rattle.cfi_pair.specs.declared.opening.PairFault.TheVariants.{Graph, Image}
 use Rattle.cfi_pair.proofs.OneImage.{one_image, spelled_image}
 
 module _ (image_bytes graph_bytes : List ℕ) (image : Contents) (graph : GraphParts) (spell : Spell image_bytes graph_bytes image graph) where
   pub no_fault : fault_of image_bytes ≡ None
-  no_fault = reads_none image_bytes image.version image.code image.init spell.version spell.size spell.image_is
+  no_fault = reads_none image_bytes image.version image.code image.init spell.size spell.image_is
 
   pub own : IsImage image_bytes image
   own = spelled_image image_bytes graph_bytes image graph spell
@@ -59,11 +60,11 @@ module _ (image_bytes graph_bytes : List ℕ) (image : Contents) (graph : GraphP
     judged_well Accepted is = refl
     judged_well (Rejected reject) is = let (other, lines, spelled, rejected) = is in absurd (none_rejected other lines reject spelled rejected)
 
-    pub accepted : (verdict : Verdict) (result : Result Verdict PairEnd) → HasJudgement image_bytes graph_bytes verdict → result ≡ Ok verdict
+    pub accepted : (verdict : Verdict) (result : Result Verdict (End PairFault)) → HasJudgement image_bytes graph_bytes verdict → result ≡ Ok verdict
         → (result ≡ Ok Accepted) ⊎ (result ≡ Err NoMemory)
     accepted verdict result has is = inl (is ∙ ap Ok (judged_well verdict has))
 
-    pub wants_memory : (end : PairEnd) (result : Result Verdict PairEnd) → IsPairEnd image_bytes graph_bytes end → result ≡ Err end
+    pub wants_memory : (end : End PairFault) (result : Result Verdict (End PairFault)) → IsPairEnd image_bytes graph_bytes end → result ≡ Err end
         → (result ≡ Ok Accepted) ⊎ (result ≡ Err NoMemory)
     wants_memory NoMemory result has is = inr is
     wants_memory (Fault (Image refusal)) result has is = let no : ⊥ = cc (has, no_fault) in absurd no

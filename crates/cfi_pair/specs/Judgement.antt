@@ -9,8 +9,9 @@ use Rattle.cfi_rules.specs.Rules.{IsWellFormed, IsRejected}
 use Rattle.cfi_pair.specs.Spelled.{Spell}
 use Rattle.cfi_pair.specs.declared.judging.Verdict.{Verdict}
 use Rattle.cfi_pair.specs.declared.judging.Verdict.TheVariants.{Accepted, Rejected}
-use Rattle.cfi_pair.specs.declared.opening.PairEnd.{PairEnd}
-use Rattle.cfi_pair.specs.declared.opening.PairEnd.TheVariants.{NoMemory}
+use Rattle.rv_word.specs.declared.end.End.{End}
+use Rattle.cfi_pair.specs.declared.opening.PairFault.{PairFault}
+use Rattle.rv_word.specs.declared.end.End.TheVariants.{NoMemory}
 
 -- accepted: the pair meets every rule, and is safe, where the graph has a list of system calls the program makes no others, and it is
 -- confined; rejected: by the first rule that fails
@@ -27,7 +28,7 @@ HasJudgement image_bytes graph_bytes verdict =
     (image : Contents) × (graph : GraphParts) × Spell image_bytes graph_bytes image graph × IsJudgement image graph verdict
 
 -- every pair that meets the rules is accepted, but for want of memory
-abbrev pub IsComplete : List ℕ → List ℕ → Result Verdict PairEnd → Type 0
+abbrev pub IsComplete : List ℕ → List ℕ → Result Verdict (End PairFault) → Type 0
 IsComplete image_bytes graph_bytes result =
     (image : Contents) (graph : GraphParts) → Spell image_bytes graph_bytes image graph → IsWellFormed (image_profile image) image graph
     → (result ≡ Ok Accepted) ⊎ (result ≡ Err NoMemory)

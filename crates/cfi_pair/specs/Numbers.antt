@@ -8,8 +8,9 @@ use Rattle.cfi_rules.specs.declared.reject.Rule as rules
 use Rattle.cfi_rules.specs.declared.reject.Rule.TheVariants as R
 use Rattle.cfi_pair.specs.declared.judging.Verdict.{Verdict}
 use Rattle.cfi_pair.specs.declared.judging.Verdict.TheVariants.{Accepted, Rejected}
-use Rattle.cfi_pair.specs.declared.opening.PairEnd.{PairEnd}
-use Rattle.cfi_pair.specs.declared.opening.PairEnd.TheVariants.{Fault, NoMemory}
+use Rattle.rv_word.specs.declared.end.End.{End}
+use Rattle.cfi_pair.specs.declared.opening.PairFault.{PairFault}
+use Rattle.rv_word.specs.declared.end.End.TheVariants.{Fault, NoMemory}
 use Rattle.cfi_pair.specs.declared.opening.PairFault.TheVariants.{Image, Graph}
 use Rattle.cfi_pair.specs.declared.verdict.RvcfiVerdict.{RvcfiVerdict}
 
@@ -34,7 +35,7 @@ rule_number R.Gate = 8
 rule_number R.Astray = 9
 rule_number R.End = 10
 
-abbrev pub verdict_of : Result Verdict PairEnd → RvcfiVerdict
+abbrev pub verdict_of : Result Verdict (End PairFault) → RvcfiVerdict
 verdict_of (Ok Accepted) = numbers 0 0 0 0
 verdict_of (Ok (Rejected (rejects.Length code graph))) = numbers 3 1 code graph
 verdict_of (Ok (Rejected (rejects.At rule address))) = numbers 3 (rule_number rule) address 0

@@ -4,9 +4,9 @@ ghost use Rattle.std.specs.Prelude.{IfOk, IfErr};
 ghost use Rattle.cfi_pair.specs.Judgement.{HasJudgement, IsComplete, IsJudgement};
 ghost use Rattle.cfi_pair.specs.Opening.{IsPairEnd};
 
-use crate::opening::{Pair, PairEnd, open_pair};
-use cfi_verify::{Reject, VerifyEnd, verify};
-use rv_word::NoMemory;
+use crate::opening::{Pair, PairFault, open_pair};
+use cfi_verify::{Reject, verify};
+use rv_word::{End, NoMemory};
 use std::alloc::Global;
 
 /// What the rules say of an image and its graph.
@@ -24,13 +24,13 @@ pub fn judge(alloc: Global, pair: &Pair<'_>) -> Result<Verdict, NoMemory>
 {
     match verify(alloc, &pair.image, &pair.graph) {
         Ok(_checked) => Ok(Verdict::Accepted),
-        Err(VerifyEnd::Reject(reject)) => Ok(Verdict::Rejected(reject)),
-        Err(VerifyEnd::NoMemory) => Err(NoMemory),
+        Err(End::Fault(reject)) => Ok(Verdict::Rejected(reject)),
+        Err(End::NoMemory) => Err(NoMemory),
     }
 }
 
 /// Reads two texts as an image and its graph, and judges them.
-pub fn verify_texts(alloc: Global, image: &[u8], graph: &[u8]) -> Result<Verdict, PairEnd>
+pub fn verify_texts(alloc: Global, image: &[u8], graph: &[u8]) -> Result<Verdict, End<PairFault>>
     ensures judged { IfOk result (HasJudgement image.now graph.now) }
     ensures refused { IfErr result (IsPairEnd image.now graph.now) }
     ensures complete { IsComplete image.now graph.now result }
@@ -41,6 +41,6 @@ pub fn verify_texts(alloc: Global, image: &[u8], graph: &[u8]) -> Result<Verdict
     };
     match judge(alloc, &pair) {
         Ok(verdict) => Ok(verdict),
-        Err(NoMemory) => Err(PairEnd::NoMemory),
+        Err(NoMemory) => Err(End::NoMemory),
     }
 }

@@ -2,7 +2,7 @@
 #![tactic(auto)]
 
 pub use judging::{Verdict, judge, verify_texts};
-pub use opening::{Pair, PairEnd, PairFault, open_pair};
+pub use opening::{Pair, PairFault, open_pair};
 pub use verdict::{RvcfiVerdict, reason_number, verdict_of};
 
 mod judging;

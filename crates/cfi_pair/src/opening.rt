@@ -6,9 +6,9 @@ ghost use Rattle.cfi_pair.specs.Spelled.{Spell};
 
 use cfi_graph::{Graph, read_graph};
 use elf_image::{ImageRefusal, read_image};
-use rv_word::Image;
+use rv_word::{End, Image};
 use std::alloc::Global;
-use text_lines::{Reason, TextEnd};
+use text_lines::{LineFault, Reason};
 
 /// An image and its graph.
 #[derive(Drop)]
@@ -26,30 +26,27 @@ pub enum PairFault {
     Graph(u64, Reason),
 }
 
-/// Why two texts are not read.
-#[derive(Clone, Copy)]
-pub enum PairEnd {
-    /// One of them is not what it should be.
-    Fault(PairFault),
-    /// There was no memory.
-    NoMemory,
-}
-
 /// The image and the graph that two texts spell.
-pub fn open_pair<'a>(alloc: Global, image: &'a [u8], graph: &[u8]) -> Result<Pair<'a>, PairEnd>
+pub fn open_pair<'a>(
+    alloc: Global,
+    image: &'a [u8],
+    graph: &[u8],
+) -> Result<Pair<'a>, End<PairFault>>
     ensures spelled { IfOk result (λ pair. Spell image.now graph.now pair.image pair.graph) }
     ensures read { IfOk result (λ pair. AreRead image.now graph.now pair.graph) }
     ensures refused { IfErr result (IsPairEnd image.now graph.now) }
 {
     let image = match read_image(image) {
         Ok(image) => image,
-        Err(refusal) => return Err(PairEnd::Fault(PairFault::Image(refusal))),
+        Err(refusal) => return Err(End::Fault(PairFault::Image(refusal))),
     };
     // Computes nothing: it tells the proof the sizes of the image.
     let _code = image.code();
     match read_graph(alloc, graph) {
         Ok(graph) => Ok(Pair { image, graph }),
-        Err(TextEnd::Line(line, reason)) => Err(PairEnd::Fault(PairFault::Graph(line, reason))),
-        Err(TextEnd::NoMemory) => Err(PairEnd::NoMemory),
+        Err(End::Fault(LineFault(line, reason))) => {
+            Err(End::Fault(PairFault::Graph(line, reason)))
+        }
+        Err(End::NoMemory) => Err(End::NoMemory),
     }
 }

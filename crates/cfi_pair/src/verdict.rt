@@ -4,9 +4,10 @@ ghost use Rattle.std.specs.Prelude.{◌≡◌};
 ghost use Rattle.cfi_pair.specs.Numbers.{numbers, reason_number, rule_number, verdict_of};
 
 use crate::judging::Verdict;
-use crate::opening::{PairEnd, PairFault};
+use crate::opening::PairFault;
 use cfi_rules::{Reject, Rule};
 use elf_image::ImageRefusal;
+use rv_word::End;
 use text_lines::Reason;
 
 /// What is said of two texts, in numbers.
@@ -64,7 +65,7 @@ fn rule_number(rule: Rule) -> u32
 }
 
 /// The numbers of what is said.
-pub fn verdict_of(said: Result<Verdict, PairEnd>) -> RvcfiVerdict
+pub fn verdict_of(said: Result<Verdict, End<PairFault>>) -> RvcfiVerdict
     ensures { result ≡ verdict_of said }
 {
     match said {
@@ -75,14 +76,14 @@ pub fn verdict_of(said: Result<Verdict, PairEnd>) -> RvcfiVerdict
         Ok(Verdict::Rejected(Reject::At(rule, address))) => {
             numbers(3, rule_number(rule), address, 0)
         }
-        Err(PairEnd::Fault(PairFault::Image(ImageRefusal::Short(len)))) => numbers(1, 1, len, 0),
-        Err(PairEnd::Fault(PairFault::Image(ImageRefusal::Byte(offset)))) => {
+        Err(End::Fault(PairFault::Image(ImageRefusal::Short(len)))) => numbers(1, 1, len, 0),
+        Err(End::Fault(PairFault::Image(ImageRefusal::Byte(offset)))) => {
             numbers(1, 2, offset, 0)
         }
-        Err(PairEnd::Fault(PairFault::Image(ImageRefusal::Long(len)))) => numbers(1, 3, len, 0),
-        Err(PairEnd::Fault(PairFault::Graph(line, reason))) => {
+        Err(End::Fault(PairFault::Image(ImageRefusal::Long(len)))) => numbers(1, 3, len, 0),
+        Err(End::Fault(PairFault::Graph(line, reason))) => {
             numbers(2, reason_number(reason), line, 0)
         }
-        Err(PairEnd::NoMemory) => numbers(4, 0, 0, 0),
+        Err(End::NoMemory) => numbers(4, 0, 0, 0),
     }
 }

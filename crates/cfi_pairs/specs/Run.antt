@@ -1,6 +1,7 @@
 -- `run IMAGE GRAPH SCRIPT INPUT STEPS`: a run of an accepted image. The word `none` for SCRIPT or INPUT
 -- means no file.
 use Rattle.std.specs.Prelude.{◌≡◌, ℕ, List, [], ◌∷◌, ◌++◌, codes, Option, Some, None, option_map}
+use Rattle.rv_word.specs.declared.version.ImageVersion.{ImageVersion}
 use Rattle.cfi_rules.specs.RejectText.{reject_text}
 use Rattle.cfi_step.specs.declared.report.RunReport.{RunReport}
 use Rattle.tool_common.specs.Lines.{with_newline}
@@ -69,5 +70,5 @@ run_status (Ran version report) = end_status report.end
 -- that of its end
 abbrev pub IsRan : Content → RunWords → ℕ → List ℕ → Type 0
 IsRan content asks status text =
-    (version : ℕ) × (report : RunReport) × ExplainsRun content asks (Ran version report)
+    (version : ImageVersion) × (report : RunReport) × ExplainsRun content asks (Ran version report)
     × (status ≡ end_status report.end) × (text ≡ report_text version report)

@@ -6,11 +6,11 @@ ghost use Rattle.cfi_pairs.specs.Run.{ExplainsRun, IsRunOf, run_asked, run_names
 
 use crate::refused::refusal_of;
 use crate::verify::Verdict;
-use cfi_launch::{LaunchEnd, Launched, launch};
+use cfi_launch::{Launched, launch};
 use cfi_report::{end_status, report_text};
 use cfi_step::RunReport;
 use cfi_verify::Reject;
-use rv_word::NoMemory;
+use rv_word::{End, ImageVersion, NoMemory};
 use std::alloc::Global;
 use tool_common::{Refusal, Stop, file_word, line, read_all, status, steps, text_named};
 use tool_io::Files;
@@ -51,7 +51,7 @@ pub enum RunOutcome {
     /// The image breaks a rule: the first that fails.
     Rejected(Reject),
     /// The version of the image, and the report.
-    Ran(u8, RunReport),
+    Ran(ImageVersion, RunReport),
 }
 
 impl RunOutcome {
@@ -91,8 +91,8 @@ fn run_bytes(
     match launch(alloc, image, graph, script, input, limit) {
         Ok(Launched::Rejected(reject)) => Ok(RunOutcome::Rejected(reject)),
         Ok(Launched::Ran(version, report)) => Ok(RunOutcome::Ran(version, report)),
-        Err(LaunchEnd::Fault(fault)) => Ok(RunOutcome::Refused(refusal_of(fault))),
-        Err(LaunchEnd::NoMemory) => Err(NoMemory),
+        Err(End::Fault(fault)) => Ok(RunOutcome::Refused(refusal_of(fault))),
+        Err(End::NoMemory) => Err(NoMemory),
     }
 }
 

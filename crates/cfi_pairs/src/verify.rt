@@ -7,9 +7,9 @@ ghost use Rattle.cfi_pair.specs.Spelled.{Spell};
 ghost use Rattle.cfi_pairs.specs.Verify.{ExplainsVerdict, IsJudgement, IsVerdictOf, verdict_status, verify_asked, verify_names};
 
 use crate::refused::pair_refusal;
-use cfi_pair::{Pair, PairEnd, Verdict as Judgement, judge, open_pair};
+use cfi_pair::{Pair, Verdict as Judgement, judge, open_pair};
 use cfi_verify::Reject;
-use rv_word::NoMemory;
+use rv_word::{End, NoMemory};
 use std::alloc::Global;
 use std::fmt;
 use tool_common::{Refusal, Stop, read_all, status};
@@ -66,7 +66,7 @@ fn judged(alloc: Global, pair: &Pair<'_>) -> Result<Verdict, NoMemory>
 }
 
 /// An image and its graph, whose text is let go once it is read.
-fn opened<'a>(alloc: Global, image: &'a [u8], graph: Vec<u8>) -> Result<Pair<'a>, PairEnd>
+fn opened<'a>(alloc: Global, image: &'a [u8], graph: Vec<u8>) -> Result<Pair<'a>, End<PairFault>>
     ensures spelled { IfOk result (λ pair. Spell image.now graph.items pair.image pair.graph) }
     ensures refused { IfErr result (IsPairEnd image.now graph.items) }
 {
@@ -74,12 +74,12 @@ fn opened<'a>(alloc: Global, image: &'a [u8], graph: Vec<u8>) -> Result<Pair<'a>
 }
 
 /// The verdict on texts that are not read.
-fn unread(end: PairEnd) -> Result<Verdict, NoMemory>
+fn unread(end: End<PairFault>) -> Result<Verdict, NoMemory>
     ensures { (image graph : List ℕ) → IsPairEnd image graph end → IfOk result (IsVerdictOf image graph) }
 {
     match end {
-        PairEnd::Fault(fault) => Ok(Verdict::Refused(pair_refusal(fault))),
-        PairEnd::NoMemory => Err(NoMemory),
+        End::Fault(fault) => Ok(Verdict::Refused(pair_refusal(fault))),
+        End::NoMemory => Err(NoMemory),
     }
 }
 

@@ -2,14 +2,15 @@
 use Rattle.std.proofs.Common.{◌≡◌, ℕ, ◌+◌, ◌<◌, ◌≤◌, ◌==◌, true, false, List, [], ◌∷◌, ◌++◌, length, get_or, drop, Option, Some, None, Result, Ok, Err, refl, sym, ◌∙◌, ap, append_assoc, arith}
 use Rattle.std.proofs.lemmas.List.{append-nil, drop_all, drop_more}
 use Rattle.std.specs.Option.{option_map, option_or}
-use Rattle.text_lines.specs.Answers.{Answers, UnlessNoMemory}
+use Rattle.rv_word.specs.declared.end.End.{End}
+use Rattle.rv_word.specs.declared.end.End.TheVariants.{Fault, NoMemory}
+use Rattle.text_lines.specs.Answers.{Answers, UnlessNoMemory, line_fault}
 use Rattle.text_lines.specs.Reading.{Reading, if_right, one_named, read}
-use Rattle.text_lines.specs.declared.end.TextEnd.{TextEnd}
-use Rattle.text_lines.specs.declared.end.TextEnd.TheVariants.{Line, NoMemory}
 use Rattle.cfi_graph.specs.Calls.{calls_of, judged_calls, line_after}
 use Rattle.text_lines.specs.Lines.{lines_of, words_of}
 use Rattle.text_lines.specs.declared.reason.Reason.TheVariants.{Form}
 use Rattle.text_lines.proofs.Steps.{some_line}
+use Rattle.text_lines.specs.declared.fault.LineFault.{LineFault}
 use Rattle.cfi_policy.specs.declared.policy.PlaceName.{PlaceName}
 use Rattle.cfi_policy.specs.declared.policy.PolicyLine.{PolicyLine}
 use Rattle.cfi_policy.specs.Policy.{PolicyParts, calls_told, head_at, last_plus, listed_head, place_of, places_of, policy_begun, policy_head, policy_names, policy_read, policy_rules}
@@ -68,9 +69,9 @@ no_place front h = ap Some (sym (append-nil front)) ∙ h
 
 module _ (text : List ℕ) where
   -- a head that is refused
-  pub no_head : (end : TextEnd) → policy_head text ≡ Err end → UnlessNoMemory {A = Unit {0}} (Err end) (◌≡◌ {A = PolicyParts} (record { calls = None; lines = [] }) (policy_begun text))
+  pub no_head : (end : End LineFault) → policy_head text ≡ Err end → UnlessNoMemory {A = Unit {0}} (Err end) (◌≡◌ {A = PolicyParts} (record { calls = None; lines = [] }) (policy_begun text))
   unfolding policy_read
-  no_head (Line n reason) e = rw e refl
+  no_head (Fault fault) e = rw e refl
   no_head NoMemory e = tt
 
   module _ (calls : Option (List ℕ)) (parts : List (List ℕ)) (first : ℕ) (head : policy_head text ≡ Ok (record { calls = calls; lines = parts })) (first_is : first ≡ line_after 2 calls) where
@@ -78,7 +79,7 @@ module _ (text : List ℕ) where
     unfolding policy_read
     opens = rw (head, first_is) refl
 
-    pub begun_is : (items : List PolicyLine) (end : Result (Unit {0}) TextEnd) → UnlessNoMemory end (items ≡ (read policy_rules tt first parts).items) → UnlessNoMemory end (◌≡◌ {A = PolicyParts} (record { calls = calls; lines = items }) (policy_begun text))
+    pub begun_is : (items : List PolicyLine) (end : Result (Unit {0}) (End LineFault)) → UnlessNoMemory end (items ≡ (read policy_rules tt first parts).items) → UnlessNoMemory end (◌≡◌ {A = PolicyParts} (record { calls = calls; lines = items }) (policy_begun text))
     begun_is items end is = elsewhere end is
       where
         same : items ≡ (read policy_rules tt first parts).items → ◌≡◌ {A = PolicyParts} (record { calls = calls; lines = items }) (policy_begun text)
@@ -87,21 +88,21 @@ module _ (text : List ℕ) where
             let q : items ≡ (policy_read text).items = e ∙ ap (λ (r : Reading PolicyLine). r.items) (sym opens) in
             λ i. record { calls = p i; lines = q i }
 
-        elsewhere : (end : Result (Unit {0}) TextEnd) → UnlessNoMemory end (items ≡ (read policy_rules tt first parts).items) → UnlessNoMemory end (◌≡◌ {A = PolicyParts} (record { calls = calls; lines = items }) (policy_begun text))
+        elsewhere : (end : Result (Unit {0}) (End LineFault)) → UnlessNoMemory end (items ≡ (read policy_rules tt first parts).items) → UnlessNoMemory end (◌≡◌ {A = PolicyParts} (record { calls = calls; lines = items }) (policy_begun text))
         elsewhere (Ok x) e = same e
-        elsewhere (Err (Line n reason)) e = same e
+        elsewhere (Err (Fault fault)) e = same e
         elsewhere (Err NoMemory) e = tt
 
     pub calls_are : calls ≡ (policy_begun text).calls
     calls_are = sym (ap calls_told head)
 
 -- the second line of version 2
-pub head_alone : {parts : List (List ℕ)} {line : List ℕ} → parts ≡ line ∷ [] → listed_head parts ≡ Err (Line 2 Form)
+pub head_alone : {parts : List (List ℕ)} {line : List ℕ} → parts ≡ line ∷ [] → listed_head parts ≡ Err (line_fault 2 Form)
 unfolding listed_head
 head_alone p = rw p refl
 
-module _ (rest : List ℕ) (answer : Result (List ℕ) TextEnd) {parts : List (List ℕ)} {line : List ℕ} (p : parts ≡ line ∷ lines_of rest) (is : answer ≡ judged_calls 2 (calls_of (words_of line))) where
-  pub head_refused : (end : TextEnd) → answer ≡ Err end → listed_head parts ≡ Err end
+module _ (rest : List ℕ) (answer : Result (List ℕ) (End LineFault)) {parts : List (List ℕ)} {line : List ℕ} (p : parts ≡ line ∷ lines_of rest) (is : answer ≡ judged_calls 2 (calls_of (words_of line))) where
+  pub head_refused : (end : End LineFault) → answer ≡ Err end → listed_head parts ≡ Err end
   unfolding listed_head
   head_refused end e = some_line rest (λ part others q. rw (p, q, sym is ∙ e) refl)
 
@@ -110,7 +111,7 @@ module _ (rest : List ℕ) (answer : Result (List ℕ) TextEnd) {parts : List (L
   head_right calls e = some_line rest (λ part others q. rw (p, q, sym is ∙ e) refl)
 
 -- the first line of either version
-pub wrong_name : (text : List ℕ) (end : TextEnd) → one_named policy_names (lines_of text) ≡ Err end → policy_head text ≡ Err end
+pub wrong_name : (text : List ℕ) (end : End LineFault) → one_named policy_names (lines_of text) ≡ Err end → policy_head text ≡ Err end
 unfolding policy_head
 wrong_name text end e = rw e refl
 
@@ -124,13 +125,13 @@ first_version which rest e = rw e refl
 pub second_version : (which : ℕ) (rest : List (List ℕ)) → (which == 0) ≡ false → head_at which rest ≡ listed_head rest
 second_version which rest e = rw e refl
 
-pub no_calls_told : (text : List ℕ) (end : TextEnd) → policy_head text ≡ Err end → None ≡ (policy_begun text).calls
+pub no_calls_told : (text : List ℕ) (end : End LineFault) → policy_head text ≡ Err end → None ≡ (policy_begun text).calls
 no_calls_told text end e = sym (ap calls_told e)
 
-pub part_whole : (reading : Reading PolicyLine) (end : Result (Unit {0}) TextEnd) (policy begun : PolicyParts) (done : Unit {0}) → Answers end reading.end → UnlessNoMemory end (policy ≡ begun) → end ≡ Ok done → if_right reading.end (λ (u : Unit {0}). Ok begun) ≡ Ok policy
+pub part_whole : (reading : Reading PolicyLine) (end : Result (Unit {0}) (End LineFault)) (policy begun : PolicyParts) (done : Unit {0}) → Answers end reading.end → UnlessNoMemory end (policy ≡ begun) → end ≡ Ok done → if_right reading.end (λ (u : Unit {0}). Ok begun) ≡ Ok policy
 part_whole reading (Ok x) policy begun done a l e = rw (a, l) refl
 part_whole reading (Err fault) policy begun done a l e = absurd (cc)
 
-pub part_end : (reading : Reading PolicyLine) (end : Result (Unit {0}) TextEnd) (begun : PolicyParts) (fault : TextEnd) → Answers end reading.end → end ≡ Err fault → Answers {A = PolicyParts} (Err fault) (if_right reading.end (λ (u : Unit {0}). Ok begun))
-part_end reading end begun (Line n reason) a e = rw (rw e at a) refl
+pub part_end : (reading : Reading PolicyLine) (end : Result (Unit {0}) (End LineFault)) (begun : PolicyParts) (fault : End LineFault) → Answers end reading.end → end ≡ Err fault → Answers {A = PolicyParts} (Err fault) (if_right reading.end (λ (u : Unit {0}). Ok begun))
+part_end reading end begun (Fault fault) a e = rw (rw e at a) refl
 part_end reading end begun NoMemory a e = tt

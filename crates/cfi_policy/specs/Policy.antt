@@ -3,13 +3,14 @@
 use Rattle.std.specs.Prelude.{ℕ, ◌+◌, ◌==◌, nat_lt, true, if◌then◌else◌, List, [], ◌∷◌, codes, drop, take, Option, Some, None, option_map, option_and_then, Result, Ok, Err}
 use Rattle.std.specs.Option.{option_or}
 use Rattle.std.specs.Str.{bytes_eq}
+use Rattle.rv_word.specs.declared.end.End.{End}
 use Rattle.text_lines.specs.declared.hexadecimal.Case.TheVariants.{Either}
 use Rattle.text_lines.specs.Hex.{short_hex}
 use Rattle.text_lines.specs.Lines.{lines_of, words_of}
 use Rattle.text_lines.specs.Reading.{LineRules, Reading, after_heading, if_right, one_named, read}
 use Rattle.text_lines.specs.declared.reason.Reason.TheVariants.{Form}
-use Rattle.text_lines.specs.declared.end.TextEnd.{TextEnd}
-use Rattle.text_lines.specs.declared.end.TextEnd.TheVariants.{Line}
+use Rattle.text_lines.specs.declared.fault.LineFault.{LineFault}
+use Rattle.text_lines.specs.Answers.{line_fault}
 use Rattle.cfi_graph.specs.Calls.{Listed, calls_of, judged_calls, line_after}
 use Rattle.cfi_policy.specs.declared.policy.PlaceName.{PlaceName}
 use Rattle.cfi_policy.specs.declared.policy.PolicyLine.{PolicyLine}
@@ -73,23 +74,23 @@ abbrev pub policy_names : List (List ℕ)
 policy_names = codes "rvcfi-policy 1" ∷ codes "rvcfi-policy 2" ∷ []
 
 -- the second line of version 2 is the list
-unfoldable pub listed_head : List (List ℕ) → Result Listed TextEnd
+unfoldable pub listed_head : List (List ℕ) → Result Listed (End LineFault)
 listed_head (line ∷ next ∷ rest) =
     if_right (judged_calls 2 (calls_of (words_of line))) (λ calls. Ok (record { calls = Some calls; lines = next ∷ rest }))
-listed_head lines = Err (Line 2 Form)
+listed_head lines = Err (line_fault 2 Form)
 
 -- what stands before the lines, by the place of the first line among the names
-abbrev pub head_at : ℕ → List (List ℕ) → Result Listed TextEnd
+abbrev pub head_at : ℕ → List (List ℕ) → Result Listed (End LineFault)
 head_at which lines = if which == 0 then Ok (record { calls = None; lines = lines }) else listed_head lines
 
-unfoldable pub policy_head : List ℕ → Result Listed TextEnd
+unfoldable pub policy_head : List ℕ → Result Listed (End LineFault)
 policy_head text = if_right (one_named policy_names (lines_of text)) (λ first. head_at first.0 first.1)
 
 -- the lines before the first fault, and the fault, if there is one
 unfoldable pub policy_read : List ℕ → Reading PolicyLine
 policy_read text = after_heading (policy_head text) (λ head. read policy_rules tt (first_line head.calls) head.lines)
 
-abbrev pub calls_told : Result Listed TextEnd → Option (List ℕ)
+abbrev pub calls_told : Result Listed (End LineFault) → Option (List ℕ)
 calls_told (Ok head) = head.calls
 calls_told (Err fault) = None
 
@@ -98,5 +99,5 @@ abbrev pub policy_begun : List ℕ → PolicyParts
 policy_begun text = record { calls = calls_told (policy_head text); lines = (policy_read text).items }
 
 -- what a text is read as
-unfoldable pub policy_of : List ℕ → Result PolicyParts TextEnd
+unfoldable pub policy_of : List ℕ → Result PolicyParts (End LineFault)
 policy_of text = if_right (policy_read text).end (λ done. Ok (policy_begun text))

@@ -19,10 +19,10 @@ ghost use Rattle.cfi_policy.specs.Policy.{
 
 use crate::policy::{PlaceName, PlaceNames, Policy, PolicyLine};
 use cfi_graph::{judged_calls, line_after};
-use rv_word::{Bytes, NoMemory, Numbers};
+use rv_word::{Bytes, End, NoMemory, Numbers};
 use std::alloc::Global;
 use text_lines::{
-    Case, LineForm, Reason, TextEnd, after_one_of, cut, is_word, read_lines, short_hex_of,
+    Case, LineFault, LineForm, Reason, after_one_of, cut, is_word, read_lines, short_hex_of,
 };
 
 /// Where the last `+` of a word stands.
@@ -152,21 +152,21 @@ impl LineForm for PolicyForm {
 const NAMES: [&[u8]; 2] = [b"rvcfi-policy 1", b"rvcfi-policy 2"];
 
 /// The list of system calls that is the second line, and what stands after it.
-fn listed_head(text: &[u8]) -> Result<(Option<Numbers>, &[u8]), TextEnd>
+fn listed_head(text: &[u8]) -> Result<(Option<Numbers>, &[u8]), End<LineFault>>
     ensures { MatchResult result
         (λ told. listed_head (lines_of text.now) ≡ Ok (record { calls = told.0; lines = lines_of told.1.now }))
         (λ end. listed_head (lines_of text.now) ≡ Err end) }
 {
     let (line, rest) = cut(text, b'\n');
     let Some(rest) = rest else {
-        return Err(TextEnd::Line(2, Reason::Form));
+        return Err(End::Fault(LineFault(2, Reason::Form)));
     };
     let calls = judged_calls(2, line)?;
     Ok((Some(calls), rest))
 }
 
 /// The list of system calls of a policy that has one, and what stands before its lines.
-fn policy_head(text: &[u8]) -> Result<(Option<Numbers>, &[u8]), TextEnd>
+fn policy_head(text: &[u8]) -> Result<(Option<Numbers>, &[u8]), End<LineFault>>
     ensures { MatchResult result
         (λ told. policy_head text.now ≡ Ok (record { calls = told.0; lines = lines_of told.1.now }))
         (λ end. policy_head text.now ≡ Err end) }
@@ -180,7 +180,7 @@ fn policy_head(text: &[u8]) -> Result<(Option<Numbers>, &[u8]), TextEnd>
 
 /// Reads the text of a policy up to its first fault: the lines before that, and the fault, or that there
 /// is none. The lines of a text count from 1.
-pub fn read_policy_part(alloc: Global, text: &[u8]) -> (Policy, Result<(), TextEnd>)
+pub fn read_policy_part(alloc: Global, text: &[u8]) -> (Policy, Result<(), End<LineFault>>)
     ensures exact { Answers result.1 (policy_read text.now).end }
     ensures lines { UnlessNoMemory result.1 (result.0 ≡ policy_begun text.now) }
 
@@ -201,7 +201,7 @@ pub fn read_policy_part(alloc: Global, text: &[u8]) -> (Policy, Result<(), TextE
 }
 
 /// Reads the text of a policy, of which it keeps no copy. The lines of a text count from 1.
-pub fn read_policy(alloc: Global, text: &[u8]) -> Result<Policy, TextEnd>
+pub fn read_policy(alloc: Global, text: &[u8]) -> Result<Policy, End<LineFault>>
     // The right answer, but for want of memory.
     ensures { Answers result (policy_of text.now) }
 {

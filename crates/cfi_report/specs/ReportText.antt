@@ -1,9 +1,11 @@
 -- The text of a run's report, and its status. Addresses have eight hexadecimal digits, the address of a
 -- load that failed has sixteen; counts are decimal. The report of an image for several harts tells of which it
 -- speaks.
-use Rattle.std.specs.Prelude.{ℕ, ◌+◌, ◌==◌, List, [], ◌∷◌, ◌++◌, codes, length, if◌then◌else◌}
+use Rattle.std.specs.Prelude.{ℕ, ◌+◌, List, [], ◌∷◌, ◌++◌, codes, length}
 use Rattle.std.specs.Fmt.{decimal}
 use Rattle.std.specs.List.{flat_map}
+use Rattle.rv_word.specs.declared.version.ImageVersion.{ImageVersion}
+use Rattle.rv_word.specs.declared.version.ImageVersion.TheVariants.{OneHart, EightHarts}
 use Rattle.cfi_step.specs.declared.report.Handler.{Handler}
 use Rattle.cfi_step.specs.declared.report.Handler.TheVariants.{BadTarget, BadReturn, Deep}
 use Rattle.cfi_step.specs.declared.report.RunEnd.{RunEnd}
@@ -53,18 +55,19 @@ stop_text hart other = codes "hart " ++ decimal hart ++ codes " " ++ end_text ot
 abbrev pub report_head : RunReport → List ℕ
 report_head report = codes "output " ++ decimal (length report.output) ++ codes "\n"
 
-abbrev pub stop_lines : ℕ → RunReport → List ℕ
-stop_lines version report =
-    if version == 1 then codes "\nstop " ++ end_text report.end else
+abbrev pub stop_lines : ImageVersion → RunReport → List ℕ
+stop_lines OneHart report = codes "\nstop " ++ end_text report.end
+stop_lines EightHarts report =
     codes "\nharts " ++ decimal (length report.walks) ++ codes "\nstop " ++ stop_text report.hart report.end
 
 abbrev pub steps_line : RunReport → List ℕ
 steps_line report = codes "\nsteps " ++ decimal report.steps ++ codes "\n"
 
-abbrev pub walk_lines : ℕ → List HartWalk → List ℕ
-walk_lines version walks = if version == 1 then walks_text walks else hart_walks_text 0 walks
+abbrev pub walk_lines : ImageVersion → List HartWalk → List ℕ
+walk_lines OneHart walks = walks_text walks
+walk_lines EightHarts walks = hart_walks_text 0 walks
 
-abbrev pub report_text : ℕ → RunReport → List ℕ
+abbrev pub report_text : ImageVersion → RunReport → List ℕ
 report_text version report =
     report_head report ++ report.output ++ stop_lines version report ++ steps_line report ++ walk_lines version report.walks
 

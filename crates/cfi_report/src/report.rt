@@ -5,7 +5,7 @@ ghost use Rattle.text_lines.specs.Hex.{hex_text};
 ghost use Rattle.cfi_report.specs.ReportText.{end_status, handler_name, hart_walk_text, hart_walks_text, report_head, report_text, steps_line, stop_lines, trail_text, walk_lines, walk_text, walks_text};
 
 use cfi_step::{Handler, HartWalk, RunEnd, RunReport};
-use rv_word::NoMemory;
+use rv_word::{ImageVersion, NoMemory};
 use std::alloc::Global;
 use std::fmt;
 use text_lines::{Address, LongAddress};
@@ -126,15 +126,14 @@ fn push_stop_of_several(
 fn push_stop(
     alloc: Global,
     text: &mut Vec<u8>,
-    version: u8,
+    version: ImageVersion,
     report: &RunReport,
 ) -> Result<(), NoMemory>
     ensures { OnOk result (text.new.items ≡ text.old.items ++ stop_lines version report.now) }
 {
-    if version == 1 {
-        push_stop_of_one(alloc, text, report)
-    } else {
-        push_stop_of_several(alloc, text, report)
+    match version {
+        ImageVersion::OneHart => push_stop_of_one(alloc, text, report),
+        ImageVersion::EightHarts => push_stop_of_several(alloc, text, report),
     }
 }
 
@@ -216,20 +215,19 @@ fn push_hart_walks(alloc: Global, text: &mut Vec<u8>, walks: &[HartWalk]) -> Res
 fn push_walks(
     alloc: Global,
     text: &mut Vec<u8>,
-    version: u8,
+    version: ImageVersion,
     walks: &[HartWalk],
 ) -> Result<(), NoMemory>
     ensures { OnOk result (text.new.items ≡ text.old.items ++ walk_lines version walks.now) }
 {
-    if version == 1 {
-        push_plain_walks(alloc, text, walks)
-    } else {
-        push_hart_walks(alloc, text, walks)
+    match version {
+        ImageVersion::OneHart => push_plain_walks(alloc, text, walks),
+        ImageVersion::EightHarts => push_hart_walks(alloc, text, walks),
     }
 }
 
 /// The text of a report of a run of an image of a version.
-pub fn report_text(alloc: Global, version: u8, report: &RunReport) -> Result<Vec<u8>, NoMemory>
+pub fn report_text(alloc: Global, version: ImageVersion, report: &RunReport) -> Result<Vec<u8>, NoMemory>
     ensures { IfOk result (λ text. text.items ≡ report_text version report.now) }
 {
     let mut text = Vec::new(alloc);

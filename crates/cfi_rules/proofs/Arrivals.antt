@@ -26,15 +26,15 @@ use Rattle.cfi_unit.specs.declared.target_word.TargetWord.TheVariants as T
 use Rattle.cfi_unit.specs.declared.place.Place.{Place}
 use Rattle.cfi_unit.specs.declared.place.Place.TheVariants.{Handler as handler, Opening as opening, Body as body}
 use Rattle.cfi_unit.specs.Prologue.{OPENING}
-use Rattle.cfi_unit.specs.Leads.{destination}
+use Rattle.cfi_unit.specs.Leads as L
 use Rattle.cfi_unit.specs.Recognise.{read_each, recognised}
 use Rattle.cfi_unit.specs.Shadow.{slot, Holds}
-use Rattle.cfi_unit.specs.UnitWords.{BAD_TARGET, DEEP, words_of}
-use Rattle.cfi_rules.specs.Along.{Walk, Arrives, JumpChooses, Chooses, ShadowStands, OnRan, IsSafe}
+use Rattle.cfi_unit.specs.UnitWords.{BAD_TARGET, words_of}
+use Rattle.cfi_rules.specs.Along.{Walk, Arrives, ShadowStands, OnRan, IsSafe}
 use Rattle.cfi_rules.specs.Lines.{class_with, targets_for}
 use Rattle.cfi_rules.specs.Split.{code_words, starts, is_start, unit_at, place_at}
 use Rattle.cfi_rules.specs.Unsafe.{astray_call, astray_call_graph, halted_jump, halted_jump_graph, WrongTransfersAreUnsafe, high_pointer, lost_site, opening_graph, WrongShadowsAreUnsafe, one_pointer, one_pointer_graph, SharedPartsAreUnsafe, calling_opening, storing_opening, WrongDeedsAreUnsafe}
-use Rattle.cfi_rules.specs.Walk.{Goes}
+use Rattle.cfi_rules.specs.Walk.{by_class}
 use Rattle.cfi_rules.proofs.OneHart.{AloneAlong, AreDataChanges, one_may_run, safe_along_alone}
 use Rattle.cfi_rules.proofs.Unsafe.{calm_is_data}
 
@@ -96,7 +96,7 @@ module _ (p : Profile) (part : ℕ) (image : Contents) (graph : GraphParts) wher
     w : Walk
     at : w.at ≡ h.pc
     regs : w.regs ≡ h.regs
-    arrives : Arrives p (code_words image.code) graph.lines before h.pc w.pending
+    arrives : Arrives p (place_at p (code_words image.code)) graph.lines before h.pc w.pending
     shadow : ShadowStands part place h.pc h s.memory w.pending
     on : OnRan (step p h s).turn (Along (Some w) (step p h s).hart (step p h s).shared rest) (IsCodeOf (loaded image) (step p h s).shared.memory)
 
@@ -148,20 +148,13 @@ module _ (p : Profile) (part : ℕ) (image : Contents) (graph : GraphParts) wher
         adds = subst (λ (q : Place). Adds q there.0.at now.hart now.shared.events (step p now.hart now.shared).shared.events) here begun.6;
       }
 
-  -- the step of the walk that arrived
-  record Went (w : Walk) (from : Place) (v : ℕ) (newer : List ℕ) : Type 0 where
-    goes : Goes p graph.lines from w.at w.pending v newer
-    chooses : Chooses graph.lines from w v
-
+  -- where the walk that arrived was led from
   went : (w : Walk) (from next : Place) (h : Hart) (s : Shared) (rest : List (List ByteChange)) → place_at p (code_words image.code) w.at ≡ Some from →
-      (a : Arrival (Some w) next h s rest) → Went w from h.pc a.w.pending
+      (a : Arrival (Some w) next h s rest) → L.Leads p (by_class graph.lines) from w.at w.pending w.regs a.w.pending h.pc
   went w from next h s rest is a =
-      let (place, there, goes, chooses) = a.arrives in
+      let (place, there, leads) = a.arrives in
       let same : place ≡ from = cc in
-      record {
-        goes = subst (λ (q : Place). Goes p graph.lines q w.at w.pending h.pc a.w.pending) same goes;
-        chooses = subst (λ (q : Place). Chooses graph.lines q w h.pc) same chooses;
-      }
+      subst (λ (q : Place). L.Leads p (by_class graph.lines) q w.at w.pending w.regs a.w.pending h.pc) same leads
 
 -- the first thing that the opening of a lone hart calls: its site alone is pending
 module _ (image : Contents) (graph : GraphParts) where
@@ -185,8 +178,8 @@ module _ (image : Contents) (graph : GraphParts) where
       record {
         opened = a.w;
         arrived = b;
-        pending = elim (went version_1 SHADOW_START image graph a.w (opening entry) unit _ _ rest at b).goes [
-          | inl called ↦ called.2 ∙ ap (λ ps. version_1.closing ∷ ps) none
+        pending = elim (went version_1 SHADOW_START image graph a.w (opening entry) unit _ _ rest at b) [
+          | inl called ↦ called.1 ∙ ap (λ ps. version_1.closing ∷ ps) none
           | inr full ↦ let deep = full.0 in let few = ap length none in absurd (omega arith)
         ];
       }
@@ -218,10 +211,12 @@ astray_unsafe safe =
     let f = first astray_call astray_call_graph 0x40000040 call (calm 16 ++ ([] ∷ [])) refl (record { runs = refl; still = refl; there = refl }) (calm_is_data 17) safe in
     let a = next_arrival version_1 SHADOW_START astray_call astray_call_graph (Some f.opened) call (body (V.Gate 1)) 16 _ _ [] f.arrived (record { runs = refl; still = refl; there = refl }) in
     let at : place_at version_1 (code_words astray_call.code) f.arrived.w.at ≡ Some call = ap (place_at version_1 (code_words astray_call.code)) f.arrived.at in
-    elim (went version_1 SHADOW_START astray_call astray_call_graph f.arrived.w call (body (V.Gate 1)) _ _ [] at a).goes [
-      | inl halted ↦ let v : 0x40000090 ≡ BAD_TARGET = halted.0 in absurd (omega arith)
-      | inr (inl called) ↦ false≢true called.1
-      | inr (inr deep) ↦ let v : 0x40000090 ≡ DEEP = deep.2.0 in absurd (omega arith)
+    let there : L.Leads version_1 (by_class astray_call_graph.lines) call f.arrived.w.at f.arrived.w.pending (after_calm version_1 10 (start_hart 0) (start_shared astray_call [])).hart.regs a.w.pending 0x40000090 =
+    subst (λ (r : Registers). L.Leads version_1 (by_class astray_call_graph.lines) call f.arrived.w.at f.arrived.w.pending r a.w.pending 0x40000090) f.arrived.regs
+    (went version_1 SHADOW_START astray_call astray_call_graph f.arrived.w call (body (V.Gate 1)) _ _ [] at a) in
+    elim there [
+      | inl called ↦ false≢true called.0
+      | inr halted ↦ let v : 0x40000090 ≡ BAD_TARGET = halted.1.1 in absurd (omega arith)
     ]
 
 halted_unsafe : IsSafe version_1 halted_jump halted_jump_graph → ⊥
@@ -231,12 +226,11 @@ halted_unsafe safe =
     let f = first halted_jump halted_jump_graph 0x40000040 jump (calm 10 ++ ([] ∷ [])) refl (record { runs = refl; still = refl; there = refl }) (calm_is_data 11) safe in
     let a = next_arrival version_1 SHADOW_START halted_jump halted_jump_graph (Some f.opened) jump handler 10 _ _ [] f.arrived (record { runs = refl; still = refl; there = refl }) in
     let at : place_at version_1 (code_words halted_jump.code) f.arrived.w.at ≡ Some jump = ap (place_at version_1 (code_words halted_jump.code)) f.arrived.at in
-    let chooses : JumpChooses halted_jump_graph.lines T.First 1 (destination f.arrived.w.regs 1 60) BAD_TARGET =
-    (went version_1 SHADOW_START halted_jump halted_jump_graph f.arrived.w jump handler _ _ [] at a).chooses in
-    let there : JumpChooses halted_jump_graph.lines T.First 1 0x40000074 BAD_TARGET =
-    subst (λ (r : Registers). JumpChooses halted_jump_graph.lines T.First 1 (destination r 1 60) BAD_TARGET) f.arrived.regs chooses in
+    let there : L.Leads version_1 (by_class halted_jump_graph.lines) jump f.arrived.w.at f.arrived.w.pending (after_calm version_1 10 (start_hart 0) (start_shared halted_jump [])).hart.regs a.w.pending BAD_TARGET =
+    subst (λ (r : Registers). L.Leads version_1 (by_class halted_jump_graph.lines) jump f.arrived.w.at f.arrived.w.pending r a.w.pending BAD_TARGET) f.arrived.regs
+    (went version_1 SHADOW_START halted_jump halted_jump_graph f.arrived.w jump handler _ _ [] at a) in
     elim there [
-      | inl went ↦ let v : BAD_TARGET ≡ 0x40000074 = went.1 in absurd (omega arith)
+      | inl went ↦ let v : BAD_TARGET ≡ 0x40000074 = went.1.1 in absurd (omega arith)
       | inr outside ↦ outside.0 refl
     ]
 

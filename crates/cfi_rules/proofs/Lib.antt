@@ -10,14 +10,16 @@ pub mod LineOrder
 pub mod Served
 pub mod RuleFacts
 pub mod Labels
+pub mod Leading
 pub mod Moves
-pub mod Safety
 pub mod OnRan
 pub mod Starts
 pub mod ListedRuns
 pub mod UnitIn
 pub mod CodeSplit
 pub mod PlacedSplit
+pub mod Reading
+pub mod Safety
 pub mod Ahead
 pub mod PlacedLines
 pub mod PlacedRules

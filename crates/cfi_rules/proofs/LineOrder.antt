@@ -4,9 +4,8 @@ use Rattle.std.specs.Prelude.{slice_get, option_and_then, if◌then◌else◌}
 use Rattle.std.proofs.lemmas.Bool.{and_parts, cases_Bool, cases_order, ltb-true, ltb-false, eqb-true, eq-eqb, false≢true}
 use Rattle.std.proofs.lemmas.Option.{same_Some}
 use Rattle.cfi_graph.specs.declared.line.GraphLine.{GraphLine}
-use Rattle.cfi_graph.specs.declared.line.GraphLine.TheVariants.{Calls, Class, CallClass, JumpClass, Site, Edge, Call}
+use Rattle.cfi_graph.specs.declared.line.GraphLine.TheVariants.{Calls, Class, Site, Edge, Call}
 use Rattle.cfi_graph.specs.declared.line.Sort.{Sort}
-use Rattle.cfi_graph.specs.declared.line.Sort.TheVariants as sorts
 use Rattle.cfi_graph.specs.declared.line.Key.{Key}
 use Rattle.cfi_graph.specs.declared.line.Key.TheVariants.{Head, Label, Address}
 use Rattle.cfi_graph.specs.Graph.{class_in, is_rising, key_below, key_of}
@@ -125,9 +124,7 @@ pub line_at-with : (lines : List GraphLine) (a : ℕ) → line_at lines a ≡ li
 unfolding line_at line_with
 line_at-with [] a = refl
 line_at-with (Calls numbers ∷ lines) a = line_at-with lines a
-line_at-with (Class label targets ∷ lines) a = line_at-with lines a
-line_at-with (CallClass label targets ∷ lines) a = line_at-with lines a
-line_at-with (JumpClass label targets ∷ lines) a = line_at-with lines a
+line_at-with (Class sort label targets ∷ lines) a = line_at-with lines a
 line_at-with (Site address kind label ∷ lines) a = ap (λ w. if address == a then Some (Site address kind label) else w) (line_at-with lines a)
 line_at-with (Edge from to ∷ lines) a = ap (λ w. if from == a then Some (Edge from to) else w) (line_at-with lines a)
 line_at-with (Call from to ∷ lines) a = ap (λ w. if from == a then Some (Call from to) else w) (line_at-with lines a)
@@ -147,9 +144,7 @@ pub class_with-with : (lines : List GraphLine) (l : ℕ) → class_with lines l 
 unfolding class_with line_with
 class_with-with [] l = refl
 class_with-with (Calls numbers ∷ lines) l = class_with-with lines l
-class_with-with (Class label targets ∷ lines) l = class_or sorts.Both label targets (Class label targets) lines l refl refl (class_with-with lines l)
-class_with-with (CallClass label targets ∷ lines) l = class_or sorts.Calls label targets (CallClass label targets) lines l refl refl (class_with-with lines l)
-class_with-with (JumpClass label targets ∷ lines) l = class_or sorts.Jumps label targets (JumpClass label targets) lines l refl refl (class_with-with lines l)
+class_with-with (Class sort label targets ∷ lines) l = class_or sort label targets (Class sort label targets) lines l refl refl (class_with-with lines l)
 class_with-with (Site address kind label ∷ lines) l = class_with-with lines l
 class_with-with (Edge from to ∷ lines) l = class_with-with lines l
 class_with-with (Call from to ∷ lines) l = class_with-with lines l

@@ -25,12 +25,12 @@ use Rattle.cfi_rules.specs.Laws.{AreBytes}
 use Rattle.cfi_rules.specs.Lines.{holds_of}
 use Rattle.cfi_rules.specs.Listed.{AddsListed, IsListedCall, ListedAlong, WellFormedIsListed}
 use Rattle.cfi_rules.specs.Rules.{IsWellFormed, act_may_call, admitted_in, is_of_version, may_call}
-use Rattle.cfi_rules.specs.Split.{code_words, unit_at}
+use Rattle.cfi_rules.specs.Split.{code_words, place_at, unit_at}
 use Rattle.cfi_rules.specs.declared.reject.Rule.TheVariants as R
 use Rattle.cfi_rules.proofs.Places.{PlaceFacts, place_facts}
 use Rattle.cfi_rules.proofs.RuleFacts.{not_false}
 use Rattle.cfi_rules.proofs.OnRan.{on_ran}
-use Rattle.cfi_rules.proofs.Safety.{well_formed_safe}
+use Rattle.cfi_rules.proofs.Safety.{well_formed_along}
 
 -- a unit that is admitted with a list calls with its numbers alone
 pub act_listed : (calls : List ℕ) (test : Test) (act : Act) (h : Hart) → act_may_call (Some calls) test act ≡ true → ActMayCall act test h → is_listed (h.regs 17) calls ≡ true
@@ -64,7 +64,7 @@ module _ (p : Profile) (profile : IsProfile p) (image : Contents) (graph : Graph
   adds_listed place at h events after facts (adds_one e more number may) = inr (e, more, listed_call place at h e facts number may)
 
   -- each step of a run along the graph makes what system calls its place may make
-  listed_along : (steps : List HartStep) (walks : Walks) (hs : Harts) (s : Shared) → RunsAlong p image (code_words image.code) graph.lines walks hs s steps →
+  listed_along : (steps : List HartStep) (walks : Walks) (hs : Harts) (s : Shared) → RunsAlong p image (place_at p (code_words image.code)) graph.lines walks hs s steps →
       ListedAlong p calls hs s steps
   listed_along [] walks hs s runs = tt
   listed_along (t ∷ rest) walks hs s runs =
@@ -72,7 +72,7 @@ module _ (p : Profile) (profile : IsProfile p) (image : Contents) (graph : Graph
       let after = disturbed_step p h s t.changes in
       let w = runs.0 in
       let begun = runs.2 in
-      let Next : Type 0 = RunsAlong p image (code_words image.code) graph.lines (with_walk walks t.hart w) (with_hart hs t.hart after.hart) after.shared rest in (
+      let Next : Type 0 = RunsAlong p image (place_at p (code_words image.code)) graph.lines (with_walk walks t.hart w) (with_hart hs t.hart after.hart) after.shared rest in (
         adds_listed begun.0 w.at h s.events after.shared.events (place_facts p profile image graph bytes formed w.at begun.0 begun.1) begun.6,
         on_ran after.turn Next (IsCodeOf (loaded image) after.shared.memory) (ListedAlong p calls (with_hart hs t.hart after.hart) after.shared rest) (Unit {0})
             (listed_along rest (with_walk walks t.hart w) (with_hart hs t.hart after.hart) after.shared) (λ code. tt) runs.3,
@@ -80,4 +80,4 @@ module _ (p : Profile) (profile : IsProfile p) (image : Contents) (graph : Graph
 
 pub well_formed_listed : WellFormedIsListed
 well_formed_listed p image graph calls profile bytes formed list_is count may harts s start steps low =
-    listed_along p profile image graph bytes formed calls list_is steps (λ k. None) harts s (well_formed_safe p profile image graph bytes formed count may harts s start steps low)
+    listed_along p profile image graph bytes formed calls list_is steps (λ k. None) harts s (well_formed_along p profile image graph bytes formed count may harts s start steps low)

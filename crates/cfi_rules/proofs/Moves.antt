@@ -1,13 +1,12 @@
--- Where a place leads, the walk goes: to a place that stands, by a step of the graph that the
--- registers choose, with the pending sites that such a place asks for.
+-- Where a place leads by its words, it leads the walk too: to a place that stands, with the pending sites that
+-- such a place asks for.
 use Rattle.std.proofs.Common.{◌≡◌, ℕ, ◌+◌, ◌*◌, ◌^◌, ◌≤◌, ◌<◌, inl, inr, true, false, List, [], ◌∷◌, length, refl, sym, ap, subst, ◌∙◌, Some, arith, lit≤}
 use Rattle.std.specs.Prelude.{option_map}
-use Rattle.std.proofs.lemmas.Bool.{eqb-true, false≢true}
+use Rattle.std.proofs.lemmas.Bool.{eqb-true}
 use Rattle.rv_word.specs.Image.{Contents}
 use Rattle.rv_word.specs.MemoryMap.{IsProfile, Profile}
 use Rattle.rv_word.proofs.Versions.{laid_out}
 use Rattle.rv_word.specs.Memory.{read, loaded}
-use Rattle.rv_word.proofs.Cases.{cases_Option}
 use Rattle.rv_instr.specs.Registers.{Registers}
 use Rattle.rv_code.specs.Encode.{code_of}
 use Rattle.rv_code.proofs.Inverse.{code_of-decoded}
@@ -19,7 +18,7 @@ use Rattle.cfi_unit.specs.declared.unit.Unit.TheVariants as V
 use Rattle.cfi_unit.specs.declared.unit.SystemOp.TheVariants as S
 use Rattle.cfi_unit.specs.Flow as F
 use Rattle.cfi_unit.specs.Flow.{Exit, Flow, flow_of}
-use Rattle.cfi_unit.specs.Leads.{ExitLeads, FlowLeads, HasLabel, Leads, Returns, destination}
+use Rattle.cfi_unit.specs.Leads.{ExitLeads, FlowLeads, HasLabel, Leads, Returns, by_label, destination}
 use Rattle.cfi_unit.specs.declared.place.Place.{Place}
 use Rattle.cfi_unit.specs.declared.place.Place.TheVariants.{Handler as handler, Opening as opening, Closing as closing, Body as body}
 use Rattle.cfi_unit.specs.declared.target_word.TargetWord.{TargetWord}
@@ -29,16 +28,16 @@ use Rattle.cfi_unit.specs.Shadow.{MOST_PENDING}
 use Rattle.cfi_unit.specs.UnitWords.{BAD_TARGET, BAD_RETURN, DEEP, after_unit, gate, past}
 use Rattle.cfi_unit.proofs.Flows.{Suits, TestFits, is_untested, suits, test_fits, untested, direct_call, guarded_call, computed_jump, computed_call, turned_back}
 use Rattle.cfi_unit.proofs.Labels.{word_small}
-use Rattle.cfi_rules.specs.Along.{Walk, Chooses, ReturnChooses, TestChooses}
-use Rattle.cfi_rules.specs.Lines.{holds_of, is_among, targets_for}
+use Rattle.cfi_rules.specs.Along.{Walk}
 use Rattle.cfi_rules.specs.Rules.{IsWellFormed, asked_by, asks, call_by, edge_by, halts_by, site_of, target_by}
 use Rattle.cfi_rules.specs.Split.{code_words, is_start, place_at}
-use Rattle.cfi_rules.specs.Walk.{InClass, HasTarget, is_some_target, ExitGoes, FlowGoes, Goes, ReturnGoes, To}
+use Rattle.cfi_rules.specs.Walk.{InClass, by_class}
 use Rattle.cfi_rules.specs.Laws.{AreBytes}
 use Rattle.cfi_rules.specs.declared.asks.Asks.{Asks}
 use Rattle.cfi_rules.proofs.Bytes.{loaded_small}
 use Rattle.cfi_rules.proofs.Find.{UnitHere, unit_here}
 use Rattle.cfi_rules.proofs.Labels.{label_in_class}
+use Rattle.cfi_rules.proofs.Leading.{class_parts}
 use Rattle.cfi_rules.proofs.Places.{PlaceFacts, is_whole, unit_facts, at_unit, at_closing, at_bad_target, at_bad_return, at_deep}
 use Rattle.cfi_rules.proofs.RuleFacts.{edge_starts, call_starts, next_starts, target_bears, unit_borne, gate_borne, site_class}
 use Rattle.cfi_rules.proofs.Standing.{unit_stands}
@@ -87,8 +86,7 @@ module _ (p : Profile) (profile : IsProfile p) (image : Contents) (graph : Graph
   settled_at v place pending is stage later = record { place = place; is = is; stage = stage; later = later }
 
   pub record Arrived (place : Place) (w : Walk) (v : ℕ) (newer : List ℕ) : Type 0 where
-    pub goes : Goes p graph.lines place w.at w.pending v newer
-    pub chooses : Chooses graph.lines place w v
+    pub leads : Leads p (by_class graph.lines) place w.at w.pending w.regs newer v
     pub settled : Settled v newer
 
   same_body : (pending newer : List ℕ) → newer ≡ pending → InBody pending → InBody newer
@@ -122,14 +120,6 @@ module _ (p : Profile) (profile : IsProfile p) (image : Contents) (graph : Graph
       let most = inside.most in
       to_start site v newer inside.sites.0 e (same_body (other ∷ more) newer same (record { sites = inside.sites.1; most = omega arith }))
 
-  pub class_parts : (kind : SiteKind) (which : TargetWord) (label v : ℕ) → InClass graph.lines kind which label v →
-      (ts : List ℕ) × (targets_for graph.lines kind which label ≡ Some ts) × (is_among v ts ≡ true)
-  class_parts kind which label v inside =
-      elim (cases_Option (targets_for graph.lines kind which label)) [
-        | inl none ↦ absurd (false≢true (sym (ap (λ o. holds_of o (is_among v)) none) ∙ inside))
-        | inr (ts, some) ↦ (ts, some, sym (ap (λ o. holds_of o (is_among v)) some) ∙ inside)
-      ]
-
   -- at a target of a class a unit starts, and the class's gate is the word that bears its label
   pub record Target (which : TargetWord) (label v : ℕ) : Type 0 where
     pub unit : U.Unit
@@ -138,7 +128,7 @@ module _ (p : Profile) (profile : IsProfile p) (image : Contents) (graph : Graph
 
   pub target_stands : (kind : SiteKind) (which : TargetWord) (label v : ℕ) → InClass graph.lines kind which label v → Target which label v
   target_stands kind which label v inside =
-      let (ts, class, among) = class_parts kind which label v inside in
+      let (ts, class, among) = class_parts graph.lines kind which label v inside in
       let borne = target_bears p image graph formed kind which v label ts class among in
       let (unit, is) = unit_borne p W which v label borne in
       record {
@@ -167,14 +157,6 @@ module _ (p : Profile) (profile : IsProfile p) (image : Contents) (graph : Graph
       let stands = target_stands kind which label to target in
       settled_unit v stands.unit newer (subst (λ (x : ℕ). UnitHere p W x stands.unit) (sym e) stands.here) inside
 
-  has_target : (kind : SiteKind) (which : TargetWord) (label v : ℕ) → InClass graph.lines kind which label v → HasTarget graph.lines kind which label
-  has_target kind which label v inside =
-      let c = class_parts kind which label v inside in ap (λ o. holds_of o is_some_target) c.1 ∙ some_target c.0 c.2
-    where
-      some_target : (ts : List ℕ) → is_among v ts ≡ true → is_some_target ts ≡ true
-      some_target [] e = absurd (cc)
-      some_target (t ∷ ts) e = refl
-
   -- the label of a check is a class's, so where it is borne is a target
   pub labelled : (kind : SiteKind) (which : TargetWord) (label v a : ℕ) (place : Place) → label < 2 ^ 20 → place_at p W a ≡ Some place → site_of place ≡ Some (asks kind which label) →
       HasLabel (loaded image) which label v → InClass graph.lines kind which label v
@@ -182,12 +164,10 @@ module _ (p : Profile) (profile : IsProfile p) (image : Contents) (graph : Graph
       let c = site_class p image graph formed a place (asks kind which label) here site in
       label_in_class p profile image graph bytes formed kind which label v c.0 low c.1 has
 
-  return_arrives : (r : Registers) (pending : List ℕ) (v : ℕ) (newer : List ℕ) → InBody pending → Returns r pending newer v →
-      ReturnGoes pending v newer × ReturnChooses pending (r 1) v × Settled v newer
-  return_arrives r [] v newer inside l = absurd inside.sites
-  return_arrives r (site ∷ pending) v newer inside (inl l) = (inl (l.1.1, l.1.0), inl (l.0, l.1.1), to_site site v pending newer inside l.1.0 l.1.1)
-  return_arrives r (site ∷ pending) v newer inside (inr l) =
-      (inr (l.1.1, l.1.0), inr (l.0, l.1.1), to_bad_return v (site ∷ pending) newer inside l.1.0 l.1.1)
+  return_arrives : (r : Registers) (pending : List ℕ) (v : ℕ) (newer : List ℕ) → InBody pending → Returns r pending newer v → Settled v newer
+  return_arrives r [] v newer inside l = absurd l
+  return_arrives r (site ∷ pending) v newer inside (inl l) = to_site site v pending newer inside l.1.0 l.1.1
+  return_arrives r (site ∷ pending) v newer inside (inr l) = to_bad_return v (site ∷ pending) newer inside l.1.0 l.1.1
 
   -- what the rules say of where a flow goes on
   record Ruled (f : Flow) (following : ℕ) : Type 0 where
@@ -208,73 +188,63 @@ module _ (p : Profile) (profile : IsProfile p) (image : Contents) (graph : Graph
   }
 
   module _ (following v : ℕ) (r : Registers) (pending newer : List ℕ) (inside : InBody pending) where
-    goes_to : (target : ℕ) → is_start p W target ≡ true → (newer ≡ pending) × (v ≡ target) → To target pending v newer × Settled v newer
-    goes_to target start l = ((l.1, l.0), to_start target v newer start l.1 (same_body pending newer l.0 inside))
+    goes_to : (target : ℕ) → is_start p W target ≡ true → (newer ≡ pending) × (v ≡ target) → Settled v newer
+    goes_to target start l = to_start target v newer start l.1 (same_body pending newer l.0 inside)
 
-    halts : (newer ≡ pending) × (v ≡ BAD_TARGET) → To BAD_TARGET pending v newer × Settled v newer
-    halts l = ((l.1, l.0), to_bad_target v pending newer inside l.0 l.1)
+    halts : (newer ≡ pending) × (v ≡ BAD_TARGET) → Settled v newer
+    halts l = to_bad_target v pending newer inside l.0 l.1
 
     exit_arrives : (exit : Exit) → is_untested exit ≡ true → (halts_by exit ≡ false → is_start p W following ≡ true) →
-        ((t : ℕ) → target_by exit ≡ Some t → is_start p W t ≡ true) → ExitLeads exit F.keeps following pending r newer v →
-        ExitGoes exit F.keeps following pending v newer × Settled v newer
+        ((t : ℕ) → target_by exit ≡ Some t → is_start p W t ≡ true) → ExitLeads exit F.keeps following pending r newer v → Settled v newer
     exit_arrives F.on is next edge l = goes_to following (next refl) l
-    exit_arrives (F.either op rs1 rs2 met target) is next edge (inl l) = let to = goes_to following (next refl) l in (inl to.0, to.1)
-    exit_arrives (F.either op rs1 rs2 met target) is next edge (inr l) = let to = goes_to target (edge target refl) l in (inr to.0, to.1)
+    exit_arrives (F.either op rs1 rs2 met target) is next edge (inl l) = goes_to following (next refl) l
+    exit_arrives (F.either op rs1 rs2 met target) is next edge (inr l) = goes_to target (edge target refl) l
     exit_arrives (F.to target) is next edge l = goes_to target (edge target refl) l
-    exit_arrives (F.halts stop) is next edge l = ((l.1, l.0), to_bad_target v pending newer inside l.0 (l.1 ∙ eqb-true stop BAD_TARGET is))
+    exit_arrives (F.halts stop) is next edge l = to_bad_target v pending newer inside l.0 (l.1 ∙ eqb-true stop BAD_TARGET is)
     exit_arrives (F.after S.Ecall) is next edge l = goes_to following (next refl) l
     exit_arrives (F.after S.Ebreak) is next edge l = absurd l
     exit_arrives other is next edge l = absurd (cc)
 
-    -- the step of a flow: the walk goes so, the registers choose it, and something starts there
+    -- where the label is borne is a target of the class: so a flow leads the walk to where it leads, and something starts there
     abbrev Steps : Flow → Type 0
-    Steps f = FlowGoes graph.lines f following pending v newer × TestChooses graph.lines f.test f.sites following pending r v × Settled v newer
+    Steps f = FlowLeads (by_class graph.lines) f following pending r newer v × Settled v newer
 
-    flow_arrives : (f : Flow) → Suits f → Ruled f following → FlowLeads (loaded image) f following pending r newer v → Steps f
-    flow_arrives f (untested exit act is) ruled l = let to = exit_arrives exit is ruled.next ruled.edge l in (to.0, tt, to.1)
+    flow_arrives : (f : Flow) → Suits f → Ruled f following → FlowLeads (by_label (loaded image)) f following pending r newer v → Steps f
+    flow_arrives f (untested exit act is) ruled l = (l, exit_arrives exit is ruled.next ruled.edge l)
     flow_arrives f (direct_call target) ruled (inl l) =
-        (inl (l.0, l.2, l.1), tt, to_start target v newer (ruled.call target refl) l.2 (pushed following pending newer (ruled.next refl) inside l.0 l.1))
-    flow_arrives f (direct_call target) ruled (inr l) = (inr (l.0, (l.2, l.1)), tt, to_deep v pending newer inside l.1 l.2)
-    flow_arrives f (guarded_call numbers) ruled (inl l) = let to = goes_to following (ruled.next refl) l.1 in (inl to.0, inl (l.0, l.1.1), to.1)
-    flow_arrives f (guarded_call numbers) ruled (inr l) = let to = halts l.1 in (inr to.0, inr (l.0, l.1.1), to.1)
+        (inl l, to_start target v newer (ruled.call target refl) l.2 (pushed following pending newer (ruled.next refl) inside l.0 l.1))
+    flow_arrives f (direct_call target) ruled (inr l) = (inr l, to_deep v pending newer inside l.1 l.2)
+    flow_arrives f (guarded_call numbers) ruled (inl l) = (inl l, goes_to following (ruled.next refl) l.1)
+    flow_arrives f (guarded_call numbers) ruled (inr l) = (inr l, halts l.1)
     flow_arrives f (computed_jump which rs1 imm label) ruled (inl l) =
         let to = destination r rs1 imm in
-        let target = ruled.class (asks K.Jump which label) to ruled.fits refl l.0 in (
-          inl (subst (λ (x : ℕ). InClass graph.lines K.Jump which label x) (sym l.1.1) target, l.1.0),
-          inl (target, l.1.1),
-          to_target K.Jump which label to v newer target l.1.1 (same_body pending newer l.1.0 inside),
-        )
+        let target = ruled.class (asks K.Jump which label) to ruled.fits refl l.0 in
+        (inl (target, l.1), to_target K.Jump which label to v newer target l.1.1 (same_body pending newer l.1.0 inside))
     flow_arrives f (computed_jump which rs1 imm label) ruled (inr l) =
-        let to = halts l.1 in (inr to.0, inr ((λ target. l.0 (in_class_label K.Jump which label (destination r rs1 imm) target)), l.1.1), to.1)
+        (inr ((λ target. l.0 (in_class_label K.Jump which label (destination r rs1 imm) target)), l.1), halts l.1)
     flow_arrives f (computed_call rs1 imm label) ruled (inl (has, inl l)) =
         let to = destination r rs1 imm in
-        let target = ruled.class (asks K.Call First label) to ruled.fits refl has in (
-          inr (inl (l.0, subst (λ (x : ℕ). InClass graph.lines K.Call First label x) (sym l.2) target, l.1)),
-          inl (target, inl (l.0, l.2)),
-          to_target K.Call First label to v newer target l.2 (pushed following pending newer (ruled.next refl) inside l.0 l.1),
-        )
-    flow_arrives f (computed_call rs1 imm label) ruled (inl (has, inr l)) =
-        let to = destination r rs1 imm in
         let target = ruled.class (asks K.Call First label) to ruled.fits refl has in
-        (inr (inr (l.0, has_target K.Call First label to target, (l.2, l.1))), inl (target, inr (l.0, l.2)), to_deep v pending newer inside l.1 l.2)
+        (inl (target, inl l), to_target K.Call First label to v newer target l.2 (pushed following pending newer (ruled.next refl) inside l.0 l.1))
+    flow_arrives f (computed_call rs1 imm label) ruled (inl (has, inr l)) =
+        (inl (ruled.class (asks K.Call First label) (destination r rs1 imm) ruled.fits refl has, inr l), to_deep v pending newer inside l.1 l.2)
     flow_arrives f (computed_call rs1 imm label) ruled (inr l) =
-        let to = halts l.1 in (inl to.0, inr ((λ target. l.0 (in_class_label K.Call First label (destination r rs1 imm) target)), l.1.1), to.1)
-    flow_arrives f turned_back ruled l = return_arrives r pending v newer inside l
+        (inr ((λ target. l.0 (in_class_label K.Call First label (destination r rs1 imm) target)), l.1), halts l.1)
+    flow_arrives f turned_back ruled l = (l, return_arrives r pending v newer inside l)
 
   -- where a place leads, the walk arrives
   pub arrive : (place : Place) (w : Walk) (v : ℕ) (newer : List ℕ) → place_at p W w.at ≡ Some place → PlaceFacts p profile image graph bytes formed place w.at →
-      Stage place w.pending → Leads p (loaded image) place w.at w.pending w.regs newer v → Arrived place w v newer
+      Stage place w.pending → Leads p (by_label (loaded image)) place w.at w.pending w.regs newer v → Arrived place w v newer
   arrive handler w v newer is facts stage leads = absurd leads
   arrive closing w v newer is facts stage leads = absurd leads
   arrive (opening entry) w v newer is facts stage (inl l) =
       let start = call_starts p image graph formed w.at (opening entry) entry is refl in
       let none : newer ≡ p.closing ∷ [] = l.1 ∙ ap (λ ps. p.closing ∷ ps) stage in
       record {
-        goes = inl (l.0, l.2, l.1);
-        chooses = tt;
+        leads = inl l;
         settled = to_start entry v newer start l.2 (subst (λ (ps : List ℕ). InBody ps) (sym none) (record { sites = refl; most = lit≤ tt }));
       }
   arrive (opening entry) w v newer is facts stage (inr l) = let none = ap length stage in let full = l.0 in absurd (omega arith)
   arrive (body u) w v newer is facts stage leads =
       let arrived = flow_arrives (after_unit u w.at) v w.regs w.pending newer stage (flow_of u) (suits u) (ruled u w.at is facts) leads in
-      record { goes = arrived.0; chooses = arrived.1; settled = arrived.2 }
+      record { leads = arrived.0; settled = arrived.1 }

@@ -18,6 +18,7 @@ use Rattle.cfi_rules.specs.Split.{code_words, place_at}
 use Rattle.cfi_rules.specs.Trails.{Begin, IsInPlace, newest_of, trail_alone, trail_of}
 use Rattle.cfi_rules.specs.Walks.{IsGraphWalk, if_starts, walk_alone, walk_of}
 use Rattle.cfi_rules.proofs.OnRan.{on_ran}
+use Rattle.cfi_rules.proofs.Reading.{safe_as_recognised}
 use Rattle.cfi_rules.proofs.Starts.{machine_may_start}
 use Rattle.cfi_rules.proofs.Trails.{safe_stays}
 use Rattle.cfi_rules.proofs.Walks.{safe_walks}
@@ -90,14 +91,14 @@ AloneAlong p part image words lines before h s (cs ∷ rest) =
     let now = disturbed s cs in
     let after = step p h now in
     (w : Walk)
-    × GoesOn p part words lines before (place_at p words h.pc) h now.memory w
-    × Begun p part image words w h now after
+    × GoesOn p part (place_at p words) lines before (place_at p words h.pc) h now.memory w
+    × Begun p part image (place_at p words) w h now after
     × OnRan after.turn
     (AloneAlong p part image words lines (Some w) after.hart after.shared rest)
     (IsCodeOf (loaded image) after.shared.memory)
 
 module _ (p : Profile) (image : Contents) (words : List ℕ) (lines : List GraphLine) (k : ℕ) where
-  pub alone_along : (changes : List (List ByteChange)) (walks : Walks) (harts : Harts) (s : Shared) → RunsAlong p image words lines walks harts s (steps_of k changes) →
+  pub alone_along : (changes : List (List ByteChange)) (walks : Walks) (harts : Harts) (s : Shared) → RunsAlong p image (place_at p words) lines walks harts s (steps_of k changes) →
       AloneAlong p (part_of k) image words lines (walks k) (harts k) s changes
   alone_along [] walks harts s r = r
   alone_along (cs ∷ rest) walks harts s r =
@@ -107,7 +108,7 @@ module _ (p : Profile) (image : Contents) (words : List ℕ) (lines : List Graph
         r.1,
         r.2,
         on_ran after.turn
-            (RunsAlong p image words lines (with_walk walks k r.0) (with_hart harts k after.hart) after.shared (steps_of k rest))
+            (RunsAlong p image (place_at p words) lines (with_walk walks k r.0) (with_hart harts k after.hart) after.shared (steps_of k rest))
             (IsCodeOf (loaded image) after.shared.memory)
             (Rest (Some r.0) after.hart)
             (IsCodeOf (loaded image) after.shared.memory)
@@ -123,7 +124,7 @@ pub safe_along_alone : (p : Profile) (image : Contents) (graph : GraphParts) (in
     AloneAlong p (part_of k) image (code_words image.code) graph.lines None (start_hart k) (start_shared image input) changes
 safe_along_alone p image graph input harts k changes safe may below low =
     alone_along p image (code_words image.code) graph.lines k changes (λ j. None) start_hart (start_shared image input)
-    (safe harts may start_hart (start_shared image input) (machine_may_start image input harts) (steps_of k changes) (may_come harts k below changes low))
+    (safe_as_recognised p image graph safe harts may start_hart (start_shared image input) (machine_may_start image input harts) (steps_of k changes) (may_come harts k below changes low))
 
 -- and of hart 0 alone, whose walk and begun instructions are a lone hart's
 module _ (p : Profile) (laid : LaidOut p) (image : Contents) (graph : GraphParts) (input : List ℕ) (changes : List (List ByteChange)) (safe : IsSafe p image graph) (low : AreDataChanges changes) where

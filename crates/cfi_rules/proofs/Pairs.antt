@@ -1,9 +1,11 @@
 -- Worked pairs, computed: which rule fails, and where.
 use Rattle.std.proofs.Common.{◌≡◌, ℕ, ◌+◌, ◌*◌, Bool, List, [], ◌∷◌, ◌++◌, length, take, drop, refl, true, false}
+use Rattle.rv_word.specs.declared.version.GraphVersion.TheVariants.{OneLabel}
 use Rattle.rv_word.specs.MemoryMap.{version_1}
 use Rattle.rv_code.specs.Decode.{decoded}
 use Rattle.rv_code.specs.Encode.{code_of}
 use Rattle.cfi_graph.specs.declared.line.GraphLine.{GraphLine}
+use Rattle.cfi_graph.specs.declared.line.Sort.TheVariants as sorts
 use Rattle.cfi_graph.specs.declared.line.GraphLine.TheVariants.{Class, Edge, Call}
 use Rattle.cfi_unit.specs.Recognise.{read_each, recognised}
 use Rattle.cfi_unit.specs.UnitWords.{words_of}
@@ -15,7 +17,7 @@ use Rattle.cfi_rules.specs.declared.reject.Rule.TheVariants as R
 
 -- whether a rule fails, of a code and the lines of its graph
 abbrev fails_of : K.Rule → List ℕ → List GraphLine → ℕ → Bool
-fails_of rule words lines a = fails rule version_1 words (record { version = 1; code = 4 * length words; lines = lines }) a
+fails_of rule words lines a = fails rule version_1 words (record { version = OneLabel; code = 4 * length words; lines = lines }) a
 
 -- the prologue
 abbrev opening : List ℕ
@@ -111,7 +113,7 @@ pair_10 : fails_of R.Unit (opening ++ 0x00700513 ∷ 0xff81bf83 ∷ 0xff818193 �
 unfolding decoded code_of read_each recognised words_of starts is_start unit_at place_at line_at class_with targets_for
 pair_10 = refl
 
-row_17a : fails_of R.Astray (with_word 16 0x00001037) (Class 1 [] ∷ entering) 0x40000040 ≡ true
+row_17a : fails_of R.Astray (with_word 16 0x00001037) (Class sorts.Both 1 [] ∷ entering) 0x40000040 ≡ true
 unfolding decoded code_of read_each recognised words_of starts is_start unit_at place_at line_at class_with targets_for
 row_17a = refl
 

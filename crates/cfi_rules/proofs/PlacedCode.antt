@@ -5,6 +5,7 @@ use Rattle.std.specs.Prelude.{not, ◌&&◌, slice_get, slice_index, option_and_
 use Rattle.std.proofs.lemmas.Bool.{and_parts, and_left, and_right, cases_Bool, cases_eq, eq-eqb, leb-true, ne_eqb, not_from_true}
 use Rattle.std.proofs.lemmas.List.{drop_at}
 use Rattle.std.proofs.lemmas.Option.{same_Some, slice_get-map, slice_get-get_or}
+use Rattle.rv_word.specs.declared.version.GraphVersion.{GraphVersion}
 use Rattle.rv_word.specs.MemoryMap.{CODE_START, IsProfile, Profile, lies_within}
 use Rattle.rv_word.proofs.Versions.{laid_out}
 use Rattle.rv_instr.specs.declared.instr.Instr.{Instr}
@@ -107,7 +108,7 @@ module _ (p : Profile) (profile : IsProfile p) where
     unit_words_split : AllFit p.units_from us → AllAhead p.units_from us → IsSplit (unit_words p the_code) p.units_from us
     unit_words_split fit ahead = subst (λ (ws : List ℕ). IsSplit ws p.units_from us) (sym unit_words_are) (placed_split us p.units_from fit ahead)
 
-    is_placed : (version : ℕ) (heads : List GraphLine) → IsSound p version entry us heads → IsPlaced p the_code entry us
+    is_placed : (version : GraphVersion) (heads : List GraphLine) → IsSound p version entry us heads → IsPlaced p the_code entry us
     is_placed version heads sound =
         let laid = laid_out p profile in
         let call = laid.call in

@@ -6,14 +6,14 @@ use Rattle.std.specs.Option.{option_or}
 use Rattle.std.proofs.lemmas.Bool.{and_from, and_parts, cases_Bool, eq-eqb, eqb-true, le-leb, lt-ltb}
 use Rattle.std.proofs.lemmas.List.Folds.{list_all-append}
 use Rattle.std.proofs.lemmas.Option.{same_Some}
+use Rattle.rv_word.specs.declared.version.GraphVersion.{GraphVersion}
 use Rattle.rv_word.specs.MemoryMap.{CODE_START, IsProfile, Profile}
 use Rattle.rv_word.proofs.Cases.{cases_Option}
 use Rattle.rv_word.proofs.Versions.{LaidOut, laid_out}
 use Rattle.cfi_graph.specs.declared.line.GraphLine.{GraphLine}
-use Rattle.cfi_graph.specs.declared.line.GraphLine.TheVariants.{Calls, Class, CallClass, JumpClass, Site, Edge, Call}
+use Rattle.cfi_graph.specs.declared.line.GraphLine.TheVariants.{Calls, Class, Site, Edge, Call}
 use Rattle.cfi_graph.specs.declared.line.Key.TheVariants.{Address}
 use Rattle.cfi_graph.specs.declared.line.SiteKind.{SiteKind}
-use Rattle.cfi_graph.specs.declared.line.Sort.TheVariants as sorts
 use Rattle.cfi_graph.specs.Graph.{ClassLine, IsGraph, class_in, fits_version, is_code_address, is_label, is_rising, key_below, key_of, line_in_range, targets_rise}
 use Rattle.cfi_unit.specs.declared.unit.Unit as U
 use Rattle.cfi_unit.specs.declared.place.Place.TheVariants.{Body as body}
@@ -60,10 +60,10 @@ passes test edge call site a None None None line e = absurd (cc)
 flat : (u : U.Unit) (a : ℕ) (line : GraphLine) → line_of a u ≡ Some line → targets_rise line ≡ true
 flat u a = passes targets_rise (λ from to. refl) (λ from to. refl) (λ a kind label. refl) a (edge_of (body u)) (call_of (body u)) (site_of (body u))
 
-abbrev is_of : ℕ → GraphLine → Bool
+abbrev is_of : GraphVersion → GraphLine → Bool
 is_of version line = fits_version version (class_in line)
 
-of_each : (version : ℕ) (u : U.Unit) (a : ℕ) (line : GraphLine) → line_of a u ≡ Some line → is_of version line ≡ true
+of_each : (version : GraphVersion) (u : U.Unit) (a : ℕ) (line : GraphLine) → line_of a u ≡ Some line → is_of version line ≡ true
 of_each version u a = passes (is_of version) (λ from to. refl) (λ from to. refl) (λ a kind label. refl) a (edge_of (body u)) (call_of (body u)) (site_of (body u))
 
 -- the lines' addresses rise
@@ -88,9 +88,7 @@ lines_rise (u ∷ us) bound at below =
 -- heads come before what has an address
 head_below : (line : GraphLine) (a : ℕ) → is_head line ≡ true → key_below (key_of line) (Address a) ≡ true
 head_below (Calls numbers) a head = refl
-head_below (Class label targets) a head = refl
-head_below (CallClass label targets) a head = refl
-head_below (JumpClass label targets) a head = refl
+head_below (Class sort label targets) a head = refl
 head_below (Site address kind label) a head = absurd (cc)
 head_below (Edge from to) a head = absurd (cc)
 head_below (Call from to) a head = absurd (cc)
@@ -107,12 +105,8 @@ heads_rise (line ∷ next ∷ heads) bound to rest all order above =
 
 -- a class's label is one
 line_label : (len : ℕ) (line : GraphLine) (class : ClassLine) → class_in line ≡ Some class → line_in_range len line ≡ true → is_label class.label ≡ true
-line_label len (Class k ts) class e range =
-    ap (λ (c : ClassLine). is_label c.label) (sym (same_Some (record { sort = sorts.Both; label = k; targets = ts }) class e)) ∙ (and_parts (is_label k) (list_all (is_code_address len) ts) range).0
-line_label len (CallClass k ts) class e range =
-    ap (λ (c : ClassLine). is_label c.label) (sym (same_Some (record { sort = sorts.Calls; label = k; targets = ts }) class e)) ∙ (and_parts (is_label k) (list_all (is_code_address len) ts) range).0
-line_label len (JumpClass k ts) class e range =
-    ap (λ (c : ClassLine). is_label c.label) (sym (same_Some (record { sort = sorts.Jumps; label = k; targets = ts }) class e)) ∙ (and_parts (is_label k) (list_all (is_code_address len) ts) range).0
+line_label len (Class sort k ts) class e range =
+    ap (λ (c : ClassLine). is_label c.label) (sym (same_Some (record { sort = sort; label = k; targets = ts }) class e)) ∙ (and_parts (is_label k) (list_all (is_code_address len) ts) range).0
 line_label len other class e range = absurd (cc)
 
 class_label : (len : ℕ) (classes : List GraphLine) (l : ℕ) → list_all (line_in_range len) classes ≡ true → is_some (class_with classes l) ≡ true → is_label l ≡ true
@@ -141,7 +135,7 @@ unit_range len a None None (Some asked) line here leads known e =
     given (line_in_range len) (Site a asked.kind asked.label) line e (and_from (is_code_address len a) (is_label asked.label) here (known asked refl))
 unit_range len a None None None line here leads known e = absurd (cc)
 
-module _ (p : Profile) (profile : IsProfile p) (version entry : ℕ) (us : List U.Unit) (heads : List GraphLine) (sound : IsSound p version entry us heads) where
+module _ (p : Profile) (profile : IsProfile p) (version : GraphVersion) (entry : ℕ) (us : List U.Unit) (heads : List GraphLine) (sound : IsSound p version entry us heads) where
   laid : LaidOut p
   laid = laid_out p profile
 
@@ -188,7 +182,6 @@ module _ (p : Profile) (profile : IsProfile p) (version entry : ℕ) (us : List 
       let ofs : list_all (is_of version) (lines_from p.units_from us) ≡ true =
       all_lines (is_of version) us p.units_from (λ a u line here is. of_each version u a line is) in
       record {
-        version = graph.version;
         sorts = list_all-append (is_of version) heads rest ∙ and_from (list_all (is_of version) heads) (list_all (is_of version) rest) graph.sorts ofs;
         length = graph.length;
         range = list_all-append (line_in_range size) heads rest

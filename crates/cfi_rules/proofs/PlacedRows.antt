@@ -6,6 +6,8 @@ use Rattle.std.specs.Prelude.{Option, Some, None, ◌&&◌, is_some, not, option
 use Rattle.std.specs.List.{last_or, list_all}
 use Rattle.std.proofs.lemmas.Bool.{and_parts, cases_eq, eqb-true, false≢true, or_cases}
 use Rattle.std.proofs.lemmas.Option.{same_Some}
+use Rattle.rv_word.specs.declared.version.GraphVersion.{GraphVersion}
+use Rattle.rv_word.specs.declared.version.GraphVersion.TheVariants.{OneLabel}
 use Rattle.rv_word.specs.MemoryMap.{version_1}
 use Rattle.rv_instr.specs.declared.instr.Instr.TheVariants.{Upper, Load, Immediate}
 use Rattle.rv_instr.specs.declared.instr.BranchOp.TheVariants.{Beq, Bne}
@@ -16,6 +18,7 @@ use Rattle.rv_instr.specs.declared.instr.UpperOp.TheVariants.{Lui}
 use Rattle.rv_code.specs.Decode.{decoded}
 use Rattle.rv_code.specs.Encode.{code_of}
 use Rattle.cfi_graph.specs.declared.line.GraphLine.{GraphLine}
+use Rattle.cfi_graph.specs.declared.line.Sort.TheVariants as sorts
 use Rattle.cfi_graph.specs.declared.line.GraphLine.TheVariants.{Class, Site, Edge, Call}
 use Rattle.cfi_graph.specs.Graph.{ClassLine, calls_in, class_in}
 use Rattle.cfi_graph.specs.declared.line.SiteKind.TheVariants as K
@@ -58,13 +61,13 @@ p_units =
     ∷ []
 
 abbrev p_classes : List GraphLine
-p_classes = Class 1 (0x400000c8 ∷ 0x400000e4 ∷ []) ∷ []
+p_classes = Class sorts.Both 1 (0x400000c8 ∷ 0x400000e4 ∷ []) ∷ []
 
 p_code : placed_code version_1 0x40000040 p_units ≡ 0x00100073 ∷ 0x00100073 ∷ 0x00100073 ∷ 0x10000137 ∷ 0x600001b7 ∷ 0x00818193 ∷ 0x03019f13 ∷ 0x000f1463 ∷ 0xfe9ff06f ∷ 0x00000f17 ∷ 0x014f0f13 ∷ 0x01e1b023 ∷ 0x00818193 ∷ 0x00c000ef ∷ 0x05d00893 ∷ 0x00000073 ∷ 0xff010113 ∷ 0x00810f93 ∷ 0x024f9f93 ∷ 0x024fdf93 ∷ 0x001fb023 ∷ 0x000102b7 ∷ 0x0002b283 ∷ 0x00028f93 ∷ 0xffcfff93 ∷ 0x40000f37 ∷ 0x41ef8f33 ∷ 0x014f5f13 ∷ 0x000f0463 ∷ 0xf8dff06f ∷ 0x000faf03 ∷ 0x00001237 ∷ 0x03720213 ∷ 0x004f0463 ∷ 0xf79ff06f ∷ 0x03019f13 ∷ 0x000f1463 ∷ 0xf75ff06f ∷ 0x00000f17 ∷ 0x014f0f13 ∷ 0x01e1b023 ∷ 0x00818193 ∷ 0x000f80e7 ∷ 0x00813083 ∷ 0x01010113 ∷ 0xff81bf83 ∷ 0xff818193 ∷ 0x001f8463 ∷ 0xf45ff06f ∷ 0x000f8067 ∷ 0x00001037 ∷ 0x00100513 ∷ 0xff81bf83 ∷ 0xff818193 ∷ 0x001f8463 ∷ 0xf29ff06f ∷ 0x000f8067 ∷ 0x00001037 ∷ 0x00200513 ∷ 0xff81bf83 ∷ 0xff818193 ∷ 0x001f8463 ∷ 0xf0dff06f ∷ 0x000f8067 ∷ 0xf01ff06f ∷ []
 unfolding code_of code_from words_of
 p_code = refl
 
-p_lines : placed_lines version_1 0x40000040 p_units p_classes ≡ Class 1 (0x400000c8 ∷ 0x400000e4 ∷ []) ∷ Call 0x4000000c 0x40000040 ∷ Site 0x4000005c K.Call 1 ∷ []
+p_lines : placed_lines version_1 0x40000040 p_units p_classes ≡ Class sorts.Both 1 (0x400000c8 ∷ 0x400000e4 ∷ []) ∷ Call 0x4000000c 0x40000040 ∷ Site 0x4000005c K.Call 1 ∷ []
 unfolding lines_from
 p_lines = refl
 
@@ -236,7 +239,7 @@ bears us Second a label borne =
     (parts.0, gate_is (unit_in us 0x40000040 (a + 4)) label parts.1)
 
 -- so units of which these tests hold are sound
-pub sound_by : (version : ℕ) (us : List U.Unit) (heads : List GraphLine) → AllFit 0x40000040 us → AllAhead 0x40000040 us → StartsIn version_1 us 0x40000040 →
+pub sound_by : (version : GraphVersion) (us : List U.Unit) (heads : List GraphLine) → AllFit 0x40000040 us → AllAhead 0x40000040 us → StartsIn version_1 us 0x40000040 →
     all_from (λ a. admits version (calls_in heads)) 0x40000040 us ≡ true → all_from (is_right heads) 0x40000040 us ≡ true → list_all is_head heads ≡ true →
     list_all (λ line. all_borne us (class_in line)) heads ≡ true → last_or None us ≡ Some V.Stop → IsSound version_1 version 0x40000040 us heads
 sound_by version us heads fit ahead begun admitted right are_heads borne ends =
@@ -256,6 +259,6 @@ sound_by version us heads fit ahead begun admitted right are_heads borne ends =
       ends = ends;
     }
 
-p_sound : IsSound version_1 1 0x40000040 p_units p_classes
+p_sound : IsSound version_1 OneLabel 0x40000040 p_units p_classes
 unfolding all_from class_with targets_for unit_in
-p_sound = sound_by 1 p_units p_classes p_fit p_ahead refl refl refl refl refl refl
+p_sound = sound_by OneLabel p_units p_classes p_fit p_ahead refl refl refl refl refl refl

@@ -5,6 +5,7 @@ use Rattle.std.specs.List.{last_or}
 use Rattle.std.specs.Option.{option_or}
 use Rattle.std.proofs.lemmas.Bool.{and_from, and_right, and_left, cases_Bool, cases_eq, eq-eqb, le-ltb, lt-leb, ne_eqb, or_from}
 use Rattle.std.proofs.lemmas.Option.{same_Some}
+use Rattle.rv_word.specs.declared.version.GraphVersion.{GraphVersion}
 use Rattle.rv_word.specs.MemoryMap.{CODE_START, Profile}
 use Rattle.rv_word.proofs.Cases.{cases_Option, guarded}
 use Rattle.cfi_graph.specs.declared.line.GraphLine.{GraphLine}
@@ -110,7 +111,7 @@ pub record IsPlaced (p : Profile) (words : List ℕ) (entry : ℕ) (us : List U.
   pub split : IsSplit (unit_words p words) p.units_from us
   pub size : CODE_START + 4 * length words ≡ p.units_from + 4 * length (code_from p.units_from us)
 
-module _ (p : Profile) (words : List ℕ) (version entry : ℕ) (us : List U.Unit) (heads : List GraphLine) (code : ℕ) (placed : IsPlaced p words entry us) (sound : IsSound p version entry us heads) where
+module _ (p : Profile) (words : List ℕ) (version : GraphVersion) (entry : ℕ) (us : List U.Unit) (heads : List GraphLine) (code : ℕ) (placed : IsPlaced p words entry us) (sound : IsSound p version entry us heads) where
   abbrev the_lines : List GraphLine
   the_lines = placed_lines p entry us heads
 

@@ -34,15 +34,17 @@ use Rattle.cfi_unit.proofs.Others.{other_part}
 use Rattle.cfi_unit.proofs.Parts.{own_is_part}
 use Rattle.cfi_unit.proofs.PlaceWords.{place_word}
 use Rattle.cfi_unit.proofs.UnitSteps.{unit_law}
-use Rattle.cfi_rules.specs.Along.{Walk, Walks, with_walk, GoesOn, Arrives, ShadowStands, ActExits, ActBreaks, ActFaults, MayExit, MayBreak, MayFault, MayEnd, Begun, MayStart, OnRan, RunsAlong, AreStepsOf, IsSafe}
+use Rattle.cfi_rules.specs.Along.{Walk, Walks, with_walk, GoesOn, Arrives, ShadowStands, ActExits, ActBreaks, ActFaults, MayExit, MayBreak, MayFault, MayEnd, Begun, MayStart, OnRan, RunsAlong, AreStepsOf, AllRunAlong}
 use Rattle.cfi_rules.specs.Rules.{IsWellFormed}
-use Rattle.cfi_rules.specs.Split.{code_words, place_at}
+use Rattle.cfi_rules.specs.Split.{code_words, place_at, unit_words}
 use Rattle.cfi_rules.specs.Laws.{AreBytes, WellFormedIsSafe}
-use Rattle.cfi_rules.proofs.Bytes.{length-code_words, loaded_small}
+use Rattle.cfi_rules.proofs.Bytes.{are_words, length-code_words, loaded_small}
+use Rattle.cfi_rules.proofs.CodeSplit.{code_is_split}
 use Rattle.cfi_rules.proofs.Find.{unit_here}
 use Rattle.cfi_rules.proofs.Labels.{IsFirstCall, place_stands, may_stand}
 use Rattle.cfi_rules.proofs.Moves.{SitesStand, Stage, Arrived, arrive}
 use Rattle.cfi_rules.proofs.Places.{PlaceFacts, is_whole, prologue, place_facts, nothing_inside, at_opening}
+use Rattle.cfi_rules.proofs.Reading.{places_same, split_read}
 
 -- changes of data leave all else as it is
 pub changed_above : (m : Memory) (cs : List ByteChange) → AllByRecursion IsDataChange cs → (k : ℕ) → DATA_END ≤ k → changed m cs k ≡ m k
@@ -189,7 +191,7 @@ module _ (p : Profile) (profile : IsProfile p) (image : Contents) (graph : Graph
     }
 
     abbrev Along : Walks → Harts → Shared → List HartStep → Type 0
-    Along walks hs s steps = RunsAlong p image the_words graph.lines walks hs s steps
+    Along walks hs s steps = RunsAlong p image (place_at p the_words) graph.lines walks hs s steps
 
     -- one step of hart `k`, and then the rest of the run
     module _ (Q : Walks → Harts → Shared → Type 0) (go_on : (walks : Walks) (hs : Harts) (s : Shared) → Known walks hs s → Q walks hs s)
@@ -217,7 +219,7 @@ module _ (p : Profile) (profile : IsProfile p) (image : Contents) (graph : Graph
       Left after = IsCodeOf (loaded image) after.shared.memory
 
       record Stepped (w : Walk) : Type 0 where
-        begun : Begun p (part_of k) image the_words w (hs k) s (step p (hs k) s)
+        begun : Begun p (part_of k) image (place_at p the_words) w (hs k) s (step p (hs k) s)
         on : OnRan (step p (hs k) s).turn (Rest w (step p (hs k) s)) (Left (step p (hs k) s))
 
       follows : (w : Walk) (place : Place) (pc : ℕ) (after : After) → place_at p the_words w.at ≡ Some place → Stage p profile image graph bytes formed place w.pending →
@@ -259,11 +261,11 @@ module _ (p : Profile) (profile : IsProfile p) (image : Contents) (graph : Graph
           record { begun = (place, is, word, e.may, known.code, frame, adds); on = e.on }
 
       abbrev pub Goes : Walk → Type 0
-      Goes w = GoesOn p (part_of k) the_words graph.lines (walks k) (place_at p the_words (hs k).pc) (hs k) s.memory w
+      Goes w = GoesOn p (part_of k) (place_at p the_words) graph.lines (walks k) (place_at p the_words (hs k).pc) (hs k) s.memory w
 
       -- what is owed of the step
       abbrev pub Owed : Type 0
-      Owed = (w : Walk) × Goes w × Begun p (part_of k) image the_words w (hs k) s (step p (hs k) s)
+      Owed = (w : Walk) × Goes w × Begun p (part_of k) image (place_at p the_words) w (hs k) s (step p (hs k) s)
           × OnRan (step p (hs k) s).turn (Rest w (step p (hs k) s)) (Left (step p (hs k) s))
 
       abbrev walk_at : List ℕ → Walk
@@ -272,15 +274,15 @@ module _ (p : Profile) (profile : IsProfile p) (image : Contents) (graph : Graph
       -- where something starts
       enter : (place : Place) (pending : List ℕ) → place_at p the_words (hs k).pc ≡ Some place → Stage p profile image graph bytes formed place pending →
           Holds (part_of k) s.memory pending → ((hs k).pc ≡ OPENING → part_of k ≡ part_of ((hs k).regs 10)) →
-          ((hs k).regs 3 ≡ slot (part_of k) (length pending)) ⊎ ((hs k).pc ≤ OPENING) → Arrives p the_words graph.lines (walks k) (hs k).pc pending → Owed
+          ((hs k).regs 3 ≡ slot (part_of k) (length pending)) ⊎ ((hs k).pc ≤ OPENING) → Arrives p (place_at p the_words) graph.lines (walks k) (hs k).pc pending → Owed
       enter place pending is stage held own x3 arrives =
           let facts = place_facts p profile image graph bytes formed (hs k).pc place is in
           let inside = begins (part_of k) place pending (hs k) s.memory is stage own x3 in
           let on = step_on (walk_at pending) place is stage held inside in
-          let goes : GoesOn p (part_of k) the_words graph.lines (walks k) (Some place) (hs k) s.memory (walk_at pending) =
+          let goes : GoesOn p (part_of k) (place_at p the_words) graph.lines (walks k) (Some place) (hs k) s.memory (walk_at pending) =
           (refl, refl, arrives, shadow_stands (part_of k) place (hs k).pc pending (hs k) s.memory facts stage refl held x3) in (
             walk_at pending,
-            subst (λ (o : Option Place). GoesOn p (part_of k) the_words graph.lines (walks k) o (hs k) s.memory (walk_at pending)) (sym is) goes,
+            subst (λ (o : Option Place). GoesOn p (part_of k) (place_at p the_words) graph.lines (walks k) o (hs k) s.memory (walk_at pending)) (sym is) goes,
             on.begun,
             on.on,
           )
@@ -288,7 +290,7 @@ module _ (p : Profile) (profile : IsProfile p) (image : Contents) (graph : Graph
       pub goes_on : Now (part_of k) (walks k) (hs k) s.memory → Owed
       goes_on (starting none e own) =
           enter (opening (prologue p profile image graph bytes formed).0) [] (ap (place_at p the_words) e ∙ at_opening p profile image graph bytes formed) refl tt (λ o. own)
-          (inr (omega arith)) (subst (λ (b : Option Walk). Arrives p the_words graph.lines b (hs k).pc []) (sym none) (e, refl))
+          (inr (omega arith)) (subst (λ (b : Option Walk). Arrives p (place_at p the_words) graph.lines b (hs k).pc []) (sym none) (e, refl))
       goes_on (within w place b is stage after held i) =
           let facts = place_facts p profile image graph bytes formed w.at place is in
           let may = may_stand p profile image graph bytes formed place w.at w.pending facts (first_call place w.pending stage) in
@@ -297,13 +299,13 @@ module _ (p : Profile) (profile : IsProfile p) (image : Contents) (graph : Graph
           let on = step_on w place is stage held i in
           let nothing : place_at p the_words (hs k).pc ≡ None = nothing_inside p profile image graph bytes formed place w.at (hs k).pc facts after (omega arith) in (
             w,
-            subst (λ (o : Option Place). GoesOn p (part_of k) the_words graph.lines (walks k) o (hs k) s.memory w) (sym nothing) b,
+            subst (λ (o : Option Place). GoesOn p (part_of k) (place_at p the_words) graph.lines (walks k) o (hs k) s.memory w) (sym nothing) b,
             on.begun,
             on.on,
           )
       goes_on (arrived w place newer b is a held x3) =
           enter a.settled.place newer a.settled.is a.settled.stage held (λ o. absurd (a.settled.later o)) (past x3)
-          (subst (λ (o : Option Walk). Arrives p the_words graph.lines o (hs k).pc newer) (sym b) (place, is, a.goes, a.chooses))
+          (subst (λ (o : Option Walk). Arrives p (place_at p the_words) graph.lines o (hs k).pc newer) (sym b) (place, is, a.leads))
 
     -- the run from what is known goes along the graph
     runs : (steps : List HartStep) → AreStepsOf harts steps → (walks : Walks) (hs : Harts) (s : Shared) → Known walks hs s → Along walks hs s steps
@@ -319,8 +321,17 @@ module _ (p : Profile) (profile : IsProfile p) (image : Contents) (graph : Graph
       each = λ k below. starting refl (start.pc k below) (ap part_of (sym (start.number k below)));
     }
 
-  pub well_formed_safe : IsSafe p image graph
-  well_formed_safe count may_run harts s start steps low = runs count may_run steps low (λ k. None) harts s (start_known count may_run harts s start)
+  pub well_formed_along : AllRunAlong p image (place_at p the_words) graph.lines
+  well_formed_along count may_run harts s start steps low = runs count may_run steps low (λ k. None) harts s (start_known count may_run harts s start)
 
+-- and the units that are recognised are those that the code is read as
 pub well_formed_is_safe : WellFormedIsSafe
-well_formed_is_safe p image graph profile bytes formed = well_formed_safe p profile image graph bytes formed
+well_formed_is_safe p image graph profile bytes formed =
+    let laid = laid_out p profile in
+    let words = code_words image.code in
+    let (us, split, same) = code_is_split p image graph profile bytes formed in (
+      us,
+      record { low = omega arith; round = laid.round; small = are_words image.code bytes.code; read = split_read us (unit_words p words) p.units_from split },
+      subst (λ (places : ℕ → Option Place). AllRunAlong p image places graph.lines) (places_same p words us same)
+          (well_formed_along p profile image graph bytes formed),
+    )

@@ -16,10 +16,11 @@ use Rattle.cfi_rules.specs.Along.{GoesOn, Walk, Walks, OnRan, RunsAlong, with_wa
 use Rattle.cfi_rules.specs.Laws.{SafeStaysInPlace}
 use Rattle.cfi_rules.specs.Split.{code_words, place_at}
 use Rattle.cfi_rules.specs.Trails.{Begin, newest_of, trail_of, IsInPlace}
+use Rattle.cfi_rules.proofs.Reading.{safe_as_recognised}
 
 module _ (p : Profile) (image : Contents) (words : List ℕ) (lines : List GraphLine) where
   abbrev Runs : Walks → Harts → Shared → List HartStep → Type 0
-  Runs walks harts s steps = RunsAlong p image words lines walks harts s steps
+  Runs walks harts s steps = RunsAlong p image (place_at p words) lines walks harts s steps
 
   if_goes : (turn : Turn) (later : List Begin) (X Y : Type 0) → OnRan turn X Y → (X → AllByRecursion (IsInPlace p words) later) →
       AllByRecursion (IsInPlace p words) (if_ran turn later)
@@ -38,7 +39,7 @@ module _ (p : Profile) (image : Contents) (words : List ℕ) (lines : List Graph
 
   -- the next walk address is the newest
   newest_is : (part : ℕ) (before : Option Walk) (newest : ℕ) (h : Hart) (m : Memory) (w : Walk) → IsNewest before newest →
-      GoesOn p part words lines before (place_at p words h.pc) h m w → w.at ≡ newest_of (place_at p words h.pc) newest h.pc
+      GoesOn p part (place_at p words) lines before (place_at p words h.pc) h m w → w.at ≡ newest_of (place_at p words h.pc) newest h.pc
   newest_is part before newest h m w is goes =
       elim (cases_Option (place_at p words h.pc)) [
         | inl none ↦ let stays : before ≡ Some w = rw none at goes in
@@ -74,4 +75,4 @@ module _ (p : Profile) (image : Contents) (words : List ℕ) (lines : List Graph
 
 pub safe_stays : SafeStaysInPlace
 safe_stays p image graph count harts s steps k safe may start low =
-    stays p image (code_words image.code) graph.lines k steps (λ j. None) 0 harts s tt (safe count may harts s start steps low)
+    stays p image (code_words image.code) graph.lines k steps (λ j. None) 0 harts s tt (safe_as_recognised p image graph safe count may harts s start steps low)

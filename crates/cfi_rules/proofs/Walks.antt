@@ -15,10 +15,12 @@ use Rattle.cfi_rules.specs.Along.{Walk, Walks, Arrives, OnRan, RunsAlong, with_w
 use Rattle.cfi_rules.specs.Laws.{SafeWalksGraph}
 use Rattle.cfi_rules.specs.Split.{code_words, place_at}
 use Rattle.cfi_rules.specs.Walks.{walk_of, AreSteps, IsGraphWalk}
+use Rattle.cfi_rules.proofs.Leading.{leads_goes}
+use Rattle.cfi_rules.proofs.Reading.{safe_as_recognised}
 
 module _ (p : Profile) (image : Contents) (words : List ℕ) (lines : List GraphLine) where
   abbrev Runs : Walks → Harts → Shared → List HartStep → Type 0
-  Runs walks harts s steps = RunsAlong p image words lines walks harts s steps
+  Runs walks harts s steps = RunsAlong p image (place_at p words) lines walks harts s steps
 
   -- after an instruction that ran the walk goes on, after a stop it has ended
   if_goes : (turn : Turn) (w : Walk) (later : List ℕ) (X Y : Type 0) → OnRan turn X Y → (X → AreSteps p words lines w.at w.pending later) →
@@ -71,13 +73,13 @@ module _ (p : Profile) (image : Contents) (words : List ℕ) (lines : List Graph
                   rw (eq-eqb t.hart k same, none) (subst (λ (v : Walk). AreSteps p words lines v.at v.pending (if_ran after.turn later)) back more)
               | inr (place, some) ↦
                   let goes = rw some at r.1 in
-                  let arrives : Arrives p words lines (Some w) h.pc r.0.pending =
-                  subst (λ (b : Option Walk). Arrives p words lines b h.pc r.0.pending) before goes.2 in
+                  let arrives : Arrives p (place_at p words) lines (Some w) h.pc r.0.pending =
+                  subst (λ (b : Option Walk). Arrives p (place_at p words) lines b h.pc r.0.pending) before goes.2 in
                   rw (eq-eqb t.hart k same, some) (
                     arrives.0,
                     r.0.pending,
                     arrives.1,
-                    arrives.2,
+                    leads_goes lines p arrives.0 w.at w.pending w.regs r.0.pending h.pc arrives.2,
                     subst (λ (a : ℕ). AreSteps p words lines a r.0.pending (if_ran after.turn later)) goes.0 more,
                   )
             ]
@@ -105,8 +107,8 @@ module _ (p : Profile) (image : Contents) (words : List ℕ) (lines : List Graph
               | inl none ↦ let goes : walks t.hart ≡ Some r.0 = rw none at r.1 in absurd (cc)
               | inr (place, some) ↦
                   let goes = rw some at r.1 in
-                  let arrives : Arrives p words lines None h.pc r.0.pending =
-                  subst (λ (b : Option Walk). Arrives p words lines b h.pc r.0.pending) before goes.2 in
+                  let arrives : Arrives p (place_at p words) lines None h.pc r.0.pending =
+                  subst (λ (b : Option Walk). Arrives p (place_at p words) lines b h.pc r.0.pending) before goes.2 in
                   rw (eq-eqb t.hart k same, some) (
                     arrives.0,
                     subst (λ (ps : List ℕ). AreSteps p words lines h.pc ps (if_ran after.turn later)) arrives.1
@@ -120,4 +122,4 @@ module _ (p : Profile) (image : Contents) (words : List ℕ) (lines : List Graph
 
 pub safe_walks : SafeWalksGraph
 safe_walks p image graph count harts s steps k safe may start low =
-    first_steps p image (code_words image.code) graph.lines k steps (λ j. None) harts s refl (safe count may harts s start steps low)
+    first_steps p image (code_words image.code) graph.lines k steps (λ j. None) harts s refl (safe_as_recognised p image graph safe count may harts s start steps low)

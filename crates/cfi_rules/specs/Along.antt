@@ -1,79 +1,39 @@
 -- A run along a graph, and safety. The walk of a hart is the list of the pcs of its begun instructions
 -- at which something starts: the opening, the closing, a handler or a unit.
-use Rattle.std.specs.Prelude.{◌≡◌, ◌≢◌, ℕ, ◌<◌, ◌⊎◌, ◌==◌, true, false, List, [], ◌∷◌, length, Option, Some, None, if◌then◌else◌}
+use Rattle.std.specs.Prelude.{◌≡◌, ℕ, ◌<◌, ◌==◌, List, [], ◌∷◌, length, Option, Some, None, if◌then◌else◌}
 use Rattle.std.specs.List.{AllByRecursion}
 use Rattle.rv_word.specs.MemoryMap.{START, MayRun, Profile, part_of}
 use Rattle.rv_word.specs.Image.{Contents}
 use Rattle.rv_word.specs.Memory.{Memory, loaded}
-use Rattle.rv_word.specs.Numbers.{is_listed}
-use Rattle.rv_instr.specs.Registers.{Registers, get_reg}
+use Rattle.rv_instr.specs.Registers.{Registers}
 use Rattle.rv_code.specs.Run.{HartStep, IsStepOf, disturbed}
 use Rattle.rv_code.specs.State.{After, Hart, Harts, Shared, last_exit, with_hart}
 use Rattle.rv_code.specs.Step.{step}
 use Rattle.rv_code.specs.declared.turn.Turn.{Turn}
 use Rattle.rv_code.specs.declared.turn.Turn.TheVariants.{Ran, Exit, Break, LoadFault, StoreFault, FetchFault, Illegal}
 use Rattle.cfi_graph.specs.declared.line.GraphLine.{GraphLine}
-use Rattle.cfi_graph.specs.declared.line.SiteKind.TheVariants as K
 use Rattle.cfi_graph.specs.Graph.{GraphParts}
+use Rattle.cfi_unit.specs.declared.unit.Unit as U
 use Rattle.cfi_unit.specs.declared.unit.SystemOp.TheVariants as S
 use Rattle.cfi_unit.specs.declared.place.Place.{Place}
 use Rattle.cfi_unit.specs.declared.place.Place.TheVariants.{Handler as handler, Opening as opening, Closing as closing, Body as body}
-use Rattle.cfi_unit.specs.declared.target_word.TargetWord.{TargetWord}
-use Rattle.cfi_unit.specs.declared.target_word.TargetWord.TheVariants.{First}
 use Rattle.cfi_unit.specs.Place.{IsWordOf}
 use Rattle.cfi_unit.specs.Prologue.{OPENING}
 use Rattle.cfi_unit.specs.Context.{IsCodeOf, SameOutside}
 use Rattle.cfi_unit.specs.EventLaw.{Adds}
 use Rattle.cfi_unit.specs.Flow as F
-use Rattle.cfi_unit.specs.Flow.{Act, Sites, Test, flow_of}
-use Rattle.cfi_unit.specs.Leads.{destination}
-use Rattle.cfi_unit.specs.Shadow.{slot, MOST_PENDING, Holds}
-use Rattle.cfi_unit.specs.UnitWords.{BAD_TARGET, BAD_RETURN, DEEP, after_unit}
-use Rattle.cfi_rules.specs.Split.{code_words, place_at}
-use Rattle.cfi_rules.specs.Walk.{InClass, Goes}
+use Rattle.cfi_unit.specs.Flow.{Act, flow_of}
+use Rattle.cfi_unit.specs.Leads.{Leads}
+use Rattle.cfi_unit.specs.Shadow.{slot, Holds}
+use Rattle.cfi_rules.specs.Reading.{AreUnitsOf, place_in}
+use Rattle.cfi_rules.specs.Split.{code_words}
+use Rattle.cfi_rules.specs.Walk.{by_class}
 
 -- the newest address of a hart's walk, the sites pending there, and the registers when it was reached
 pub record Walk : Type 0 where
   pub at : ℕ
   pub pending : List ℕ
   pub regs : Registers
-
--- where the walk goes on to `v` from a computed jump: the handler exactly where the destination is no
--- target of the class, and otherwise the destination
-abbrev pub JumpChooses : List GraphLine → TargetWord → ℕ → ℕ → ℕ → Type 0
-JumpChooses lines which label to v =
-    (InClass lines K.Jump which label to × (v ≡ to)) ⊎ ((¬ InClass lines K.Jump which label to) × (v ≡ BAD_TARGET))
-
--- and from a computed call: a target's call goes to the handler where there is no room
-abbrev pub ComputedCallChooses : List GraphLine → ℕ → ℕ → ℕ → ℕ → Type 0
-ComputedCallChooses lines label pending to v =
-    (InClass lines K.Call First label to × (((pending < MOST_PENDING) × (v ≡ to)) ⊎ ((pending ≡ MOST_PENDING) × (v ≡ DEEP))))
-    ⊎ ((¬ InClass lines K.Call First label to) × (v ≡ BAD_TARGET))
-
--- and from a return, where a site is pending: the handler exactly where x1 is not the newest site
-abbrev pub ReturnChooses : List ℕ → ℕ → ℕ → Type 0
-ReturnChooses [] x1 v = ⊥
-ReturnChooses (site ∷ pending) x1 v = ((x1 ≡ site) × (v ≡ site)) ⊎ ((x1 ≢ site) × (v ≡ BAD_RETURN))
-
--- and from a guarded system call: the handler exactly where x17 is none of its numbers
-abbrev pub GuardChooses : List ℕ → ℕ → ℕ → ℕ → Type 0
-GuardChooses ns x17 following v = ((is_listed x17 ns ≡ true) × (v ≡ following)) ⊎ ((is_listed x17 ns ≡ false) × (v ≡ BAD_TARGET))
-
--- and by a unit's test
-abbrev pub ClassChooses : List GraphLine → Sites → TargetWord → ℕ → List ℕ → ℕ → ℕ → Type 0
-ClassChooses lines F.pushes which label pending to v = ComputedCallChooses lines label (length pending) to v
-ClassChooses lines other which label pending to v = JumpChooses lines which label to v
-
-abbrev pub TestChooses : List GraphLine → Test → Sites → ℕ → List ℕ → Registers → ℕ → Type 0
-TestChooses lines F.always sites following pending r v = Unit {0}
-TestChooses lines (F.listed numbers) sites following pending r v = GuardChooses numbers (get_reg r 17) following v
-TestChooses lines (F.borne which rs1 imm label) sites following pending r v = ClassChooses lines sites which label pending (destination r rs1 imm) v
-TestChooses lines F.newest sites following pending r v = ReturnChooses pending (get_reg r 1) v
-
--- the registers decide where a computed transfer, a return or a guarded system call goes
-abbrev pub Chooses : List GraphLine → Place → Walk → ℕ → Type 0
-Chooses lines (body unit) w v = TestChooses lines (flow_of unit).test (flow_of unit).sites (after_unit unit w.at) w.pending w.regs v
-Chooses lines other w v = Unit {0}
 
 -- the shadow stack, where a unit or the closing starts: x3 points past the newest slot, and each slot
 -- holds its site; where a unit starts a site is pending
@@ -83,20 +43,19 @@ ShadowStands part (opening entry) at h m pending = Unit {0}
 ShadowStands part closing at h m pending = (h.regs 3 ≡ slot part (length pending)) × Holds part m pending
 ShadowStands part (body unit) at h m pending = (h.regs 3 ≡ slot part (length pending)) × Holds part m pending × (0 < length pending)
 
--- the walk arrives where something starts: by a step of the graph from the place before, or at the
--- opening with nothing pending
-abbrev pub Arrives : Profile → List ℕ → List GraphLine → Option Walk → ℕ → List ℕ → Type 0
-Arrives p words lines None v pending = (v ≡ OPENING) × (pending ≡ [])
-Arrives p words lines (Some w) v pending =
-    (place : Place) × (place_at p words w.at ≡ Some place)
-    × Goes p lines place w.at w.pending v pending × Chooses lines place w v
+-- the walk arrives where something starts: where the place before leads, with the class's targets for computed
+-- destinations, or at the opening with nothing pending
+abbrev pub Arrives : Profile → (ℕ → Option Place) → List GraphLine → Option Walk → ℕ → List ℕ → Type 0
+Arrives p places lines None v pending = (v ≡ OPENING) × (pending ≡ [])
+Arrives p places lines (Some w) v pending =
+    (place : Place) × (places w.at ≡ Some place) × Leads p (by_class lines) place w.at w.pending w.regs pending v
 
 -- before a step at a pc: where something starts there the walk goes on to it, else it stays
-abbrev pub GoesOn : Profile → ℕ → List ℕ → List GraphLine → Option Walk → Option Place → Hart → Memory → Walk → Type 0
-GoesOn p part words lines before None h m w = before ≡ Some w
-GoesOn p part words lines before (Some place) h m w =
+abbrev pub GoesOn : Profile → ℕ → (ℕ → Option Place) → List GraphLine → Option Walk → Option Place → Hart → Memory → Walk → Type 0
+GoesOn p part places lines before None h m w = before ≡ Some w
+GoesOn p part places lines before (Some place) h m w =
     (w.at ≡ h.pc) × (w.regs ≡ h.regs)
-    × Arrives p words lines before h.pc w.pending
+    × Arrives p places lines before h.pc w.pending
     × ShadowStands part place h.pc h m w.pending
 
 -- the stops that may come at each place: an exit only at the closing and at an `ecall`, guarded or not, a
@@ -141,9 +100,9 @@ MayEnd place pc (Illegal at) = ⊥
 -- a begun instruction is a word of what stands at the newest address of the walk, it ends as it may
 -- there, and code is the image's. Of memory it writes data and the hart's own part of the shadow stack
 -- alone, and it makes no system call but, where what stands there may make one, one with the number in x17
-abbrev pub Begun : Profile → ℕ → Contents → List ℕ → Walk → Hart → Shared → After → Type 0
-Begun p part image words w h s after =
-    (place : Place) × (place_at p words w.at ≡ Some place) × IsWordOf p place w.at h.pc
+abbrev pub Begun : Profile → ℕ → Contents → (ℕ → Option Place) → Walk → Hart → Shared → After → Type 0
+Begun p part image places w h s after =
+    (place : Place) × (places w.at ≡ Some place) × IsWordOf p place w.at h.pc
     × MayEnd place h.pc after.turn × IsCodeOf (loaded image) s.memory
     × SameOutside part s.memory after.shared.memory × Adds place w.at h s.events after.shared.events
 
@@ -160,18 +119,18 @@ abbrev pub with_walk : Walks → ℕ → Walk → Walks
 with_walk walks k w = λ j. if j == k then Some w else walks j
 
 -- the run from a state goes along the graph, a step at a time, each hart by its own walk and with its
--- own part of the shadow stack; at its end code is the image's
-abbrev pub RunsAlong : Profile → Contents → List ℕ → List GraphLine → Walks → Harts → Shared → List HartStep → Type 0
-RunsAlong p image words lines walks harts s [] = IsCodeOf (loaded image) s.memory
-RunsAlong p image words lines walks harts s (t ∷ rest) =
+-- own part of the shadow stack; at its end code is the image's. `places` tells what stands at each address
+abbrev pub RunsAlong : Profile → Contents → (ℕ → Option Place) → List GraphLine → Walks → Harts → Shared → List HartStep → Type 0
+RunsAlong p image places lines walks harts s [] = IsCodeOf (loaded image) s.memory
+RunsAlong p image places lines walks harts s (t ∷ rest) =
     let h = harts t.hart in
     let now = disturbed s t.changes in
     let after = step p h now in
     (w : Walk)
-    × GoesOn p (part_of t.hart) words lines (walks t.hart) (place_at p words h.pc) h now.memory w
-    × Begun p (part_of t.hart) image words w h now after
+    × GoesOn p (part_of t.hart) places lines (walks t.hart) (places h.pc) h now.memory w
+    × Begun p (part_of t.hart) image places w h now after
     × OnRan after.turn
-    (RunsAlong p image words lines (with_walk walks t.hart w) (with_hart harts t.hart after.hart) after.shared rest)
+    (RunsAlong p image places lines (with_walk walks t.hart w) (with_hart harts t.hart after.hart) after.shared rest)
     (IsCodeOf (loaded image) after.shared.memory)
 
 abbrev pub AreStepsOf : ℕ → List HartStep → Type 0
@@ -185,9 +144,16 @@ pub record MayStart (image : Contents) (count : ℕ) (harts : Harts) (s : Shared
   pub code : IsCodeOf (loaded image) s.memory
   pub going : last_exit s.events ≡ None
 
--- safe: for every count of harts, every such start and every list of the harts' steps, between which data
--- change, the run goes along the graph
+-- for every count of harts, every such start and every list of the harts' steps, between which data change,
+-- the run goes along the graph, with what stands at each address
+abbrev pub AllRunAlong : Profile → Contents → (ℕ → Option Place) → List GraphLine → Type 0
+AllRunAlong p image places lines =
+    (count : ℕ) → MayRun p count → (harts : Harts) (s : Shared) → MayStart image count harts s → (steps : List HartStep) → AreStepsOf count steps
+    → RunsAlong p image places lines (λ k. None) harts s steps
+
+-- safe: there are units that the code's instructions are, one after another, and all runs go along the graph
+-- from unit to unit
 abbrev pub IsSafe : Profile → Contents → GraphParts → Type 0
 IsSafe p image graph =
-    (count : ℕ) → MayRun p count → (harts : Harts) (s : Shared) → MayStart image count harts s → (steps : List HartStep) → AreStepsOf count steps
-    → RunsAlong p image (code_words image.code) graph.lines (λ k. None) harts s steps
+    let words = code_words image.code in
+    (units : List U.Unit) × AreUnitsOf p words units × AllRunAlong p image (place_in p words units) graph.lines

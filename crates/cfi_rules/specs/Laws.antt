@@ -8,9 +8,10 @@ use Rattle.rv_code.specs.State.{Harts, Shared, start_hart, start_shared}
 use Rattle.cfi_graph.specs.Graph.{GraphParts}
 use Rattle.cfi_unit.specs.declared.unit.Unit as U
 use Rattle.cfi_unit.specs.Split.{IsSplit}
-use Rattle.cfi_rules.specs.Along.{AreStepsOf, IsSafe, MayStart}
+use Rattle.cfi_rules.specs.Along.{AllRunAlong, AreStepsOf, IsSafe, MayStart}
+use Rattle.cfi_rules.specs.Reading.{AreUnitsOf}
 use Rattle.cfi_rules.specs.Rules.{IsWellFormed}
-use Rattle.cfi_rules.specs.Split.{code_words, unit_words, unit_at, unit_in}
+use Rattle.cfi_rules.specs.Split.{code_words, place_at, unit_words, unit_at, unit_in}
 use Rattle.cfi_rules.specs.Trails.{trail_of, IsInPlace}
 use Rattle.cfi_rules.specs.Walks.{walk_of, IsGraphWalk}
 
@@ -33,6 +34,17 @@ CodeIsSplit =
     (units : List U.Unit)
     × IsSplit (unit_words p (code_words image.code)) p.units_from units
     × ((a : ℕ) → unit_at p (code_words image.code) a ≡ unit_in units p.units_from a)
+
+-- the units that a code's words are read as start where those that are recognised do: so there are no others
+abbrev pub ReadUnits : Type 0
+ReadUnits =
+    (p : Profile) (words : List ℕ) (units : List U.Unit) → AreUnitsOf p words units → (a : ℕ) → unit_at p words a ≡ unit_in units p.units_from a
+
+-- and the runs of a safe pair go along the graph with what is recognised at each address
+abbrev pub SafeAsRecognised : Type 0
+SafeAsRecognised =
+    (p : Profile) (image : Contents) (graph : GraphParts) → IsSafe p image graph →
+    AllRunAlong p image (place_at p (code_words image.code)) graph.lines
 
 -- a run of the machine starts where runs may start
 abbrev pub MachineMayStart : Type 0

@@ -1,4 +1,5 @@
 pub mod Split
+pub mod Reading
 pub mod Lines
 pub mod Rules
 pub mod Placed

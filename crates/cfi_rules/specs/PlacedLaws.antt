@@ -1,6 +1,7 @@
 -- What holds of units placed one after another, of the code that they make with the prologue, and of
 -- their lines.
 use Rattle.std.specs.Prelude.{◌≡◌, ℕ, ◌*◌, ◌%◌, ◌≤◌, List, length, Some, is_some}
+use Rattle.rv_word.specs.declared.version.GraphVersion.{GraphVersion}
 use Rattle.rv_word.specs.Image.{Contents}
 use Rattle.rv_word.specs.MemoryMap.{CODE_START, IsProfile, Profile}
 use Rattle.cfi_graph.specs.declared.line.GraphLine.{GraphLine}
@@ -40,7 +41,7 @@ PlacedEntry =
 -- the lines of sound units and heads are a graph's of this code, where the heads alone are
 abbrev pub PlacedIsGraph : Type 0
 PlacedIsGraph =
-    (p : Profile) (version entry : ℕ) (units : List U.Unit) (heads : List GraphLine) → IsProfile p → IsSound p version entry units heads →
+    (p : Profile) (version : GraphVersion) (entry : ℕ) (units : List U.Unit) (heads : List GraphLine) → IsProfile p → IsSound p version entry units heads →
     IsGraph (record { version = version; code = 4 * length (placed_code p entry units); lines = heads }) →
     IsGraph (record { version = version; code = 4 * length (placed_code p entry units); lines = placed_lines p entry units heads })
 

@@ -2,6 +2,8 @@
 -- but Length is a test of an address: whether the rule fails there.
 use Rattle.std.specs.Prelude.{◌≡◌, ◌≢◌, ℕ, ◌+◌, ◌-◌, ◌*◌, ◌/◌, ◌%◌, ◌<◌, ◌==◌, nat_lt, nat_le, ◌&&◌, ◌||◌, not, Bool, true, false, List, length, map, slice_get, slice_index, Option, Some, None, is_some, option_and_then, if◌then◌else◌}
 use Rattle.std.specs.List.{list_any}
+use Rattle.rv_word.specs.declared.version.GraphVersion.{GraphVersion}
+use Rattle.rv_word.specs.declared.version.GraphVersion.TheVariants.{OneLabel, TwoLabels}
 use Rattle.rv_word.specs.MemoryMap.{CODE_START, Profile, lies_within}
 use Rattle.rv_word.specs.Image.{Contents}
 use Rattle.rv_word.specs.Numbers.{are_same}
@@ -134,8 +136,9 @@ fails_prologue p words a =
 
 -- which word of its destination a computed jump's check reads, in code whose graph has this version; a
 -- computed call's reads the first in each
-abbrev pub jump_word : ℕ → TargetWord
-jump_word version = if version == 2 then Second else First
+abbrev pub jump_word : GraphVersion → TargetWord
+jump_word OneLabel = First
+jump_word TwoLabels = Second
 
 abbrev pub same_word : TargetWord → TargetWord → Bool
 same_word First First = true
@@ -143,12 +146,12 @@ same_word Second Second = true
 same_word which other = false
 
 -- a check before a jump reads that word; one that puts a site on top is a call's
-abbrev pub test_is_of_version : ℕ → Test → Sites → Bool
+abbrev pub test_is_of_version : GraphVersion → Test → Sites → Bool
 test_is_of_version version test F.pushes = true
 test_is_of_version version (F.borne which rs1 imm label) sites = same_word which (jump_word version)
 test_is_of_version version other sites = true
 
-abbrev pub is_of_version : ℕ → U.Unit → Bool
+abbrev pub is_of_version : GraphVersion → U.Unit → Bool
 is_of_version version unit = test_is_of_version version (flow_of unit).test (flow_of unit).sites
 
 -- with a list of system calls each `ecall` is guarded by just its numbers; without a list none is
@@ -163,7 +166,7 @@ abbrev pub may_call : Option (List ℕ) → U.Unit → Bool
 may_call calls unit = act_may_call calls (flow_of unit).test (flow_of unit).act
 
 -- code whose graph has this version and this list, or no list, may have a unit
-abbrev pub admits : ℕ → Option (List ℕ) → U.Unit → Bool
+abbrev pub admits : GraphVersion → Option (List ℕ) → U.Unit → Bool
 admits version calls unit = is_of_version version unit && may_call calls unit
 
 abbrev pub admitted_in : GraphParts → U.Unit → Bool

@@ -4,6 +4,7 @@
 use Rattle.std.specs.Prelude.{◌≡◌, ℕ, ◌+◌, IsTrue, List, slice_get, Option, Some, None, is_some, option_and_then}
 use Rattle.std.specs.List.{last_or, list_all}
 use Rattle.std.specs.Option.{option_or}
+use Rattle.rv_word.specs.declared.version.GraphVersion.{GraphVersion}
 use Rattle.rv_word.specs.MemoryMap.{Profile}
 use Rattle.cfi_graph.specs.declared.line.GraphLine.{GraphLine}
 use Rattle.cfi_graph.specs.Graph.{ClassLine, calls_in, class_in}
@@ -32,7 +33,7 @@ abbrev pub Bears : Profile → List U.Unit → TargetWord → ℕ → ℕ → Ty
 Bears p units First a label = unit_in units p.units_from a ≡ Some (V.Gate label)
 Bears p units Second a label = StartsIn p units a × (unit_in units p.units_from (a + 4) ≡ Some (V.Gate label))
 
-pub record IsSound (p : Profile) (version entry : ℕ) (units : List U.Unit) (heads : List GraphLine) : Type 0 where
+pub record IsSound (p : Profile) (version : GraphVersion) (entry : ℕ) (units : List U.Unit) (heads : List GraphLine) : Type 0 where
   -- each unit may stand where it does, before those that follow it, and in code of such a graph
   pub fit : AllFit p.units_from units
   pub ahead : AllAhead p.units_from units

@@ -62,10 +62,13 @@ entry_of p words = target_in p.opening_call (option_and_then decoded (slice_get 
 abbrev pub is_handler : ℕ → Bool
 is_handler a = a == BAD_TARGET || (a == BAD_RETURN || a == DEEP)
 
--- what stands at an address, if something starts there
-unfoldable pub place_at : Profile → List ℕ → ℕ → Option Place
-place_at p words a =
+-- what stands at an address, if something starts there, by the unit that may start there
+abbrev pub place_by : Profile → List ℕ → Option U.Unit → ℕ → Option Place
+place_by p words unit a =
     if is_handler a then Some handler else
     if a == OPENING then option_map opening (entry_of p words) else
     if a == p.closing then Some closing else
-    option_map body (unit_at p words a)
+    option_map body unit
+
+unfoldable pub place_at : Profile → List ℕ → ℕ → Option Place
+place_at p words a = place_by p words (unit_at p words a) a

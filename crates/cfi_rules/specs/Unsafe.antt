@@ -1,10 +1,13 @@
 -- Small pairs with one fault each, which are not safe: so safety is not said of everything.
 use Rattle.std.specs.Prelude.{ℕ, ◌+◌, ◌/◌, ◌%◌, ◌^◌, List, [], ◌∷◌, ◌++◌, length, map, take, drop}
+use Rattle.rv_word.specs.declared.version.GraphVersion.TheVariants.{OneLabel}
+use Rattle.rv_word.specs.declared.version.ImageVersion.TheVariants.{OneHart, EightHarts}
 use Rattle.rv_word.specs.MemoryMap.{START, UNITS_START, version_1, version_2}
 use Rattle.rv_word.specs.Image.{Contents}
 use Rattle.rv_code.specs.Encode.{code_of}
 use Rattle.cfi_graph.specs.Graph.{GraphParts}
 use Rattle.cfi_graph.specs.declared.line.GraphLine.{GraphLine}
+use Rattle.cfi_graph.specs.declared.line.Sort.TheVariants as sorts
 use Rattle.cfi_graph.specs.declared.line.GraphLine.TheVariants.{Class, Site, Edge, Call}
 use Rattle.cfi_graph.specs.declared.line.SiteKind.TheVariants as K
 use Rattle.cfi_unit.specs.declared.unit.Unit as U
@@ -26,11 +29,11 @@ prologue = map code_of (prologue_instrs version_1 UNITS_START)
 
 -- the prologue and words after it
 abbrev pub image_with : List ℕ → Contents
-image_with words = record { version = 1; init = []; code = bytes_of (prologue ++ words) }
+image_with words = record { version = OneHart; init = []; code = bytes_of (prologue ++ words) }
 
 -- classes, the opening's call, and other lines
 abbrev pub graph_of : ℕ → List GraphLine → List GraphLine → GraphParts
-graph_of len classes lines = record { version = 1; code = len; lines = classes ++ (Call START UNITS_START ∷ lines) }
+graph_of len classes lines = record { version = OneLabel; code = len; lines = classes ++ (Call START UNITS_START ∷ lines) }
 
 abbrev pub graph_with : ℕ → List GraphLine → GraphParts
 graph_with len lines = graph_of len [] lines
@@ -78,7 +81,7 @@ MovedPointerIsUnsafe = IsSafe version_1 moved_pointer moved_pointer_graph → �
 -- another word in place of the break of the handler of bad targets; the code is one instruction and a
 -- jump there
 abbrev pub handler_with : ℕ → ℕ → Contents
-handler_with word first = record { version = 1; init = []; code = bytes_of (word ∷ drop 1 prologue ++ first ∷ 0xfbdff06f ∷ []) }
+handler_with word first = record { version = OneHart; init = []; code = bytes_of (word ∷ drop 1 prologue ++ first ∷ 0xfbdff06f ∷ []) }
 
 abbrev pub handler_graph : GraphParts
 handler_graph = graph_with 0x48 []
@@ -102,7 +105,7 @@ illegal_handler = handler_with 0x00000000 0x00000013
 -- a break in place of the closing's system call; the code is a return to the closing
 abbrev pub breaking_closing : Contents
 breaking_closing = record {
-  version = 1;
+  version = OneHart;
   init = [];
   code = bytes_of (take 15 prologue ++ 0x00100073 ∷ 0xff81bf83 ∷ 0xff818193 ∷ 0x001f8463 ∷ 0xfb9ff06f ∷ 0x000f8067 ∷ 0xfadff06f ∷ []);
 }
@@ -128,14 +131,14 @@ abbrev pub astray_call : Contents
 astray_call = image_with (code_from UNITS_START (V.Icall 1 88 1 ∷ V.Gate 1 ∷ V.Gate 1 ∷ V.Stop ∷ []))
 
 abbrev pub astray_call_graph : GraphParts
-astray_call_graph = graph_of 0x9c (Class 1 (0x40000094 ∷ []) ∷ []) (Site UNITS_START K.Call 1 ∷ [])
+astray_call_graph = graph_of 0x9c (Class sorts.Both 1 (0x40000094 ∷ []) ∷ []) (Site UNITS_START K.Call 1 ∷ [])
 
 -- a computed jump to x1 + 60, a target of its class that has no gate, so that the check halts there
 abbrev pub halted_jump : Contents
 halted_jump = image_with (code_from UNITS_START (V.Ijump First 1 60 1 ∷ V.Stop ∷ []))
 
 abbrev pub halted_jump_graph : GraphParts
-halted_jump_graph = graph_of 0x78 (Class 1 (0x40000074 ∷ []) ∷ []) (Site UNITS_START K.Jump 1 ∷ [])
+halted_jump_graph = graph_of 0x78 (Class sorts.Both 1 (0x40000074 ∷ []) ∷ []) (Site UNITS_START K.Jump 1 ∷ [])
 
 -- a computed transfer that goes where the walk does not, or does not go where its registers say
 pub record WrongTransfersAreUnsafe : Type 0 where
@@ -144,7 +147,7 @@ pub record WrongTransfersAreUnsafe : Type 0 where
 
 -- another word in place of one of the opening's; the code is a jump to a handler
 abbrev pub opening_with : ℕ → ℕ → Contents
-opening_with k word = record { version = 1; init = []; code = bytes_of (take k prologue ++ word ∷ drop (k + 1) prologue ++ 0xfc1ff06f ∷ []) }
+opening_with k word = record { version = OneHart; init = []; code = bytes_of (take k prologue ++ word ∷ drop (k + 1) prologue ++ 0xfc1ff06f ∷ []) }
 
 abbrev pub opening_graph : GraphParts
 opening_graph = graph_with 0x44 []
@@ -169,7 +172,7 @@ prologue_of_harts = map code_of (prologue_instrs version_2 version_2.units_from)
 -- other words in place of some of the opening's for several harts; the code is a jump to a handler
 abbrev pub opening_of_harts_with : ℕ → List ℕ → Contents
 opening_of_harts_with k words = record {
-  version = 2;
+  version = EightHarts;
   init = [];
   code = bytes_of (take k prologue_of_harts ++ words ++ drop (k + length words) prologue_of_harts ++ 0xfb1ff06f ∷ []);
 }
@@ -179,7 +182,7 @@ abbrev pub one_pointer : Contents
 one_pointer = opening_of_harts_with 8 (0x00000013 ∷ [])
 
 abbrev pub one_pointer_graph : GraphParts
-one_pointer_graph = record { version = 1; code = 0x54; lines = Call START version_2.units_from ∷ [] }
+one_pointer_graph = record { version = OneLabel; code = 0x54; lines = Call START version_2.units_from ∷ [] }
 
 -- an opening that sets up hart 0 alone: a run of hart 1 shows it
 abbrev pub SharedPartsAreUnsafe : Type 0
@@ -211,12 +214,12 @@ bare_exit = calling 0x05d00893
 
 -- a bare system call that hart 0 passes by
 abbrev pub second_call : Contents
-second_call = record { version = 2; init = []; code = bytes_of (prologue_of_harts ++ 0x00050463 ∷ 0x00000073 ∷ 0xfa9ff06f ∷ []) }
+second_call = record { version = EightHarts; init = []; code = bytes_of (prologue_of_harts ++ 0x00050463 ∷ 0x00000073 ∷ 0xfa9ff06f ∷ []) }
 
 -- a closing that calls with 64; the code is a return to it
 abbrev pub other_closing : Contents
 other_closing = record {
-  version = 1;
+  version = OneHart;
   init = [];
   code = bytes_of (take 14 prologue ++ 0x04000893 ∷ 0x00000073 ∷ 0xff81bf83 ∷ 0xff818193 ∷ 0x001f8463 ∷ 0xfb9ff06f ∷ 0x000f8067 ∷ 0xfadff06f ∷ []);
 }

@@ -1,5 +1,5 @@
 -- The walk along a graph: from what stands at an address, with the sites that are pending, to the
--- next address and the sites pending there. Pending sites stand newest first.
+-- next address and the sites pending there, whatever the registers are. Pending sites stand newest first.
 use Rattle.std.specs.Prelude.{◌≡◌, ℕ, ◌<◌, ◌⊎◌, Bool, true, false, IsTrue, List, [], ◌∷◌, length}
 use Rattle.rv_word.specs.MemoryMap.{Profile}
 use Rattle.cfi_graph.specs.declared.line.GraphLine.{GraphLine}
@@ -13,6 +13,7 @@ use Rattle.cfi_unit.specs.declared.target_word.TargetWord.{TargetWord}
 use Rattle.cfi_unit.specs.declared.target_word.TargetWord.TheVariants.{First}
 use Rattle.cfi_unit.specs.Flow as F
 use Rattle.cfi_unit.specs.Flow.{Exit, Flow, Sites, Test, flow_of}
+use Rattle.cfi_unit.specs.Leads.{Legal}
 use Rattle.cfi_unit.specs.Shadow.{MOST_PENDING}
 use Rattle.cfi_unit.specs.UnitWords.{BAD_TARGET, BAD_RETURN, DEEP, after_unit}
 use Rattle.cfi_rules.specs.Lines.{holds_of, targets_for, is_among}
@@ -20,6 +21,11 @@ use Rattle.cfi_rules.specs.Lines.{holds_of, targets_for, is_among}
 -- an address is a target of the class with a label that serves such a transfer
 abbrev pub InClass : List GraphLine → SiteKind → TargetWord → ℕ → ℕ → Type 0
 InClass lines kind which label v = IsTrue (holds_of (targets_for lines kind which label) (is_among v))
+
+-- the computed destinations that are legal for the walk: a transfer that puts its site on top is a call
+abbrev pub by_class : List GraphLine → Legal
+by_class lines F.pushes which label v = InClass lines K.Call which label v
+by_class lines other which label v = InClass lines K.Jump which label v
 
 abbrev pub is_some_target : List ℕ → Bool
 is_some_target [] = false

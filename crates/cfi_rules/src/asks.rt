@@ -3,6 +3,7 @@ ghost use Rattle.cfi_rules.specs.Rules.{jump_word};
 
 use cfi_graph::SiteKind;
 use cfi_unit::TargetWord;
+use rv_word::GraphVersion;
 
 /// What a computed transfer asks for: a class with a label that serves transfers of its kind whose
 /// checks read this word of their destinations.
@@ -17,12 +18,11 @@ pub struct Asks {
 }
 
 /// Which word of its destination a computed jump's check reads, in code whose graph has this version.
-pub fn jump_word(version: u8) -> TargetWord
+pub fn jump_word(version: GraphVersion) -> TargetWord
     ensures { result ≡ jump_word version }
 {
-    if version == 2 {
-        TargetWord::Second
-    } else {
-        TargetWord::First
+    match version {
+        GraphVersion::OneLabel => TargetWord::First,
+        GraphVersion::TwoLabels => TargetWord::Second,
     }
 }

@@ -1,6 +1,6 @@
 //! What holds of accepted pairs and of their runs, and of units placed one after another. Each function
 //! states one law; nothing is computed.
-ghost use Rattle.cfi_rules.specs.Laws.{CodeIsSplit, MachineMayStart, WellFormedIsSafe, SafeStaysInPlace, SafeWalksGraph};
+ghost use Rattle.cfi_rules.specs.Laws.{CodeIsSplit, MachineMayStart, ReadUnits, SafeAsRecognised, WellFormedIsSafe, SafeStaysInPlace, SafeWalksGraph};
 ghost use Rattle.cfi_rules.specs.Listed.{WellFormedIsListed};
 ghost use Rattle.cfi_rules.specs.PlacedLaws.{PlacedAreSplit, PlacedEntry, PlacedIsGraph, PlacedIsWellFormed, PlacedUnits, SplitUnits};
 ghost use Rattle.cfi_rules.specs.Unsafe.{MiddleIsUnsafe, BareReturnIsUnsafe, BareStoreIsUnsafe, MovedPointerIsUnsafe, WrongStopsAreUnsafe, WrongTransfersAreUnsafe, WrongShadowsAreUnsafe, SharedPartsAreUnsafe, BareCallIsNotListed, WrongDeedsAreUnsafe};
@@ -20,6 +20,16 @@ pub fn well_formed_is_listed()
 /// exactly where one of the split does.
 pub fn code_is_split()
     ensures { CodeIsSplit }
+{}
+
+/// The units that a code's words decode to are those that are recognised: so a code is read in one way alone.
+pub fn read_units()
+    ensures { ReadUnits }
+{}
+
+/// The runs of a safe pair go along the graph with what is recognised at each address.
+pub fn safe_as_recognised()
+    ensures { SafeAsRecognised }
 {}
 
 /// A run of the machine starts where runs may start, of which safety speaks: whoever runs an image otherwise may

@@ -4,6 +4,7 @@ use Rattle.std.proofs.Common.{◌≡◌, ℕ, zero, suc, ◌+◌, ◌*◌, ◌-�
 use Rattle.std.specs.Prelude.{nat_le, nat_lt, slice_get, slice_index}
 use Rattle.std.specs.List.{list_all}
 use Rattle.std.proofs.lemmas.Bool.{cases_Bool, cond_both, and_parts, eqb-true, ltb-true}
+use Rattle.rv_word.specs.declared.version.ImageVersion.TheVariants.{OneHart}
 use Rattle.rv_word.specs.Image.{Contents}
 use Rattle.rv_word.specs.MemoryMap.{CODE_START, DATA_START, version_1}
 use Rattle.rv_word.specs.Memory.{loaded, placed, read}
@@ -33,7 +34,7 @@ use Rattle.cfi_runs.proofs.WholeRun.{run_keeps_match}
 -- after the prologue `addi x10,x0,7`, `sd x5,-8(x2)` and `sd x6,-16(x2)` behind one mask, a return, and a stop
 abbrev pub image : Contents
 image = record {
-  version = 1;
+  version = OneHart;
   init = [];
   code = 115 ∷ 0 ∷ 16 ∷ 0 ∷ 115 ∷ 0 ∷ 16 ∷ 0 ∷ 115 ∷ 0 ∷ 16 ∷ 0 ∷ 55 ∷ 1 ∷ 0 ∷ 16 ∷ 183 ∷ 1 ∷ 0 ∷ 96 ∷ 147 ∷ 129 ∷ 129 ∷ 0 ∷ 19 ∷ 159 ∷ 1 ∷ 3 ∷ 99 ∷ 20 ∷ 15 ∷ 0 ∷ 111 ∷ 240 ∷ 159 ∷ 254 ∷ 23 ∷ 15 ∷ 0 ∷ 0 ∷ 19 ∷ 15 ∷ 79 ∷ 1 ∷ 35 ∷ 176 ∷ 225 ∷ 1 ∷ 147 ∷ 129 ∷ 129 ∷ 0 ∷ 239 ∷ 0 ∷ 192 ∷ 0 ∷ 147 ∷ 8 ∷ 208 ∷ 5 ∷ 115 ∷ 0 ∷ 0 ∷ 0 ∷ 19 ∷ 5 ∷ 112 ∷ 0 ∷ 147 ∷ 15 ∷ 1 ∷ 255 ∷ 147 ∷ 159 ∷ 79 ∷ 2 ∷ 147 ∷ 223 ∷ 79 ∷ 2 ∷ 35 ∷ 180 ∷ 95 ∷ 0 ∷ 35 ∷ 176 ∷ 111 ∷ 0 ∷ 131 ∷ 191 ∷ 129 ∷ 255 ∷ 147 ∷ 129 ∷ 129 ∷ 255 ∷ 99 ∷ 132 ∷ 31 ∷ 0 ∷ 111 ∷ 240 ∷ 31 ∷ 250 ∷ 103 ∷ 128 ∷ 15 ∷ 0 ∷ 111 ∷ 240 ∷ 95 ∷ 249 ∷ [];
 }

@@ -2,6 +2,7 @@
 use Rattle.std.proofs.Common.{◌≡◌, ℕ, ◌+◌, ◌*◌, ◌/◌, ◌%◌, ◌<◌, ◌≤◌, List, [], ◌∷◌, ◌++◌, length, min, get_or, set, take, drop, Some, None, inl, inr, refl, sym, ap, ◌∙◌, subst, arith}
 use Rattle.std.proofs.lemmas.List.{append-nil, length_push, length-append, take-append-le, take_more_set, take_all, nil_from_length}
 use Rattle.std.proofs.lemmas.Bool.{cases_eq, eq-eqb, ne_eqb}
+use Rattle.rv_word.specs.declared.version.ImageVersion.{ImageVersion}
 use Rattle.rv_word.specs.MemoryMap.{Profile, profile_of}
 use Rattle.cfi_reader.specs.declared.entry.Entry.{Entry}
 use Rattle.cfi_scan.specs.declared.kept.Kept.{Kept}
@@ -118,9 +119,9 @@ abbrev pub KeepsWords : Profile → Kept → List ℕ → Type 0
 KeepsWords p k words = KeepsUnder p k.units.calls k words
 
 -- the same under an equal version and list
-pub moved : {v w : ℕ} {calls others : List ℕ} → w ≡ v → others ≡ calls → (k : Kept) (words : List ℕ) → KeepsUnder (profile_of v) calls k words → KeepsUnder (profile_of w) others k words
+pub moved : {v w : ImageVersion} {calls others : List ℕ} → w ≡ v → others ≡ calls → (k : Kept) (words : List ℕ) → KeepsUnder (profile_of v) calls k words → KeepsUnder (profile_of w) others k words
 moved {v} {w} {calls} {others} version list k words keeps =
-    subst (λ (n : ℕ). KeepsUnder (profile_of n) others k words) (sym version) (subst (λ (ns : List ℕ). KeepsUnder (profile_of v) ns k words) (sym list) keeps)
+    subst (λ (n : ImageVersion). KeepsUnder (profile_of n) others k words) (sym version) (subst (λ (ns : List ℕ). KeepsUnder (profile_of v) ns k words) (sym list) keeps)
 
 abbrev pub sight : Profile → Kept → Taken → Sight
 sight p k t = record {

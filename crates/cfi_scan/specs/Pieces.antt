@@ -1,5 +1,6 @@
 -- A code that comes in pieces: what is kept of all the bytes that came.
 use Rattle.std.specs.Prelude.{◌≡◌, ℕ, ◌+◌, ◌*◌, ◌-◌, ◌/◌, ◌<◌, ◌≤◌, min, List, [], ◌∷◌, length, take, drop}
+use Rattle.rv_word.specs.declared.version.ImageVersion.{ImageVersion}
 use Rattle.rv_word.specs.MemoryMap.{CODE_SIZE, CODE_START, Profile}
 use Rattle.cfi_reader.specs.declared.entry.Entry.{Entry}
 use Rattle.cfi_reader.specs.declared.reader.Reader.{Reader}
@@ -32,7 +33,7 @@ HasPlace p entries = p.units_from + 4 * length entries ≤ CODE_START + CODE_SIZ
 -- that have ended, where the last of these starts, how far the next one is read, the bytes of the word that is
 -- not whole, and how many bytes came
 pub record Sight : Type 0 where
-  pub version : ℕ
+  pub version : ImageVersion
   pub calls : List ℕ
   pub prologue : List ℕ
   pub entries : List Entry
@@ -62,7 +63,7 @@ pub record HasSeen (p : Profile) (s : Sight) (bytes : List ℕ) : Type 0 where
 
 -- what is left of a code that has ended
 pub record Listed : Type 0 where
-  pub version : ℕ
+  pub version : ImageVersion
   pub prologue : List ℕ
   pub entries : List Entry
   pub done : ℕ

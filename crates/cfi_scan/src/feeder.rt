@@ -8,7 +8,7 @@ use crate::kept::Kept;
 use crate::listing::Listing;
 use crate::splitter::Splitter;
 use crate::steps::Steps;
-use rv_word::{NoMemory, Numbers};
+use rv_word::{ImageVersion, NoMemory, Numbers};
 use std::alloc::Global;
 use std::marker::Model;
 use std::sync::ledger::Ledger;
@@ -47,7 +47,7 @@ impl Feeder {
     /// No byte yet, and room for a code of so many words, of a version, under a list of system calls if there is one.
     pub fn new(
         alloc: Global,
-        version: u8,
+        version: ImageVersion,
         calls: Option<Numbers>,
         words: usize,
     ) -> Result<Feeder, NoMemory>

@@ -2,23 +2,24 @@ ghost use Rattle.std.specs.Prelude.{◌≡◌, ◌+◌, ◌*◌, ◌≤◌};
 ghost use Rattle.rv_word.specs.MemoryMap.{CODE_START, profile_of};
 ghost use Rattle.cfi_scan.specs.Pieces.{prologue_count};
 
+use rv_word::ImageVersion;
 use rv_word::profile::{UNITS_START, UNITS_START_OF_HARTS};
 use std::marker::Model;
 
 /// A version of images, and what it says of the words before the units, which is asked at each word.
 #[derive(Drop)]
 pub(crate) struct Front {
-    version: u8,
+    version: ImageVersion,
     words: usize,
     start: u64,
 }
 
 impl Model for Front {
-    ghost use Rattle.std.specs.Prelude.{ℕ};
+    ghost use Rattle.rv_word.specs.declared.version.ImageVersion.{ImageVersion};
     ghost use Rattle.rv_word.specs.MemoryMap.{profile_of};
     ghost use Rattle.cfi_scan.specs.Pieces.{IsFront};
 
-    ghost Value = { ℕ };
+    ghost Value = { ImageVersion };
 
     ghost view = { λ f. f.version };
 
@@ -26,27 +27,26 @@ impl Model for Front {
 }
 
 impl Front {
-    /// That of a version: each number but 1 stands for the second.
-    pub(crate) fn new(version: u8) -> Self
+    /// That of a version.
+    pub(crate) fn new(version: ImageVersion) -> Self
         ensures { result ≡ version }
     {
-        if version == 1 {
-            Front {
+        match version {
+            ImageVersion::OneHart => Front {
                 version,
                 words: 16,
                 start: UNITS_START,
-            }
-        } else {
-            Front {
+            },
+            ImageVersion::EightHarts => Front {
                 version,
                 words: 20,
                 start: UNITS_START_OF_HARTS,
-            }
+            },
         }
     }
 
     /// The version.
-    pub(crate) fn version(&self) -> u8
+    pub(crate) fn version(&self) -> ImageVersion
         ensures { result ≡ self.now }
     {
         self.version

@@ -6,7 +6,7 @@ ghost use Rattle.cfi_scan.specs.Pieces.{HasPlace, IsCut, Keeps, prologue_count};
 use crate::front::Front;
 use crate::splitter::Splitter;
 use crate::steps::Steps;
-use rv_word::{NoMemory, Numbers};
+use rv_word::{ImageVersion, NoMemory, Numbers};
 use std::alloc::Global;
 use std::sync::ledger::Ledger;
 
@@ -21,7 +21,7 @@ impl Kept {
     /// No word yet, and room for a code of so many, under a list of system calls.
     pub(crate) fn new(
         alloc: Global,
-        version: u8,
+        version: ImageVersion,
         calls: Numbers,
         words: usize,
     ) -> Result<Kept, NoMemory>

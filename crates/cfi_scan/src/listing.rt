@@ -7,6 +7,7 @@ ghost use Rattle.cfi_scan.specs.Pieces.{prologue_count};
 use crate::front::Front;
 use crate::packed::Packed;
 use cfi_reader::Entry;
+use rv_word::ImageVersion;
 use std::marker::Model;
 
 /// What is left of a code that has ended: the words of its prologue, and one entry for each word after
@@ -88,7 +89,7 @@ impl Listing {
     }
 
     /// The version.
-    pub fn version(&self) -> u8
+    pub fn version(&self) -> ImageVersion
         ensures { result ≡ self.now.version }
     {
         self.front.version()

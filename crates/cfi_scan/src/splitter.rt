@@ -8,7 +8,7 @@ ghost use Rattle.cfi_scan.specs.Stream.{IsSplitUp, Splits};
 use crate::front::Front;
 use crate::packed::Packed;
 use cfi_reader::{Entry, First, Reader, Step, first_word, is_plain_word, next};
-use rv_word::{NoMemory, Numbers};
+use rv_word::{ImageVersion, NoMemory, Numbers};
 use std::alloc::Global;
 
 /// The units of the words so far, under a list of system calls, which has no number where there is none: one entry for each word that there is room for, how many words belong
@@ -27,7 +27,7 @@ impl Splitter {
     /// No word yet, and room for some, under a list of system calls.
     pub(crate) fn new(
         alloc: Global,
-        version: u8,
+        version: ImageVersion,
         calls: Numbers,
         room: usize,
     ) -> Result<Splitter, NoMemory>

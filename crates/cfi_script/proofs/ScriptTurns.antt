@@ -5,14 +5,15 @@ use Rattle.std.proofs.lemmas.Bool.{ne_eqb}
 use Rattle.std.proofs.lemmas.Option.{same_Some}
 use Rattle.rv_word.proofs.Cases.{cases_Option}
 use Rattle.rv_word.specs.declared.profile.TheConstants.{MOST_HARTS}
-use Rattle.text_lines.specs.Answers.{Answers}
+use Rattle.rv_word.specs.declared.end.End.{End}
+use Rattle.rv_word.specs.declared.end.End.TheVariants.{Fault, NoMemory}
+use Rattle.text_lines.specs.Answers.{Answers, line_fault}
 use Rattle.text_lines.specs.Lines.{lines_of, words_of}
 use Rattle.text_lines.specs.Reading.{if_right}
-use Rattle.text_lines.specs.declared.end.TextEnd.{TextEnd}
-use Rattle.text_lines.specs.declared.end.TextEnd.TheVariants.{Line, NoMemory}
 use Rattle.text_lines.specs.declared.reason.Reason.TheVariants.{Form, Range}
 use Rattle.text_lines.proofs.Cuts.{some_part}
 use Rattle.text_lines.proofs.Steps.{some_line}
+use Rattle.text_lines.specs.declared.fault.LineFault.{LineFault}
 use Rattle.cfi_script.specs.Script.{ScriptParts}
 use Rattle.cfi_script.specs.ScriptNumbers.{first_turn}
 use Rattle.cfi_script.specs.ScriptText.{TurnsRead, changes_of_lines, for_one, for_several, harts_of, turn_in_range, turn_of, turns_read, with_harts, with_turn_line}
@@ -70,51 +71,51 @@ is_allowed true turn given e = (refl, sym (same_Some turn given e))
 is_allowed false turn given e = absurd cc
 
 -- what is read with these turns before it
-abbrev pub with_turns : Turns → Result TurnsRead TextEnd → Result TurnsRead TextEnd
+abbrev pub with_turns : Turns → Result TurnsRead (End LineFault) → Result TurnsRead (End LineFault)
 with_turns front later = if_right later (λ read. Ok (record read { turns = front ++ read.turns }))
 
-pub no_turns : (later : Result TurnsRead TextEnd) → with_turns [] later ≡ later
+pub no_turns : (later : Result TurnsRead (End LineFault)) → with_turns [] later ≡ later
 no_turns (Ok read) = refl
 no_turns (Err end) = refl
 
-one_more : (front : Turns) (turn : ℕ × ℕ) (later : Result TurnsRead TextEnd)
+one_more : (front : Turns) (turn : ℕ × ℕ) (later : Result TurnsRead (End LineFault))
     → with_turns (front ++ turn ∷ []) later ≡ with_turns front (if_right later (λ read. Ok (record read { turns = turn ∷ read.turns })))
 one_more front turn (Ok read) =
-    let told : Turns → Result TurnsRead TextEnd = λ ts. Ok (record read { turns = ts }) in
+    let told : Turns → Result TurnsRead (End LineFault) = λ ts. Ok (record read { turns = ts }) in
     ap told (append_assoc front (turn ∷ []) read.turns)
 one_more front turn (Err end) = refl
 
-module _ (harts number : ℕ) (front : Turns) (lines : List (List ℕ)) (whole : Result TurnsRead TextEnd) (before : with_turns front (turns_read harts number lines) ≡ whole) where
+module _ (harts number : ℕ) (front : Turns) (lines : List (List ℕ)) (whole : Result TurnsRead (End LineFault)) (before : with_turns front (turns_read harts number lines) ≡ whole) where
   pub no_more : first_turn lines ≡ None → whole ≡ Ok (record { turns = front; number = number; rest = lines })
   no_more none =
-      let told : Turns → Result TurnsRead TextEnd = λ ts. Ok (record { turns = ts; number = number; rest = lines }) in
+      let told : Turns → Result TurnsRead (End LineFault) = λ ts. Ok (record { turns = ts; number = number; rest = lines }) in
       sym before ∙ ap (with_turns front) (turns_end harts number lines none) ∙ ap told (append-nil front)
 
-  pub out_of_range : (turn : ℕ × ℕ) (rest : List (List ℕ)) → first_turn lines ≡ Some (turn, rest) → turn_in_range harts turn ≡ false → whole ≡ Err (Line number Range)
+  pub out_of_range : (turn : ℕ × ℕ) (rest : List (List ℕ)) → first_turn lines ≡ Some (turn, rest) → turn_in_range harts turn ≡ false → whole ≡ Err (line_fault number Range)
   out_of_range turn rest first past =
-      let refused : with_turn_line harts number turn (turns_read harts (number + 1) rest) ≡ Err (Line number Range) = rw past refl in
+      let refused : with_turn_line harts number turn (turns_read harts (number + 1) rest) ≡ Err (line_fault number Range) = rw past refl in
       sym before ∙ ap (with_turns front) (turns_next harts number lines rest turn first ∙ refused)
 
   pub turn_more : (after : Turns) (turn : ℕ × ℕ) (rest : List (List ℕ)) → first_turn lines ≡ Some (turn, rest) → turn_in_range harts turn ≡ true → after ≡ front ++ turn ∷ []
       → with_turns after (turns_read harts (number + 1) rest) ≡ whole
   turn_more after turn rest first within grown =
-      let later : Result TurnsRead TextEnd = turns_read harts (number + 1) rest in
+      let later : Result TurnsRead (End LineFault) = turns_read harts (number + 1) rest in
       let added : with_turn_line harts number turn later ≡ if_right later (λ read. Ok (record read { turns = turn ∷ read.turns })) = rw within refl in
       rw grown (one_more front turn later) ∙ ap (with_turns front) (sym (turns_next harts number lines rest turn first ∙ added)) ∙ before
 
 -- ---- the lines before the turns
 
 module _ {parts : List (List ℕ)} {line : List ℕ} where
-  pub second_alone : parts ≡ line ∷ [] → for_several parts ≡ Err (Line 2 Form)
+  pub second_alone : parts ≡ line ∷ [] → for_several parts ≡ Err (line_fault 2 Form)
   unfolding for_several
   second_alone p = rw p refl
 
-  pub second_form : (rest : List ℕ) → parts ≡ line ∷ lines_of rest → harts_of (words_of line) ≡ None → for_several parts ≡ Err (Line 2 Form)
+  pub second_form : (rest : List ℕ) → parts ≡ line ∷ lines_of rest → harts_of (words_of line) ≡ None → for_several parts ≡ Err (line_fault 2 Form)
   unfolding for_several
   second_form rest p e = some_line rest (λ part others q. rw (p, q, e) refl)
 
   module _ (rest : List ℕ) (harts : ℕ) (first : parts ≡ line ∷ lines_of rest) (given : harts_of (words_of line) ≡ Some harts) where
-    pub second_range : (nat_le 1 harts && nat_le harts MOST_HARTS) ≡ false → for_several parts ≡ Err (Line 2 Range)
+    pub second_range : (nat_le 1 harts && nat_le harts MOST_HARTS) ≡ false → for_several parts ≡ Err (line_fault 2 Range)
     unfolding for_several
     second_range past = some_line rest (λ part others q. rw (first, q, given, past) refl)
 
@@ -123,19 +124,19 @@ module _ {parts : List (List ℕ)} {line : List ℕ} where
     second_right within = some_line rest (λ part others q. rw (first, q, given, within) refl)
 
 -- a turn that is refused
-pub turns_refused : (harts : ℕ) (lines : List (List ℕ)) (end : TextEnd) → Answers {A = TurnsRead} (Err end) (turns_read harts 3 lines) → Answers {A = ScriptParts} (Err end) (with_harts harts lines)
-turns_refused harts lines (Line n reason) e = rw e refl
+pub turns_refused : (harts : ℕ) (lines : List (List ℕ)) (end : End LineFault) → Answers {A = TurnsRead} (Err end) (turns_read harts 3 lines) → Answers {A = ScriptParts} (Err end) (with_harts harts lines)
+turns_refused harts lines (Fault fault) e = rw e refl
 turns_refused harts lines NoMemory e = tt
 
 -- turns that are read, and what comes of the lines after them
-pub turns_right : (harts : ℕ) (lines : List (List ℕ)) (turns : TurnsRead) (answer : Result ScriptParts TextEnd) → turns_read harts 3 lines ≡ Ok turns
+pub turns_right : (harts : ℕ) (lines : List (List ℕ)) (turns : TurnsRead) (answer : Result ScriptParts (End LineFault)) → turns_read harts 3 lines ≡ Ok turns
     → Answers answer (if_right (changes_of_lines turns.number turns.rest) (λ changes. Ok (record { harts = harts; turns = turns.turns; changes = changes }))) → Answers answer (with_harts harts lines)
 turns_right harts lines turns answer e right = rw e right
 
 -- ---- the first line
 
-pub lone : (which : ℕ) (lines : List (List ℕ)) (answer : Result ScriptParts TextEnd) → which ≡ 0 → Answers answer (for_one lines) → Answers answer (if which == 0 then for_one lines else for_several lines)
+pub lone : (which : ℕ) (lines : List (List ℕ)) (answer : Result ScriptParts (End LineFault)) → which ≡ 0 → Answers answer (for_one lines) → Answers answer (if which == 0 then for_one lines else for_several lines)
 lone which lines answer e right = rw e right
 
-pub several : (which : ℕ) (lines : List (List ℕ)) (answer : Result ScriptParts TextEnd) → (which ≡ 0 → ⊥) → Answers answer (for_several lines) → Answers answer (if which == 0 then for_one lines else for_several lines)
+pub several : (which : ℕ) (lines : List (List ℕ)) (answer : Result ScriptParts (End LineFault)) → (which ≡ 0 → ⊥) → Answers answer (for_several lines) → Answers answer (if which == 0 then for_one lines else for_several lines)
 several which lines answer other right = rw (ne_eqb which 0 other) right

@@ -7,13 +7,14 @@ use Rattle.std.specs.Prelude.{ℕ, ◌+◌, ◌*◌, ◌==◌, nat_le, nat_lt, B
 use Rattle.std.specs.Str.{bytes_eq}
 use Rattle.rv_word.specs.MemoryMap.{DATA_END}
 use Rattle.rv_word.specs.declared.profile.TheConstants.{MOST_HARTS}
+use Rattle.rv_word.specs.declared.end.End.{End}
 use Rattle.text_lines.specs.Decimal.{MAX_STEP, capped, decimal}
 use Rattle.text_lines.specs.Hex.{digit_value, hex}
 use Rattle.text_lines.specs.Lines.{lines_of, words_of}
 use Rattle.text_lines.specs.Reading.{LineRules, if_right, one_named, read, whole}
-use Rattle.text_lines.specs.declared.end.TextEnd.{TextEnd}
-use Rattle.text_lines.specs.declared.end.TextEnd.TheVariants.{Line}
 use Rattle.text_lines.specs.declared.reason.Reason.TheVariants.{Form, Range}
+use Rattle.text_lines.specs.declared.fault.LineFault.{LineFault}
+use Rattle.text_lines.specs.Answers.{line_fault}
 use Rattle.cfi_script.specs.Script.{Changes, ScriptParts}
 use Rattle.cfi_script.specs.Turns.{Turns}
 use Rattle.cfi_script.specs.declared.script_line.ScriptLine.{ScriptLine}
@@ -67,7 +68,7 @@ script_rules = record {
 }
 
 -- the changes of the lines from the one with this number on; any step may come first, since none is below 0
-abbrev pub changes_of_lines : ℕ → List (List ℕ) → Result Changes TextEnd
+abbrev pub changes_of_lines : ℕ → List (List ℕ) → Result Changes (End LineFault)
 changes_of_lines number lines = whole (read script_rules 0 number lines)
 
 -- the count of harts that a line of these words gives, if it gives one
@@ -87,7 +88,7 @@ abbrev pub turn_in_range : ℕ → ℕ × ℕ → Bool
 turn_in_range harts turn = nat_lt turn.0 harts && nat_le 1 turn.1 && nat_le turn.1 MAX_STEP
 
 -- what comes of a line that may be a turn
-abbrev pub or_no_turn : {A : Type 0} → Option (ℕ × ℕ) → A → (ℕ × ℕ → Result A TextEnd) → Result A TextEnd
+abbrev pub or_no_turn : {A : Type 0} → Option (ℕ × ℕ) → A → (ℕ × ℕ → Result A (End LineFault)) → Result A (End LineFault)
 or_no_turn None otherwise next = Ok otherwise
 or_no_turn (Some turn) otherwise next = next turn
 
@@ -98,34 +99,34 @@ pub record TurnsRead : Type 0 where
   pub rest : List (List ℕ)
 
 -- what a turn adds, where it is in range, to those that are read after it
-abbrev pub with_turn_line : ℕ → ℕ → ℕ × ℕ → Result TurnsRead TextEnd → Result TurnsRead TextEnd
+abbrev pub with_turn_line : ℕ → ℕ → ℕ × ℕ → Result TurnsRead (End LineFault) → Result TurnsRead (End LineFault)
 with_turn_line harts number turn later =
-    if turn_in_range harts turn then if_right later (λ read. Ok (record read { turns = turn ∷ read.turns })) else Err (Line number Range)
+    if turn_in_range harts turn then if_right later (λ read. Ok (record read { turns = turn ∷ read.turns })) else Err (line_fault number Range)
 
 -- the turns of so many harts from the line with a number on, up to the first line that is none
-unfoldable pub turns_read : ℕ → ℕ → List (List ℕ) → Result TurnsRead TextEnd
+unfoldable pub turns_read : ℕ → ℕ → List (List ℕ) → Result TurnsRead (End LineFault)
 turns_read harts number (line ∷ next ∷ rest) =
     or_no_turn (turn_of (words_of line)) (record { turns = []; number = number; rest = line ∷ next ∷ rest })
     (λ turn. with_turn_line harts number turn (turns_read harts (number + 1) (next ∷ rest)))
 turns_read harts number lines = Ok (record { turns = []; number = number; rest = lines })
 
 -- the script of so many harts, from its third line on
-abbrev pub with_harts : ℕ → List (List ℕ) → Result ScriptParts TextEnd
+abbrev pub with_harts : ℕ → List (List ℕ) → Result ScriptParts (End LineFault)
 with_harts harts lines =
     if_right (turns_read harts 3 lines) (λ read.
     if_right (changes_of_lines read.number read.rest) (λ changes. Ok (record { harts = harts; turns = read.turns; changes = changes })))
 
 -- the second line gives the count of harts
-abbrev pub with_count : Option ℕ → List (List ℕ) → Result ScriptParts TextEnd
-with_count None lines = Err (Line 2 Form)
-with_count (Some harts) lines = if nat_le 1 harts && nat_le harts MOST_HARTS then with_harts harts lines else Err (Line 2 Range)
+abbrev pub with_count : Option ℕ → List (List ℕ) → Result ScriptParts (End LineFault)
+with_count None lines = Err (line_fault 2 Form)
+with_count (Some harts) lines = if nat_le 1 harts && nat_le harts MOST_HARTS then with_harts harts lines else Err (line_fault 2 Range)
 
-unfoldable pub for_several : List (List ℕ) → Result ScriptParts TextEnd
+unfoldable pub for_several : List (List ℕ) → Result ScriptParts (End LineFault)
 for_several (line ∷ next ∷ rest) = with_count (harts_of (words_of line)) (next ∷ rest)
-for_several lines = Err (Line 2 Form)
+for_several lines = Err (line_fault 2 Form)
 
 -- a script for one hart has no turns
-abbrev pub for_one : List (List ℕ) → Result ScriptParts TextEnd
+abbrev pub for_one : List (List ℕ) → Result ScriptParts (End LineFault)
 for_one lines = if_right (changes_of_lines 2 lines) (λ changes. Ok (record { harts = 1; turns = []; changes = changes }))
 
 -- the first lines that a script may have
@@ -133,6 +134,6 @@ abbrev pub script_names : List (List ℕ)
 script_names = codes "rvcfi-script 1" ∷ codes "rvcfi-script 2" ∷ []
 
 -- what a text is read as
-unfoldable pub script_of : List ℕ → Result ScriptParts TextEnd
+unfoldable pub script_of : List ℕ → Result ScriptParts (End LineFault)
 script_of text =
     if_right (one_named script_names (lines_of text)) (λ first. if first.0 == 0 then for_one first.1 else for_several first.1)

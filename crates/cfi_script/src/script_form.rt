@@ -10,11 +10,11 @@ use crate::script::Script;
 use crate::script_line::{ScriptLine, harts_of, line_of};
 use crate::script_turns::read_turns;
 use rv_machine::Change;
-use rv_word::NoMemory;
 use rv_word::memory_map::DATA_END;
 use rv_word::profile::MOST_HARTS;
+use rv_word::{End, NoMemory};
 use std::alloc::Global;
-use text_lines::{LineForm, MAX_STEP, Reason, TextEnd, after_one_of, cut, read_lines};
+use text_lines::{LineFault, LineForm, MAX_STEP, Reason, after_one_of, cut, read_lines};
 
 fn in_range(line: &ScriptLine) -> bool
     ensures { result ≡ in_range line.now }
@@ -90,7 +90,7 @@ fn with_changes(
     turns: Vec<(u8, u64)>,
     first: u64,
     text: &[u8],
-) -> Result<Script, TextEnd>
+) -> Result<Script, End<LineFault>>
     requires { first + length text.now < 2 ^ 64 }
     ensures exact { Answers result (if_right (changes_of_lines first (lines_of text.now))
         (λ changes. Ok (record { harts = harts; turns = turns.items; changes = changes }))) }
@@ -112,19 +112,19 @@ fn is_count(harts: u64) -> bool
 }
 
 /// The script for several harts that stands after the first line of a text.
-fn for_several(alloc: Global, text: &[u8]) -> Result<Script, TextEnd>
+fn for_several(alloc: Global, text: &[u8]) -> Result<Script, End<LineFault>>
     ensures exact { Answers result (for_several (lines_of text.now)) }
     ensures ordered { IfOk result (λ script. IsScript script.changes) }
 {
     let (line, rest) = cut(text, b'\n');
     let Some(rest) = rest else {
-        return Err(TextEnd::Line(2, Reason::Form));
+        return Err(End::Fault(LineFault(2, Reason::Form)));
     };
     let Some(harts) = harts_of(line) else {
-        return Err(TextEnd::Line(2, Reason::Form));
+        return Err(End::Fault(LineFault(2, Reason::Form)));
     };
     if !is_count(harts) {
-        return Err(TextEnd::Line(2, Reason::Range));
+        return Err(End::Fault(LineFault(2, Reason::Range)));
     }
     let harts = harts as u8;
     let mut turns = Vec::new(alloc);
@@ -134,7 +134,7 @@ fn for_several(alloc: Global, text: &[u8]) -> Result<Script, TextEnd>
 
 impl Script {
     /// Reads the text of a script, of which it keeps no copy. The lines of a text count from 1.
-    pub fn read(alloc: Global, text: &[u8]) -> Result<Script, TextEnd>
+    pub fn read(alloc: Global, text: &[u8]) -> Result<Script, End<LineFault>>
         // The right answer, but for want of memory.
         ensures exact { Answers result (script_of text.now) }
         ensures ordered { IfOk result (λ script. IsScript script.changes) }

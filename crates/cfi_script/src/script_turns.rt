@@ -7,7 +7,8 @@ ghost use Rattle.cfi_script.specs.ScriptNumbers.{first_turn};
 ghost use Rattle.cfi_script.specs.ScriptText.{turn_in_range, turns_read};
 
 use crate::script_line::turn_of;
-use text_lines::{MAX_STEP, Reason, TextEnd, cut};
+use rv_word::End;
+use text_lines::{LineFault, MAX_STEP, Reason, cut};
 
 /// The turn that the first line of a text is, if it is one and has a newline, and what stands after it.
 fn first_turn(text: &[u8]) -> Option<((u64, u64), &[u8])>
@@ -40,7 +41,7 @@ pub(crate) fn read_turns<'a>(
     turns: &mut Vec<(u8, u64)>,
     harts: u8,
     text: &'a [u8],
-) -> Result<(u64, &'a [u8]), TextEnd>
+) -> Result<(u64, &'a [u8]), End<LineFault>>
     requires { turns.old.items ≡ [] }
     ensures read { MatchResult result
         (λ r. turns_read harts 3 (lines_of text.now) ≡ Ok (record { turns = turns.new.items; number = r.0; rest = lines_of r.1.now }))
@@ -54,7 +55,7 @@ pub(crate) fn read_turns<'a>(
             return Ok((number, rest));
         };
         let Some(turn) = allowed(harts, turn) else {
-            return Err(TextEnd::Line(number, Reason::Range));
+            return Err(End::Fault(LineFault(number, Reason::Range)));
         };
         turns.push(turn)?;
         number += 1;

@@ -1,6 +1,7 @@
 -- One raw graph and one closed graph are right.
-use Rattle.std.proofs.Common.{◌≡◌, ℕ, suc, List, [], ◌∷◌, refl, sym, ap, map, subst, ◌∙◌, arith}
+use Rattle.std.proofs.Common.{◌≡◌, suc, List, [], ◌∷◌, refl, sym, ap, map, subst, ◌∙◌, arith}
 use Rattle.std.specs.List.{All}
+use Rattle.rv_word.specs.declared.version.GraphVersion.{GraphVersion}
 use Rattle.cfi_policy.specs.Policy.{PolicyParts}
 use Rattle.cfi_graph.specs.declared.line.Sort.{Sort}
 use Rattle.obj_program.specs.Program.{Program}
@@ -34,7 +35,7 @@ sides_unique raw (x ∷ xs) (y ∷ ys) sorts hx hy =
     ap (λ (s : Side). s ∷ xs) one ∙ ap (λ (ss : List Side). y ∷ ss) others
 
 -- the closed graph of a raw one, for a version of graphs
-pub closed_unique : (version : ℕ) (raw : RawGraph) (c d : ClosedGraph) → IsClosed version raw c → IsClosed version raw d → c ≡ d
+pub closed_unique : (version : GraphVersion) (raw : RawGraph) (c d : ClosedGraph) → IsClosed version raw c → IsClosed version raw d → c ≡ d
 closed_unique version raw c d hc hd =
     let of : c.version ≡ d.version = hc.version_is ∙ sym hd.version_is in
     let sides : c.sides ≡ d.sides = sides_unique raw c.sides d.sides (hc.sorts ∙ sym hd.sorts) hc.sides hd.sides in

@@ -1,6 +1,7 @@
 -- One program with one closed graph and one entry is right for a request.
 use Rattle.std.proofs.Common.{◌≡◌, ℕ, List, Option, Some, sym, ap, subst, ◌∙◌}
 use Rattle.std.proofs.lemmas.Option.{same_Some}
+use Rattle.rv_word.specs.declared.version.GraphVersion.{GraphVersion}
 use Rattle.rv_word.specs.Form.{graph_version}
 use Rattle.rv_word.specs.declared.form.Form.{Form}
 use Rattle.obj_program.specs.Program.{Program}
@@ -14,7 +15,7 @@ use Rattle.cfi_single.specs.OneWay.{PreparedInOneWay}
 use Rattle.cfi_single.proofs.Graphs.{closed_unique, raw_unique}
 
 -- the closed graph of a program, for a version of graphs, under the text of a policy
-pub closed_under_unique : (version : ℕ) (program : Program) (policy : Option (List ℕ)) (c d : ClosedGraph) → IsClosedUnder version program policy c
+pub closed_under_unique : (version : GraphVersion) (program : Program) (policy : Option (List ℕ)) (c d : ClosedGraph) → IsClosedUnder version program policy c
     → IsClosedUnder version program policy d → c ≡ d
 closed_under_unique version program policy c d hc hd =
     let (r, is_r, of_r) = hc.drawn in

@@ -3,9 +3,10 @@ use Rattle.std.proofs.Common.{◌≡◌, ℕ, true, false, inl, inr, List, Optio
 use Rattle.std.specs.Prelude.{IsSome}
 use Rattle.std.proofs.lemmas.Option.{same_Some}
 use Rattle.least.specs.declared.place.Place.{Place}
-use Rattle.text_lines.specs.declared.end.TextEnd.{TextEnd}
-use Rattle.text_lines.specs.declared.end.TextEnd.TheVariants.{Line}
 use Rattle.rv_word.specs.Form.{graph_version}
+use Rattle.rv_word.specs.declared.end.End.{End}
+use Rattle.rv_word.specs.declared.end.End.TheVariants.{Fault}
+use Rattle.text_lines.specs.declared.fault.LineFault.{LineFault}
 use Rattle.obj_program.specs.Program.{Program}
 use Rattle.cfi_flow.specs.Entry.{entry_place}
 use Rattle.cfi_flow.specs.Policy.{wrong_line}
@@ -41,11 +42,11 @@ stage request (R.RelocRange section offset) (p, prepared, x) = late p prepared x
 
 -- a policy under which a graph is closed has no wrong line
 no_wrong_policy : (program : Program) (policy : Option (List ℕ)) (n : ℕ) → IsWrongPolicy program policy n
-    → (end : Result (Unit {0}) TextEnd) → policy_end policy ≡ end → end ≡ Ok tt
+    → (end : Result (Unit {0}) (End LineFault)) → policy_end policy ≡ end → end ≡ Ok tt
     → wrong_line program (policy_asked policy) ≡ None → ⊥
 no_wrong_policy program policy n (inl wrong) end is whole right = absurd (cc)
 no_wrong_policy program policy n (inr (none, fails)) end is whole right =
-    subst (λ (e : Result (Unit {0}) TextEnd). FailsAt e n) (is ∙ whole) fails
+    subst (λ (e : Result (Unit {0}) (End LineFault)). FailsAt e n) (is ∙ whole) fails
 
 -- what is prepared is not refused before it is placed
 module _ (request : ProgramRequest) (p : PreparedParts) (prepared : IsPreparedOf request p) where
@@ -112,8 +113,8 @@ placed_one p (R.RelocRange section offset) other x y = absurd y
 placed_one p other b x y = absurd x
 
 -- the first wrong line is one
-fails_once : (end : Result (Unit {0}) TextEnd) (n m : ℕ) → FailsAt end n → FailsAt end m → n ≡ m
-fails_once (Err (Line number reason)) n m x y = sym x ∙ y
+fails_once : (end : Result (Unit {0}) (End LineFault)) (n m : ℕ) → FailsAt end n → FailsAt end m → n ≡ m
+fails_once (Err (Fault fault)) n m x y = sym x ∙ y
 fails_once other n m x y = absurd x
 
 wrong_once : (program : Program) (policy : Option (List ℕ)) (n m : ℕ) → IsWrongPolicy program policy n → IsWrongPolicy program policy m → n ≡ m

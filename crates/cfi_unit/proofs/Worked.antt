@@ -2,6 +2,7 @@
 -- first step.
 use Rattle.std.proofs.Common.{◌≡◌, ℕ, zero, suc, ◌+◌, ◌*◌, ◌^◌, ◌<◌, [], ◌∷◌, Some, None, inl, refl, arith}
 use Rattle.std.specs.Prelude.{slice_get}
+use Rattle.rv_word.specs.declared.version.ImageVersion.TheVariants.{OneHart}
 use Rattle.rv_word.specs.Image.{Contents}
 use Rattle.rv_word.specs.MemoryMap.{version_1, SHADOW_START}
 use Rattle.rv_word.specs.Memory.{read, loaded, placed}
@@ -17,7 +18,7 @@ use Rattle.cfi_unit.specs.UnitLaw.{Outcome}
 use Rattle.cfi_unit.proofs.UnitSteps.{unit_law}
 
 abbrev image_1 : Contents
-image_1 = record { version = 1; init = []; code = 115 ∷ 0 ∷ 16 ∷ 0 ∷ 115 ∷ 0 ∷ 16 ∷ 0 ∷ 115 ∷ 0 ∷ 16 ∷ 0 ∷ 55 ∷ 1 ∷ 0 ∷ 16 ∷ 183 ∷ 1 ∷ 0 ∷ 96 ∷ 147 ∷ 129 ∷ 129 ∷ 0 ∷ 19 ∷ 159 ∷ 1 ∷ 3 ∷ 99 ∷ 20 ∷ 15 ∷ 0 ∷ 111 ∷ 240 ∷ 159 ∷ 254 ∷ 23 ∷ 15 ∷ 0 ∷ 0 ∷ 19 ∷ 15 ∷ 79 ∷ 1 ∷ 35 ∷ 176 ∷ 225 ∷ 1 ∷ 147 ∷ 129 ∷ 129 ∷ 0 ∷ 239 ∷ 0 ∷ 192 ∷ 0 ∷ 147 ∷ 8 ∷ 208 ∷ 5 ∷ 115 ∷ 0 ∷ 0 ∷ 0 ∷ 19 ∷ 5 ∷ 112 ∷ 0 ∷ 147 ∷ 8 ∷ 208 ∷ 5 ∷ 115 ∷ 0 ∷ 0 ∷ 0 ∷ 111 ∷ 240 ∷ 95 ∷ 251 ∷ [] }
+image_1 = record { version = OneHart; init = []; code = 115 ∷ 0 ∷ 16 ∷ 0 ∷ 115 ∷ 0 ∷ 16 ∷ 0 ∷ 115 ∷ 0 ∷ 16 ∷ 0 ∷ 55 ∷ 1 ∷ 0 ∷ 16 ∷ 183 ∷ 1 ∷ 0 ∷ 96 ∷ 147 ∷ 129 ∷ 129 ∷ 0 ∷ 19 ∷ 159 ∷ 1 ∷ 3 ∷ 99 ∷ 20 ∷ 15 ∷ 0 ∷ 111 ∷ 240 ∷ 159 ∷ 254 ∷ 23 ∷ 15 ∷ 0 ∷ 0 ∷ 19 ∷ 15 ∷ 79 ∷ 1 ∷ 35 ∷ 176 ∷ 225 ∷ 1 ∷ 147 ∷ 129 ∷ 129 ∷ 0 ∷ 239 ∷ 0 ∷ 192 ∷ 0 ∷ 147 ∷ 8 ∷ 208 ∷ 5 ∷ 115 ∷ 0 ∷ 0 ∷ 0 ∷ 19 ∷ 5 ∷ 112 ∷ 0 ∷ 147 ∷ 8 ∷ 208 ∷ 5 ∷ 115 ∷ 0 ∷ 0 ∷ 0 ∷ 111 ∷ 240 ∷ 95 ∷ 251 ∷ [] }
 
 -- each word of the opening is the word of the image there
 words_1 : (k : ℕ) (i : Instr) → slice_get (opening_instrs version_1 0x40000040) k ≡ Some i → decoded (read 4 (loaded image_1) (OPENING + 4 * k)) ≡ Some i

@@ -12,7 +12,7 @@ use Rattle.cfi_unit.specs.UnitWords.{BAD_TARGET, BAD_RETURN, DEEP, after_unit, s
 use Rattle.cfi_unit.specs.Shadow.{MOST_PENDING}
 use Rattle.cfi_unit.specs.Flow as F
 use Rattle.cfi_unit.specs.Flow.{Act, Exit, Flow, Sites, flow_of}
-use Rattle.cfi_unit.specs.Leads.{Decides, destination}
+use Rattle.cfi_unit.specs.Leads.{Decides, by_label, destination}
 use Rattle.cfi_unit.specs.Leaving.{LeftTo, HaltsAt, CallsAt, Executes, StoresEach, masked, pushed}
 
 module _ (p : Profile) (part : ℕ) (image base : Memory) (may : Shared → Shared → Type 0) (h : Hart) (s : Shared) where
@@ -59,7 +59,7 @@ module _ (p : Profile) (part : ℕ) (image base : Memory) (may : Shared → Shar
 
   abbrev pub FlowDoes : Flow → ℕ → List ℕ → After → Type 0
   FlowDoes f following pending after =
-      Decides image h.regs f.test (ActDoes f.act f.exit f.sites following pending after)
+      Decides (by_label image) h.regs f.test f.sites (ActDoes f.act f.exit f.sites following pending after)
       (HaltsAt part image base BAD_TARGET pending h.regs (may s) after)
 
   -- from a unit before an address

@@ -1,6 +1,6 @@
 -- Where a unit leads: the next address, and the pending sites there. `r` holds the registers at the
--- unit's start, `following` is the address after it; a computed destination is legal where the word of
--- it that the check reads is the gate of the class's label.
+-- unit's start, `following` is the address after it. Which computed destinations are legal is a parameter: by a unit's
+-- words alone those that bear its label, for the walk along a graph the targets of its class.
 use Rattle.std.specs.Prelude.{◌≡◌, ◌≢◌, ℕ, ◌+◌, ◌*◌, ◌/◌, ◌%◌, ◌≤◌, ◌<◌, ◌⊎◌, true, false, List, [], ◌∷◌, length}
 use Rattle.rv_word.specs.Bits.{wrap}
 use Rattle.rv_word.specs.MemoryMap.{CODE_START, CODE_SIZE, Profile}
@@ -10,7 +10,6 @@ use Rattle.rv_instr.specs.Registers.{Registers, get_reg}
 use Rattle.rv_code.specs.Step.{offset}
 use Rattle.cfi_unit.specs.declared.target_word.TargetWord.{TargetWord}
 use Rattle.cfi_unit.specs.declared.unit.SystemOp.TheVariants as S
-use Rattle.cfi_unit.specs.declared.unit.Unit as U
 use Rattle.cfi_unit.specs.UnitWords.{BAD_TARGET, BAD_RETURN, DEEP, after_unit, past}
 use Rattle.cfi_unit.specs.Flow as F
 use Rattle.cfi_unit.specs.Flow.{Exit, Flow, Sites, Test, flow_of}
@@ -23,6 +22,13 @@ pub record HasLabel (image : Memory) (which : TargetWord) (label v : ℕ) : Type
   pub low : CODE_START ≤ v
   pub high : v + 4 ≤ CODE_START + CODE_SIZE
   pub word : read 4 image (v + past which) ≡ label * 4096 + 55
+
+-- which computed destinations are legal, by what becomes of the sites, by the word that is read and by the label
+abbrev pub Legal : Type 1
+Legal = Sites → TargetWord → ℕ → ℕ → Type 0
+
+abbrev pub by_label : Memory → Legal
+by_label image sites which label v = HasLabel image which label v
 
 -- the destination of a computed transfer before and after its low two bits are cleared
 abbrev pub sum_of : Registers → ℕ → ℕ → ℕ
@@ -41,18 +47,17 @@ Calls site pending after next target =
     ((length pending < MOST_PENDING) × (after ≡ site ∷ pending) × (next ≡ target))
     ⊎ ((length pending ≡ MOST_PENDING) × (after ≡ pending) × (next ≡ DEEP))
 
--- a computed transfer goes on where the word of its destination that it reads bears the label, and
--- halts where not
-abbrev pub Checks : Memory → TargetWord → ℕ → ℕ → Type 0 → Type 0 → Type 0
-Checks image which label v legal halted = (HasLabel image which label v × legal) ⊎ ((HasLabel image which label v → ⊥) × halted)
+-- a computed transfer goes on where its destination is legal, and halts where not
+abbrev pub Checks : Type 0 → Type 0 → Type 0 → Type 0
+Checks legal made halted = (legal × made) ⊎ ((legal → ⊥) × halted)
 
 -- a system call is made where its number is listed, and not where it is not
 abbrev pub Guards : List ℕ → ℕ → Type 0 → Type 0 → Type 0
 Guards numbers x made halted = ((is_listed x numbers ≡ true) × made) ⊎ ((is_listed x numbers ≡ false) × halted)
 
--- a return goes to the newest site and takes it off, or halts where x1 is another address
+-- a return, where a site is pending, goes to the newest one and takes it off, or halts where x1 is another address
 abbrev pub Returns : Registers → List ℕ → List ℕ → ℕ → Type 0
-Returns r [] after next = Goes [] after next BAD_RETURN
+Returns r [] after next = ⊥
 Returns r (site ∷ pending) after next =
     ((r 1 ≡ site) × Goes pending after next site)
     ⊎ ((r 1 ≢ site) × Goes (site ∷ pending) after next BAD_RETURN)
@@ -74,26 +79,18 @@ ExitLeads (F.after S.Ecall) sites following pending r after next = Goes pending 
 ExitLeads (F.after S.Ebreak) sites following pending r after next = ⊥
 
 -- what a test decides: a return's is in where it goes back to
-abbrev pub Decides : Memory → Registers → Test → Type 0 → Type 0 → Type 0
-Decides image r (F.listed numbers) made halted = Guards numbers (r 17) made halted
-Decides image r (F.borne which rs1 imm label) made halted = Checks image which label (destination r rs1 imm) made halted
-Decides image r other made halted = made
+abbrev pub Decides : Legal → Registers → Test → Sites → Type 0 → Type 0 → Type 0
+Decides legal r (F.listed numbers) sites made halted = Guards numbers (r 17) made halted
+Decides legal r (F.borne which rs1 imm label) sites made halted = Checks (legal sites which label (destination r rs1 imm)) made halted
+Decides legal r other sites made halted = made
 
-abbrev pub FlowLeads : Memory → Flow → ℕ → List ℕ → Registers → List ℕ → ℕ → Type 0
-FlowLeads image f following pending r after next =
-    Decides image r f.test (ExitLeads f.exit f.sites following pending r after next) (Goes pending after next BAD_TARGET)
+abbrev pub FlowLeads : Legal → Flow → ℕ → List ℕ → Registers → List ℕ → ℕ → Type 0
+FlowLeads legal f following pending r after next =
+    Decides legal r f.test f.sites (ExitLeads f.exit f.sites following pending r after next) (Goes pending after next BAD_TARGET)
 
--- from a unit before an address
-abbrev pub LeadsPast : Memory → U.Unit → ℕ → List ℕ → Registers → List ℕ → ℕ → Type 0
-LeadsPast image unit following pending r after next = FlowLeads image (flow_of unit) following pending r after next
-
--- from a unit at an address
-abbrev pub UnitLeads : Memory → U.Unit → ℕ → List ℕ → Registers → List ℕ → ℕ → Type 0
-UnitLeads image unit at pending r after next = LeadsPast image unit (after_unit unit at) pending r after next
-
--- handlers and the closing end the run; the opening calls the entry
-abbrev pub Leads : Profile → Memory → Place → ℕ → List ℕ → Registers → List ℕ → ℕ → Type 0
-Leads p image handler at pending r after next = ⊥
-Leads p image (opening entry) at pending r after next = Calls p.closing pending after next entry
-Leads p image closing at pending r after next = ⊥
-Leads p image (body unit) at pending r after next = UnitLeads image unit at pending r after next
+-- from what stands at an address: handlers and the closing end the run, the opening calls the entry
+abbrev pub Leads : Profile → Legal → Place → ℕ → List ℕ → Registers → List ℕ → ℕ → Type 0
+Leads p legal handler at pending r after next = ⊥
+Leads p legal (opening entry) at pending r after next = Calls p.closing pending after next entry
+Leads p legal closing at pending r after next = ⊥
+Leads p legal (body unit) at pending r after next = FlowLeads legal (flow_of unit) (after_unit unit at) pending r after next

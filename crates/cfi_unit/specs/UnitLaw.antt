@@ -21,7 +21,7 @@ use Rattle.cfi_unit.specs.Place.{Place, handler, opening, closing, body, place_i
 use Rattle.cfi_unit.specs.Shadow.{IsPart, slot, MOST_PENDING}
 use Rattle.cfi_unit.specs.Stand.{Stand}
 use Rattle.cfi_unit.specs.Context.{Kept, Context}
-use Rattle.cfi_unit.specs.Leads.{Leads}
+use Rattle.cfi_unit.specs.Leads.{Leads, by_label}
 use Rattle.cfi_unit.specs.InPlace.{InPlace}
 
 abbrev pub Exits : Turn → Type 0
@@ -55,7 +55,7 @@ pub data Outcome (p : Profile) (part : ℕ) (image base : Memory) (place : Place
       Outcome p part image base place at pending r after
   leaves : (newer : List ℕ) → after.turn ≡ Ran → Context part image base newer after.shared →
       (after.hart.regs 3 ≡ slot part (length newer)) ⊎ (after.hart.pc < OPENING) →
-      Leads p image place at pending r newer after.hart.pc → Outcome p part image base place at pending r after
+      Leads p (by_label image) place at pending r newer after.hart.pc → Outcome p part image base place at pending r after
   ends : Ends place at after.turn → Kept part image base pending after.shared.memory →
       Outcome p part image base place at pending r after
 

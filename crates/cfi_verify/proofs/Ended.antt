@@ -1,5 +1,6 @@
 -- A scan that has come to the length that the graph gives: what its listing tells of the code.
 use Rattle.std.proofs.Common.{◌≡◌, ℕ, ◌-◌, ◌/◌, List, length, sym, ap, subst, ◌∙◌, arith}
+use Rattle.rv_word.specs.declared.version.ImageVersion.{ImageVersion}
 use Rattle.rv_word.specs.Image.{Contents}
 use Rattle.rv_word.specs.MemoryMap.{Profile, profile_of}
 use Rattle.rv_word.proofs.Versions.{is_profile, laid_out}
@@ -40,11 +41,11 @@ module _ (self : Scanned) (starts : StartParts) (t : Listed) (graph : GraphParts
   pub told_of : (words : List ℕ) → Tells (profile_of self.seen.version) (numbers_in self.graph) t words → Tells (profile_in starts) (numbers_in starts.graph) starts.listing words
   told_of words told =
       subst (λ (s : StartParts). Tells (profile_in s) (numbers_in s.graph) s.listing words) (sym kept)
-      (subst (λ (v : ℕ). Tells (profile_of v) (numbers_in graph) t words) (sym version)
+      (subst (λ (v : ImageVersion). Tells (profile_of v) (numbers_in graph) t words) (sym version)
       (subst (λ (g : GraphParts). Tells (profile_of self.seen.version) (numbers_in g) t words) (sym same) told))
 
   pub asked : (P : Profile → GraphParts → Type 0) → P (profile_in starts) starts.graph → P (profile_of self.seen.version) self.graph
   asked P holds =
       subst (λ (g : GraphParts). P (profile_of self.seen.version) g) same
-      (subst (λ (v : ℕ). P (profile_of v) graph) version
+      (subst (λ (v : ImageVersion). P (profile_of v) graph) version
       (subst (λ (s : StartParts). P (profile_in s) s.graph) kept holds))

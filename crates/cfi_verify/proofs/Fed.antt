@@ -3,6 +3,7 @@ use Rattle.std.proofs.Common.{◌≡◌, ◌<◌, ℕ, ◌+◌, List, [], ◌∷
 use Rattle.std.specs.List.{concat}
 use Rattle.std.proofs.lemmas.List.{append-nil, drop_more}
 use Rattle.std.proofs.lemmas.List.Concat.{concat_is, flat_map-cons}
+use Rattle.rv_word.specs.declared.version.ImageVersion.{ImageVersion}
 use Rattle.rv_word.specs.MemoryMap.{profile_of}
 use Rattle.cfi_scan.specs.Pieces.{HasSeen}
 use Rattle.cfi_verify.specs.Scan.{Scanned}
@@ -43,8 +44,8 @@ fed_more code rest piece next before now after f parts feeds =
       cut = append_assoc f.taken piece next ∙ ap (λ xs. f.taken ++ xs) parts ∙ f.cut;
       seen = λ bytes has.
           subst (HasSeen (profile_of before.seen.version) after.seen) (append_assoc bytes f.taken piece)
-          (subst (λ (v : ℕ). HasSeen (profile_of v) after.seen ((bytes ++ f.taken) ++ piece)) f.version
-          (feeds.seen (bytes ++ f.taken) (subst (λ (v : ℕ). HasSeen (profile_of v) now.seen (bytes ++ f.taken)) (sym f.version) (f.seen bytes has))));
+          (subst (λ (v : ImageVersion). HasSeen (profile_of v) after.seen ((bytes ++ f.taken) ++ piece)) f.version
+          (feeds.seen (bytes ++ f.taken) (subst (λ (v : ImageVersion). HasSeen (profile_of v) now.seen (bytes ++ f.taken)) (sym f.version) (f.seen bytes has))));
       version = feeds.version ∙ f.version;
       fed = omega (arith, sum, one, two);
       graph = feeds.graph ∙ f.graph;

@@ -4,11 +4,12 @@ use Rattle.std.specs.Prelude.{slice_get, nat_lt, nat_le, is_some}
 use Rattle.std.specs.List.{list_any}
 use Rattle.std.proofs.lemmas.Bool.{and_left, and_parts, cases_eq, cases_lt, cases_order, eqb-true, false≢true, le-ltb, leb-true, lt-leb, lt-ltb, ltb-true, ne_eqb, or_from}
 use Rattle.std.proofs.lemmas.Option.{same_Some, slice_get_within}
+use Rattle.rv_word.specs.declared.version.GraphVersion.{GraphVersion}
 use Rattle.rv_word.proofs.Cases.{cases_Option}
 use Rattle.rv_word.specs.MemoryMap.{CODE_START, Profile, START}
 use Rattle.rv_word.proofs.Versions.{LaidOut}
 use Rattle.cfi_graph.specs.declared.line.GraphLine.{GraphLine}
-use Rattle.cfi_graph.specs.declared.line.GraphLine.TheVariants.{Calls, Class, CallClass, JumpClass, Site, Edge, Call}
+use Rattle.cfi_graph.specs.declared.line.GraphLine.TheVariants.{Calls, Class, Site, Edge, Call}
 use Rattle.cfi_graph.specs.declared.line.Key.TheVariants.{Address}
 use Rattle.cfi_graph.specs.Graph.{GraphParts, IsGraph, calls_in, is_rising, key_below, key_of}
 use Rattle.cfi_graph.proofs.Rising.{key_transitive}
@@ -61,14 +62,14 @@ pub entry_there : {given listing : Listed} {entry : Entry} (k : ℕ) → given �
 entry_there k same at = ap (λ (t : Listed). slice_get t.entries k) same ∙ at
 
 -- an entry asks nothing of the graph
-record AsksNothing (version : ℕ) (has_list : Bool) (e : Entry) (a : ℕ) : Type 0 where
+record AsksNothing (version : GraphVersion) (has_list : Bool) (e : Entry) (a : ℕ) : Type 0 where
   unit : is_barred version has_list e ≡ false
   edge : edge_in e a ≡ None
   call : call_in e a ≡ None
   site : site_in e ≡ None
   gate : gate_in e ≡ None
 
-asks_nothing : (version : ℕ) (has_list : Bool) (e : Entry) (a : ℕ) → is_quiet e ≡ true → AsksNothing version has_list e a
+asks_nothing : (version : GraphVersion) (has_list : Bool) (e : Entry) (a : ℕ) → is_quiet e ≡ true → AsksNothing version has_list e a
 asks_nothing version has_list E.Inside a quiet = record { unit = refl; edge = refl; call = refl; site = refl; gate = refl }
 asks_nothing version has_list E.Stop a quiet = record { unit = refl; edge = refl; call = refl; site = refl; gate = refl }
 asks_nothing version has_list E.Other a quiet = record { unit = refl; edge = refl; call = refl; site = refl; gate = refl }
@@ -82,9 +83,7 @@ module _ (p : Profile) (laid : LaidOut p) where
   -- only classes have targets
   pub no_class : (t : Listed) (line : GraphLine) (a : ℕ) → key_of line ≡ Address a → HasGates t line
   no_class t (Calls numbers) a key = absurd (cc)
-  no_class t (Class label targets) a key = absurd (cc)
-  no_class t (CallClass label targets) a key = absurd (cc)
-  no_class t (JumpClass label targets) a key = absurd (cc)
+  no_class t (Class sort label targets) a key = absurd (cc)
   no_class t (Site address kind label) a key = λ b. refl
   no_class t (Edge from to) a key = λ b. refl
   no_class t (Call from to) a key = λ b. refl

@@ -9,9 +9,8 @@ use Rattle.std.proofs.lemmas.Option.{none-some, same_Some}
 use Rattle.rv_word.proofs.Cases.{cases_Option}
 use Rattle.std.proofs.lemmas.List.Sorted.{searched}
 use Rattle.cfi_graph.specs.declared.line.GraphLine.{GraphLine}
-use Rattle.cfi_graph.specs.declared.line.GraphLine.TheVariants.{Calls, Class, CallClass, JumpClass, Site, Edge, Call}
+use Rattle.cfi_graph.specs.declared.line.GraphLine.TheVariants.{Calls, Class, Site, Edge, Call}
 use Rattle.cfi_graph.specs.declared.line.SiteKind.{SiteKind}
-use Rattle.cfi_graph.specs.declared.line.Sort.TheVariants as sorts
 use Rattle.cfi_graph.specs.Graph.{ClassLine, class_in, is_rising, targets_rise}
 use Rattle.cfi_unit.specs.declared.target_word.TargetWord.{TargetWord}
 use Rattle.cfi_rules.specs.Lines.{class_with, is_among, if_serves, or_class, targets_for}
@@ -21,9 +20,7 @@ rises_in found class r e = ap (λ (c : ClassLine). is_rising nat_lt c.targets) (
 
 line_rises : (line : GraphLine) (class : ClassLine) → targets_rise line ≡ true → class_in line ≡ Some class → is_rising nat_lt class.targets ≡ true
 line_rises (Calls numbers) class r e = absurd (none-some class e)
-line_rises (Class label members) class r e = rises_in (record { sort = sorts.Both; label = label; targets = members }) class r e
-line_rises (CallClass label members) class r e = rises_in (record { sort = sorts.Calls; label = label; targets = members }) class r e
-line_rises (JumpClass label members) class r e = rises_in (record { sort = sorts.Jumps; label = label; targets = members }) class r e
+line_rises (Class sort label members) class r e = rises_in (record { sort = sort; label = label; targets = members }) class r e
 line_rises (Site address kind label) class r e = absurd (none-some class e)
 line_rises (Edge from to) class r e = absurd (none-some class e)
 line_rises (Call from to) class r e = absurd (none-some class e)

@@ -4,11 +4,12 @@ use Rattle.std.specs.Prelude.{slice_get, nat_le, nat_lt, ◌&&◌, ◌||◌, not
 use Rattle.std.specs.List.{list_any}
 use Rattle.std.proofs.lemmas.Bool.{cases_Bool, cases_lt, cases_eq, le-leb, lt-leb, eqb-true, eq-eqb, ne_eqb, lt-ltb, ltb-true, and_parts, false_from_ne_true, false≢true}
 use Rattle.std.proofs.lemmas.List.{drop-drop}
+use Rattle.rv_word.specs.declared.version.GraphVersion.{GraphVersion}
 use Rattle.rv_word.specs.MemoryMap.{CODE_START, Profile, lies_within, START}
 use Rattle.rv_word.proofs.Versions.{LaidOut}
 use Rattle.rv_code.specs.Decode.{decoded}
 use Rattle.cfi_graph.specs.declared.line.GraphLine.{GraphLine}
-use Rattle.cfi_graph.specs.declared.line.GraphLine.TheVariants.{Calls, Class, CallClass, JumpClass, Site, Edge, Call}
+use Rattle.cfi_graph.specs.declared.line.GraphLine.TheVariants.{Calls, Class, Site, Edge, Call}
 use Rattle.cfi_graph.specs.Graph.{ClassLine, GraphParts, calls_in, class_in}
 use Rattle.cfi_unit.specs.declared.target_word.TargetWord.{TargetWord}
 use Rattle.cfi_unit.specs.declared.target_word.TargetWord.TheVariants.{First, Second}
@@ -63,7 +64,7 @@ and_all true = refl
 and_all false = refl
 
 -- a graph admits a unit where its entry is not barred
-bars : (version : ℕ) (calls : Option (List ℕ)) (u : U.Unit) (a : ℕ) → not (admits version calls u) ≡ is_barred version (is_some calls) (entry_of_unit (numbers_or_none calls) u a)
+bars : (version : GraphVersion) (calls : Option (List ℕ)) (u : U.Unit) (a : ℕ) → not (admits version calls u) ≡ is_barred version (is_some calls) (entry_of_unit (numbers_or_none calls) u a)
 bars version None (V.Ijump which rs1 imm label) a = ap not (and_all (same_word which (jump_word version)))
 bars version (Some calls) (V.Ijump which rs1 imm label) a = ap not (and_all (same_word which (jump_word version)))
 bars version None (V.System S.Ecall) a = refl
@@ -383,18 +384,14 @@ module _ (p : Profile) (laid : LaidOut p) where
 
     unused_told : (a : ℕ) (line : GraphLine) → is_unused (place_at p words a) line ≡ is_unused_at p t a line
     unused_told a (Calls numbers) = refl
-    unused_told a (Class label targets) = refl
-    unused_told a (CallClass label targets) = refl
-    unused_told a (JumpClass label targets) = refl
+    unused_told a (Class sort label targets) = refl
     unused_told a (Site address kind label) = refl
     unused_told a (Edge from to) = ap (λ o. not (is_some o)) (edge_told a)
     unused_told a (Call from to) = ap (λ o. not (is_some o)) (call_told a)
 
     lone_told : (a : ℕ) (line : GraphLine) → is_lone_site (place_at p words a) line ≡ is_lone_at p t a line
     lone_told a (Calls numbers) = refl
-    lone_told a (Class label targets) = refl
-    lone_told a (CallClass label targets) = refl
-    lone_told a (JumpClass label targets) = refl
+    lone_told a (Class sort label targets) = refl
     lone_told a (Site address kind label) = ap (λ o. not (is_some o)) (site_told a)
     lone_told a (Edge from to) = refl
     lone_told a (Call from to) = refl

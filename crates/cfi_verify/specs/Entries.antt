@@ -1,6 +1,7 @@
 -- What the listing of a code says of an address, and of each rule there.
 use Rattle.std.specs.Prelude.{◌≡◌, ℕ, ◌+◌, ◌-◌, ◌*◌, ◌/◌, ◌%◌, ◌==◌, nat_lt, nat_le, ◌&&◌, ◌||◌, not, Bool, true, false, List, length, take, slice_get, Option, Some, None, is_some, if◌then◌else◌}
 use Rattle.std.specs.List.{list_any}
+use Rattle.rv_word.specs.declared.version.GraphVersion.{GraphVersion}
 use Rattle.rv_word.specs.MemoryMap.{Profile, START}
 use Rattle.cfi_graph.specs.declared.line.GraphLine.{GraphLine}
 use Rattle.cfi_graph.specs.declared.line.GraphLine.TheVariants.{Site, Edge, Call}
@@ -49,7 +50,7 @@ site_in _ = None
 
 -- a graph does not admit a unit with this entry: its version has no such computed jump; it has a list and the unit is a
 -- bare call of the system, or one that is guarded otherwise; it has no list and the unit is guarded
-abbrev pub is_barred : ℕ → Bool → Entry → Bool
+abbrev pub is_barred : GraphVersion → Bool → Entry → Bool
 is_barred version has_list (E.Ijump which label) = not (same_word which (jump_word version))
 is_barred version has_list E.Ecall = has_list
 is_barred version has_list (E.Guarded same) = not (has_list && same)

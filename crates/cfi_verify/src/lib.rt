@@ -9,7 +9,7 @@ pub use lines::is_among;
 pub use pieces::scan_pieces;
 pub use scan::Scan;
 pub use starts::Starts;
-pub use verifier::{Checked, VerifyEnd, verify};
+pub use verifier::{Checked, verify};
 
 mod all_hold;
 mod code;

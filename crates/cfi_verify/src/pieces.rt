@@ -10,10 +10,10 @@ ghost use Rattle.cfi_rules.specs.Split.{code_words};
 
 use crate::scan::Scan;
 use crate::starts::Starts;
-use crate::verifier::VerifyEnd;
 use cfi_graph::Graph;
+use cfi_rules::Reject;
 use cfi_scan::Steps;
-use rv_word::Bytes;
+use rv_word::{Bytes, End, ImageVersion};
 use std::alloc::Global;
 use std::sync::ledger::Ledger;
 
@@ -22,11 +22,11 @@ use std::sync::ledger::Ledger;
 /// reading of a word.
 pub fn scan_pieces<'a, L: Ledger>(
     alloc: Global,
-    version: u8,
+    version: ImageVersion,
     graph: &'a Graph,
     pieces: &[Bytes],
     steps: &mut Steps<L>,
-) -> Result<Starts<'a>, VerifyEnd>
+) -> Result<Starts<'a>, End<Reject>>
     requires small { length (concat pieces.now) < 2 ^ 32 }
     ensures version { IfOk result (λ s. s.listing.version ≡ version) }
     ensures accepted { (image : Contents) → image.code ≡ concat pieces.now → IfOk result (λ s. (s.graph ≡ graph.now) × Tells (profile_of version) (numbers_in graph.now) s.listing (code_words image.code) × IsWellFormed (profile_of version) image graph.now) }
@@ -36,7 +36,7 @@ pub fn scan_pieces<'a, L: Ledger>(
     let mut scan = Scan::new(alloc, version, graph)?;
     feed_pieces(&mut scan, pieces, steps);
     match scan.finish() {
-        Err(reject) => Err(VerifyEnd::Reject(reject)),
+        Err(reject) => Err(End::Fault(reject)),
         Ok(starts) => Ok(starts),
     }
 }

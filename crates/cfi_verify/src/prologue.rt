@@ -8,6 +8,7 @@ ghost use Rattle.cfi_rules.specs.Rules.{fits_table, is_link, prologue_word_fits}
 
 use rv_code::decode;
 use rv_instr::Instr;
+use rv_word::ImageVersion;
 
 /// The words in version 1. Word 13 is the opening's `jal x1` to the entry, which may lead anywhere.
 const PROLOGUE: [u32; 16] = [
@@ -54,14 +55,13 @@ const PROLOGUE_OF_HARTS: [u32; 20] = [
 ];
 
 /// Whether a word may be the word with this index of a version's prologue.
-pub(crate) fn is_prologue_word(version: u8, index: usize, word: Option<u32>) -> bool
+pub(crate) fn is_prologue_word(version: ImageVersion, index: usize, word: Option<u32>) -> bool
     requires { index < prologue_count (profile_of version) }
     ensures { result ≡ prologue_word_fits (profile_of version) index word }
 {
-    if version == 1 {
-        fits_table(&PROLOGUE, 13, index, word)
-    } else {
-        fits_table(&PROLOGUE_OF_HARTS, 17, index, word)
+    match version {
+        ImageVersion::OneHart => fits_table(&PROLOGUE, 13, index, word),
+        ImageVersion::EightHarts => fits_table(&PROLOGUE_OF_HARTS, 17, index, word),
     }
 }
 

@@ -10,7 +10,7 @@ use crate::starts::Starts;
 use cfi_graph::Graph;
 use cfi_rules::Reject;
 use cfi_scan::{Feeder, Steps};
-use rv_word::NoMemory;
+use rv_word::{ImageVersion, NoMemory};
 use std::alloc::Global;
 use std::marker::Model;
 use std::sync::ledger::Ledger;
@@ -35,9 +35,8 @@ impl<'a> Model for Scan<'a> {
 }
 
 impl<'a> Scan<'a> {
-    /// No byte yet, and room for a code of the graph's length, of an image of a version: each number but 1 stands
-    /// for version 2.
-    pub fn new(alloc: Global, version: u8, graph: &'a Graph) -> Result<Scan<'a>, NoMemory>
+    /// No byte yet, and room for a code of the graph's length, of an image of a version.
+    pub fn new(alloc: Global, version: ImageVersion, graph: &'a Graph) -> Result<Scan<'a>, NoMemory>
         ensures version { IfOk result (λ s. s.seen.version ≡ version) }
         ensures seen { IfOk result (λ s. HasSeen (profile_of version) s.seen []) }
         ensures graph { IfOk result (λ s. s.graph ≡ graph.now) }

@@ -18,7 +18,7 @@ use cfi_scan::{Entry, Listing};
 use rv_code::decode;
 use rv_instr::Instr;
 use rv_word::memory_map::CODE_START;
-use rv_word::sext;
+use rv_word::{ImageVersion, sext};
 use std::marker::Model;
 
 /// Where the units of a code start, of which kind each is, and the graph.
@@ -58,7 +58,7 @@ impl<'a> Starts<'a> {
     }
 
     /// The version of the image.
-    pub(crate) fn version(&self) -> u8
+    pub(crate) fn version(&self) -> ImageVersion
         ensures { result ≡ self.now.listing.version }
     {
         self.listing.version()

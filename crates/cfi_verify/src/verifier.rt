@@ -25,36 +25,13 @@ use cfi_scan::Steps;
 use cfi_unit::handlers::{BAD_RETURN, BAD_TARGET, DEEP};
 use cfi_unit::{Place, Unit};
 use rv_word::profile::START;
-use rv_word::{Image, NoMemory};
+use rv_word::{End, Image, NoMemory};
 use std::alloc::Global;
 use std::marker::{Brand, Model};
 use std::sync::ledger::{Blank, Ledger};
-use thiserror::Error;
 
 /// How many bytes of a code are fed at a time.
 const PAGE: usize = 4_096;
-
-/// Why a pair was not accepted.
-#[derive(Clone, Copy, Debug, Error)]
-pub enum VerifyEnd {
-    /// A rule fails.
-    #[error("rejected")]
-    Reject(Reject),
-    /// There was no memory.
-    #[error("out of memory")]
-    NoMemory,
-}
-
-impl From<NoMemory> for VerifyEnd {
-    ghost use Rattle.std.specs.Prelude.{◌≡◌};
-    ghost use Rattle.cfi_verify.specs.declared.verifier.VerifyEnd.TheVariants as V;
-
-    ghost from_gives = { λ _ e. e ≡ V.NoMemory };
-
-    fn from(_: NoMemory) -> Self {
-        VerifyEnd::NoMemory
-    }
-}
 
 /// An image and a graph that meet the ten rules.
 #[derive(Drop)]
@@ -219,7 +196,7 @@ pub fn verify<'a>(
     alloc: Global,
     image: &'a Image<'a>,
     graph: &'a Graph,
-) -> Result<Checked<'a>, VerifyEnd>
+) -> Result<Checked<'a>, End<Reject>>
     ensures accepted { IfOk result (λ c. (c.image ≡ image.now) × (c.graph ≡ graph.now) × IsWellFormed (image_profile image.now) image.now graph.now) }
     ensures confined { OnOk result (IsConfined (image_profile image.now) image.now graph.now) }
     ensures safe { OnOk result (IsSafe (image_profile image.now) image.now graph.now) }
@@ -232,7 +209,7 @@ pub fn verify<'a>(
     let mut scan = Scan::new(alloc, image.version(), graph)?;
     feed_code::<Brand>(&mut scan, image.code(), Blank::new(1));
     match scan.finish() {
-        Err(reject) => Err(VerifyEnd::Reject(reject)),
+        Err(reject) => Err(End::Fault(reject)),
         Ok(starts) => {
             well_formed_is_confined();
             well_formed_is_listed();

@@ -101,7 +101,6 @@ short_accepted = record {
       (is_some (instr_at short.layout.program short.layout.gates (words_at short.layout) k))
       (each (λ n. is_end (item_of short.layout.program n).kind || is_some (instr_at short.layout.program short.layout.gates (words_at short.layout) n)) refl k below) some;
   calls = refl;
-  version = inl refl;
   sorts = refl;
   members = λ j c k side there in_class. absurd (none_in k (subst (λ (s : Side). IsIn s.classes c k) (sym (only_side no_side j side there).1) in_class));
   rising = λ j side there. subst (λ (s : Side). All IsStrictlyIncreasing s.classes) (only_side no_side j side there).1 (λ k d below. absurd (omega arith));
@@ -132,7 +131,6 @@ short_of_harts_accepted = record {
       (is_some (instr_at short_of_harts.layout.program short_of_harts.layout.gates (words_at short_of_harts.layout) k))
       (each (λ n. is_end (item_of short_of_harts.layout.program n).kind || is_some (instr_at short_of_harts.layout.program short_of_harts.layout.gates (words_at short_of_harts.layout) n)) refl k below) some;
   calls = refl;
-  version = inl refl;
   sorts = refl;
   members = short_accepted.members;
   rising = short_accepted.rising;
@@ -238,7 +236,6 @@ pointer_accepted = record {
       (is_some (instr_at pointer.layout.program pointer.layout.gates (words_at pointer.layout) k))
       (each_of (λ n. is_end (item_of pointer.layout.program n).kind || is_some (instr_at pointer.layout.program pointer.layout.gates (words_at pointer.layout) n)) refl k below) some;
   calls = refl;
-  version = inl refl;
   sorts = refl;
   members = λ j c k side there inside.
       (class_member c k (subst (λ (s : Side). IsIn s.classes c k) (sym (only_side pointer_side j side there).1) inside)).1;

@@ -1,16 +1,16 @@
 -- The lines of classes: which stands at an index and under a label, and that they are a graph's.
 use Rattle.std.proofs.Common.{◌≡◌, ℕ, zero, suc, ◌<◌, ◌==◌, inl, inr, true, List, [], ◌∷◌, map, Option, Some, None, refl, sym, ap, ◌∙◌, arith, add-one}
-use Rattle.std.specs.Prelude.{◌&&◌, Bool, if◌then◌else◌, nat_lt, option_and_then, slice_get, slice_index}
+use Rattle.std.specs.Prelude.{Bool, if◌then◌else◌, nat_lt, option_and_then, slice_get, slice_index}
 use Rattle.std.specs.List.{list_all}
 use Rattle.std.specs.List.Sorted.{IsStrictlyIncreasing}
 use Rattle.std.proofs.lemmas.Bool.{and_from, cases_Bool, eq-eqb, eqb-true, lt-ltb, or_cases, or_left, or_right}
 use Rattle.std.proofs.lemmas.Option.{same_Some}
+use Rattle.rv_word.specs.declared.version.GraphVersion.{GraphVersion}
+use Rattle.cfi_graph.specs.declared.line.GraphLine.TheVariants.{Class}
 use Rattle.cfi_graph.specs.declared.line.GraphLine.{GraphLine}
 use Rattle.cfi_graph.specs.declared.line.SiteKind.{SiteKind}
 use Rattle.cfi_graph.specs.declared.line.Sort.{Sort}
-use Rattle.cfi_graph.specs.declared.line.Sort.TheVariants.{Both, Calls, Jumps}
-use Rattle.cfi_graph.specs.declared.line.Key.TheVariants.{Label}
-use Rattle.cfi_graph.specs.Graph.{ClassLine, class_in, fits_version, is_class, is_code_address, is_label, is_rising, is_sort_of, key_below, key_of, line_in_range, line_of_class, targets_rise}
+use Rattle.cfi_graph.specs.Graph.{ClassLine, class_in, fits_version, is_class, is_code_address, is_label, is_rising, is_sort_of, key_below, key_of, line_in_range, targets_rise}
 use Rattle.cfi_class.specs.Classes.{has}
 use Rattle.cfi_map.specs.GraphAtMap.{class_lines}
 use Rattle.cfi_map.specs.LabelOf.{Tagged}
@@ -38,31 +38,6 @@ among_from gates (x ∷ class) a e =
 abbrev pub class_line : List ℕ → ℕ → Tagged → ClassLine
 class_line gates label t = record { sort = t.sort; label = label; targets = map (slice_index gates) t.class }
 
-line_says : (sort : Sort) (label : ℕ) (targets : List ℕ) → class_in (line_of_class sort label targets) ≡ Some (record { sort = sort; label = label; targets = targets })
-line_says Both label targets = refl
-line_says Calls label targets = refl
-line_says Jumps label targets = refl
-
-line_ranges : (sort : Sort) (len label : ℕ) (targets : List ℕ) → line_in_range len (line_of_class sort label targets) ≡ (is_label label && list_all (is_code_address len) targets)
-line_ranges Both len label targets = refl
-line_ranges Calls len label targets = refl
-line_ranges Jumps len label targets = refl
-
-line_rises : (sort : Sort) (label : ℕ) (targets : List ℕ) → targets_rise (line_of_class sort label targets) ≡ is_rising nat_lt targets
-line_rises Both label targets = refl
-line_rises Calls label targets = refl
-line_rises Jumps label targets = refl
-
-line_key : (sort : Sort) (label : ℕ) (targets : List ℕ) → key_of (line_of_class sort label targets) ≡ Label label
-line_key Both label targets = refl
-line_key Calls label targets = refl
-line_key Jumps label targets = refl
-
-line_class : (sort : Sort) (label : ℕ) (targets : List ℕ) → is_class (line_of_class sort label targets) ≡ true
-line_class Both label targets = refl
-line_class Calls label targets = refl
-line_class Jumps label targets = refl
-
 -- the line at an index has the label and the class at that index
 pub record IsLine (gates labels : List ℕ) (ts : List Tagged) (j : ℕ) (line : ClassLine) : Type 0 where
   pub label : ℕ
@@ -82,7 +57,7 @@ line_get gates (l ∷ labels) (t ∷ ts) zero line e =
       class = t;
       label_is = refl;
       class_is = refl;
-      line_is = same_Some (class_line gates l t) line (sym (line_says t.sort l (map (slice_index gates) t.class)) ∙ e);
+      line_is = same_Some (class_line gates l t) line e;
     }
 line_get gates (l ∷ labels) (t ∷ ts) (suc j) line e =
     let rest = line_get gates labels ts j line e in
@@ -93,13 +68,11 @@ unfolding class_lines
 all_classes_lines gates [] [] = refl
 all_classes_lines gates (l ∷ labels) [] = refl
 all_classes_lines gates [] (t ∷ ts) = refl
-all_classes_lines gates (l ∷ labels) (t ∷ ts) =
-    and_from (is_class (line_of_class t.sort l (map (slice_index gates) t.class))) (list_all is_class (class_lines gates labels ts))
-    (line_class t.sort l (map (slice_index gates) t.class)) (all_classes_lines gates labels ts)
+all_classes_lines gates (l ∷ labels) (t ∷ ts) = all_classes_lines gates labels ts
 
 first_with : (gates : List ℕ) (l label : ℕ) (t : Tagged) (rest : Option ClassLine) →
-    or_class label (class_in (line_of_class t.sort l (map (slice_index gates) t.class))) rest ≡ (if l == label then Some (class_line gates l t) else rest)
-first_with gates l label t rest = ap (λ (o : Option ClassLine). or_class label o rest) (line_says t.sort l (map (slice_index gates) t.class))
+    or_class label (class_in (Class t.sort l (map (slice_index gates) t.class))) rest ≡ (if l == label then Some (class_line gates l t) else rest)
+first_with gates l label t rest = refl
 
 -- what is said under a label is said of a class with that label
 pub targets_of : (gates labels : List ℕ) (ts : List Tagged) (label : ℕ) (line : ClassLine) → class_with (class_lines gates labels ts) label ≡ Some line →
@@ -150,15 +123,15 @@ served_by lines kind which label class is serving =
     ap (option_and_then (if_serves kind which)) is ∙ ap (λ (b : Bool). if b then Some class.targets else None) serving
 
 -- each line is one of the version whose sorts the classes have
-pub lines_of_version : (version : ℕ) (gates labels : List ℕ) (ts : List Tagged) → ((j : ℕ) (t : Tagged) → slice_get ts j ≡ Some t → is_sort_of version t.sort ≡ true) →
+pub lines_of_version : (version : GraphVersion) (gates labels : List ℕ) (ts : List Tagged) → ((j : ℕ) (t : Tagged) → slice_get ts j ≡ Some t → is_sort_of version t.sort ≡ true) →
     list_all (λ line. fits_version version (class_in line)) (class_lines gates labels ts) ≡ true
 unfolding class_lines
 lines_of_version version gates [] [] of = refl
 lines_of_version version gates (l ∷ labels) [] of = refl
 lines_of_version version gates [] (t ∷ ts) of = refl
 lines_of_version version gates (l ∷ labels) (t ∷ ts) of =
-    and_from (fits_version version (class_in (line_of_class t.sort l (map (slice_index gates) t.class)))) (list_all (λ line. fits_version version (class_in line)) (class_lines gates labels ts))
-    (ap (fits_version version) (line_says t.sort l (map (slice_index gates) t.class)) ∙ of 0 t refl) (lines_of_version version gates labels ts (λ j c get. of (suc j) c get))
+    and_from (fits_version version (class_in (Class t.sort l (map (slice_index gates) t.class)))) (list_all (λ line. fits_version version (class_in line)) (class_lines gates labels ts))
+    (of 0 t refl) (lines_of_version version gates labels ts (λ j c get. of (suc j) c get))
 
 -- lines of classes are a graph's: labels and addresses are in range, targets and labels rise
 pub lines_range : (len : ℕ) (gates labels : List ℕ) (ts : List Tagged) → ((j label : ℕ) → slice_get labels j ≡ Some label → is_label label ≡ true) →
@@ -169,9 +142,8 @@ lines_range len gates [] [] are inside = refl
 lines_range len gates (l ∷ labels) [] are inside = refl
 lines_range len gates [] (t ∷ ts) are inside = refl
 lines_range len gates (l ∷ labels) (t ∷ ts) are inside =
-    and_from (line_in_range len (line_of_class t.sort l (map (slice_index gates) t.class))) (list_all (line_in_range len) (class_lines gates labels ts))
-    (line_ranges t.sort len l (map (slice_index gates) t.class)
-    ∙ and_from (is_label l) (list_all (is_code_address len) (map (slice_index gates) t.class)) (are 0 l refl) (members_in t.class (λ k there. inside 0 k t refl there)))
+    and_from (line_in_range len (Class t.sort l (map (slice_index gates) t.class))) (list_all (line_in_range len) (class_lines gates labels ts))
+    (and_from (is_label l) (list_all (is_code_address len) (map (slice_index gates) t.class)) (are 0 l refl) (members_in t.class (λ k there. inside 0 k t refl there)))
     (lines_range len gates labels ts (λ j label get. are (suc j) label get) (λ j k class get there. inside (suc j) k class get there))
   where
     members_in : (class : List ℕ) → ((k : ℕ) → has k class ≡ true → is_code_address len (slice_index gates k) ≡ true) → list_all (is_code_address len) (map (slice_index gates) class) ≡ true
@@ -202,14 +174,12 @@ lines_targets gates [] n [] rising members rise = refl
 lines_targets gates (l ∷ labels) n [] rising members rise = refl
 lines_targets gates [] n (t ∷ ts) rising members rise = refl
 lines_targets gates (l ∷ labels) n (t ∷ ts) rising members rise =
-    and_from (targets_rise (line_of_class t.sort l (map (slice_index gates) t.class))) (list_all targets_rise (class_lines gates labels ts))
-    (line_rises t.sort l (map (slice_index gates) t.class)
-    ∙ targets_rising (slice_index gates) n t.class (rising 0 t refl) (λ k there. members 0 k t refl there) rise)
+    and_from (targets_rise (Class t.sort l (map (slice_index gates) t.class))) (list_all targets_rise (class_lines gates labels ts))
+    (targets_rising (slice_index gates) n t.class (rising 0 t refl) (λ k there. members 0 k t refl there) rise)
     (lines_targets gates labels n ts (λ j class get. rising (suc j) class get) (λ j k class get there. members (suc j) k class get there) rise)
 
-keys_rise : (s t : Sort) (l m : ℕ) (xs ys : List ℕ) → l < m → key_below (key_of (line_of_class s l xs)) (key_of (line_of_class t m ys)) ≡ true
-keys_rise s t l m xs ys less =
-    ap (λ k. key_below k (key_of (line_of_class t m ys))) (line_key s l xs) ∙ ap (λ k. key_below (Label l) k) (line_key t m ys) ∙ lt-ltb l m less
+keys_rise : (s t : Sort) (l m : ℕ) (xs ys : List ℕ) → l < m → key_below (key_of (Class s l xs)) (key_of (Class t m ys)) ≡ true
+keys_rise s t l m xs ys less = lt-ltb l m less
 
 pub lines_order : (gates labels : List ℕ) (ts : List Tagged) → IsStrictlyIncreasing labels → is_rising key_below (map key_of (class_lines gates labels ts)) ≡ true
 unfolding class_lines
@@ -220,7 +190,7 @@ lines_order gates (l ∷ []) (t ∷ []) rising = refl
 lines_order gates (l ∷ m ∷ labels) (t ∷ []) rising = refl
 lines_order gates (l ∷ []) (t ∷ u ∷ ts) rising = refl
 lines_order gates (l ∷ m ∷ labels) (t ∷ u ∷ ts) rising =
-    and_from (key_below (key_of (line_of_class t.sort l (map (slice_index gates) t.class))) (key_of (line_of_class u.sort m (map (slice_index gates) u.class))))
+    and_from (key_below (key_of (Class t.sort l (map (slice_index gates) t.class))) (key_of (Class u.sort m (map (slice_index gates) u.class))))
     (is_rising key_below (map key_of (class_lines gates (m ∷ labels) (u ∷ ts))))
     (keys_rise t.sort u.sort l m (map (slice_index gates) t.class) (map (slice_index gates) u.class) (rising 0 (omega arith)))
     (lines_order gates (m ∷ labels) (u ∷ ts) (rises_tail l (m ∷ labels) rising))

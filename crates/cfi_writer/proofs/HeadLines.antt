@@ -1,16 +1,15 @@
 -- The line of system calls before those of classes: what is asked of classes is asked behind it, and it tells the list.
 use Rattle.std.proofs.Common.{◌≡◌, ℕ, zero, suc, true, List, [], ◌∷◌, ◌++◌, Option, Some, None, map, refl, ap}
-use Rattle.std.specs.Prelude.{option_and_then, slice_get, slice_index, nat_lt}
+use Rattle.std.specs.Prelude.{option_and_then, slice_get, nat_lt}
 use Rattle.std.specs.List.{list_all}
 use Rattle.std.proofs.lemmas.Bool.{and_from, and_parts}
+use Rattle.rv_word.specs.declared.version.GraphVersion.{GraphVersion}
 use Rattle.cfi_graph.specs.Calls.{may_be_calls}
 use Rattle.cfi_graph.specs.declared.line.GraphLine.{GraphLine}
-use Rattle.cfi_graph.specs.declared.line.GraphLine.TheVariants.{Calls, Class, CallClass, JumpClass}
+use Rattle.cfi_graph.specs.declared.line.GraphLine.TheVariants.{Calls, Class}
 use Rattle.cfi_graph.specs.declared.line.Key.TheVariants.{Head}
 use Rattle.cfi_graph.specs.declared.line.SiteKind.{SiteKind}
-use Rattle.cfi_graph.specs.declared.line.Sort.{Sort}
-use Rattle.cfi_graph.specs.declared.line.Sort.TheVariants as sorts
-use Rattle.cfi_graph.specs.Graph.{ClassLine, IsGraph, are_calls, calls_in, class_in, is_class, is_rising, key_below, key_of, line_in_range, line_of_class, targets_rise}
+use Rattle.cfi_graph.specs.Graph.{ClassLine, IsGraph, are_calls, calls_in, class_in, is_class, is_rising, key_below, key_of, line_in_range, targets_rise}
 use Rattle.cfi_map.specs.GraphAtMap.{call_lines, class_lines}
 use Rattle.cfi_map.specs.LabelOf.{Tagged, tagged}
 use Rattle.cfi_unit.specs.declared.target_word.TargetWord.{TargetWord}
@@ -66,17 +65,12 @@ heads_all m =
     call_heads m.layout.closed.calls (written_classes m) (classes_head (written_classes m) (all_classes_lines m.layout.gates m.labels (tagged m.layout.closed.sides)))
 
 -- the list is told by the first line alone
-sort_tells : (sort : Sort) (label : ℕ) (targets : List ℕ) (lines : List GraphLine) → calls_in (line_of_class sort label targets ∷ lines) ≡ None
-sort_tells sorts.Both label targets lines = refl
-sort_tells sorts.Calls label targets lines = refl
-sort_tells sorts.Jumps label targets lines = refl
-
 classes_tell : (gates labels : List ℕ) (ts : List Tagged) → calls_in (class_lines gates labels ts) ≡ None
 unfolding class_lines
 classes_tell gates [] [] = refl
 classes_tell gates (l ∷ labels) [] = refl
 classes_tell gates [] (t ∷ ts) = refl
-classes_tell gates (l ∷ labels) (t ∷ ts) = sort_tells t.sort l (map (slice_index gates) t.class) (class_lines gates labels ts)
+classes_tell gates (l ∷ labels) (t ∷ ts) = refl
 
 call_told : (calls : Option (List ℕ)) (lines : List GraphLine) → calls_in lines ≡ None → calls_in (call_lines calls ++ lines) ≡ calls
 call_told None lines none = none
@@ -87,9 +81,7 @@ heads_told m = call_told m.layout.closed.calls (written_classes m) (classes_tell
 
 -- and with it they are a graph's
 first_of_all : (line : GraphLine) → is_class line ≡ true → key_below Head (key_of line) ≡ true
-first_of_all (Class label targets) class = refl
-first_of_all (CallClass label targets) class = refl
-first_of_all (JumpClass label targets) class = refl
+first_of_all (Class sort label targets) class = refl
 first_of_all other class = absurd (cc)
 
 order_behind : (lines : List GraphLine) → list_all is_class lines ≡ true → is_rising key_below (map key_of lines) ≡ true →
@@ -98,13 +90,12 @@ order_behind [] all order = refl
 order_behind (line ∷ lines) all order =
     and_from (key_below Head (key_of line)) (is_rising key_below (map key_of (line ∷ lines))) (first_of_all line (and_parts (is_class line) (list_all is_class lines) all).0) order
 
-call_graph : (calls : Option (List ℕ)) (version size : ℕ) (lines : List GraphLine) → may_be_calls calls ≡ true → list_all is_class lines ≡ true →
+call_graph : (calls : Option (List ℕ)) (version : GraphVersion) (size : ℕ) (lines : List GraphLine) → may_be_calls calls ≡ true → list_all is_class lines ≡ true →
     IsGraph (record { version = version; code = size; lines = lines }) → IsGraph (record { version = version; code = size; lines = call_lines calls ++ lines })
 call_graph None version size lines may all graph = graph
 call_graph (Some numbers) version size lines may all graph =
     let parts = and_parts (are_calls numbers) (is_rising nat_lt numbers) may in
     record {
-      version = graph.version;
       sorts = graph.sorts;
       length = graph.length;
       range = and_from (are_calls numbers) (list_all (line_in_range size) lines) parts.0 graph.range;

@@ -12,7 +12,6 @@ use Rattle.obj_program.specs.Program.{count, item_of, no_item}
 use Rattle.cfi_graph.specs.declared.line.GraphLine.{GraphLine}
 use Rattle.cfi_graph.specs.declared.line.GraphLine.TheVariants as line
 use Rattle.cfi_graph.specs.declared.line.Sort.{Sort}
-use Rattle.cfi_graph.specs.Graph.{line_of_class}
 use Rattle.cfi_class.specs.Classes.{IsIn}
 use Rattle.cfi_closed.specs.declared.side.Site.{Site}
 use Rattle.cfi_closed.specs.Closed.{Side}
@@ -62,7 +61,7 @@ AreClassLines gates labels sort classes k first whole = first ++ class_lines gat
 pub next_class : (gates labels : List ℕ) (sort : Sort) (classes : List (List ℕ)) (k label : ℕ) (class : List ℕ) (first more whole : List GraphLine)
     → k < length classes → length classes ≤ length labels → AreClassLines gates labels sort classes k first whole
     → label ≡ slice_index labels k → class ≡ map (slice_index gates) (slice_index_or classes k [])
-    → more ≡ first ++ line_of_class sort label class ∷ [] → AreClassLines gates labels sort classes (k + 1) more whole
+    → more ≡ first ++ line.Class sort label class ∷ [] → AreClassLines gates labels sort classes (k + 1) more whole
 unfolding class_lines
 next_class gates labels sort classes k label class first more whole here enough are label_is class_is is =
     let next : k + 1 ≡ suc k = omega arith in
@@ -74,9 +73,9 @@ next_class gates labels sort classes k label class first more whole here enough 
     subst (λ (c : List (List ℕ)). first ++ class_lines gates (slice_index labels k ∷ drop (suc k) labels) (map (tag sort) c) ≡ whole) cs
     (subst (λ (l : List ℕ). first ++ class_lines gates l (map (tag sort) (drop k classes)) ≡ whole) ls are) in
     subst (λ (j : ℕ). more ++ class_lines gates (drop j labels) (map (tag sort) (drop j classes)) ≡ whole) (sym next)
-    (ap (λ (lines : List GraphLine). lines ++ rest) is ∙ append_assoc first (line_of_class sort label class ∷ []) rest
-    ∙ ap (λ l. first ++ (line_of_class sort l class ∷ rest)) label_is
-    ∙ ap (λ (c : List ℕ). first ++ (line_of_class sort (slice_index labels k) c ∷ rest)) class_is ∙ all)
+    (ap (λ (lines : List GraphLine). lines ++ rest) is ∙ append_assoc first (line.Class sort label class ∷ []) rest
+    ∙ ap (λ l. first ++ (line.Class sort l class ∷ rest)) label_is
+    ∙ ap (λ (c : List ℕ). first ++ (line.Class sort (slice_index labels k) c ∷ rest)) class_is ∙ all)
 
 no_lines : (gates labels : List ℕ) → class_lines gates labels [] ≡ []
 unfolding class_lines
@@ -97,7 +96,7 @@ unfolding class_lines
 lines_behind gates labels [] us enough = ap (λ (ls : List GraphLine). ls ++ class_lines gates labels us) (sym (no_lines gates labels))
 lines_behind gates [] (t ∷ ts) us enough = absurd (omega arith)
 lines_behind gates (l ∷ labels) (t ∷ ts) us enough =
-    ap (λ (ls : List GraphLine). line_of_class t.sort l (map (slice_index gates) t.class) ∷ ls) (lines_behind gates labels ts us (omega arith))
+    ap (λ (ls : List GraphLine). line.Class t.sort l (map (slice_index gates) t.class) ∷ ls) (lines_behind gates labels ts us (omega arith))
 
 -- these are lines before those of the sides from index j on
 abbrev pub AreSideLines : List ℕ → List ℕ → List Side → ℕ → List GraphLine → List GraphLine → Type 0

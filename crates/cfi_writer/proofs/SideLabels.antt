@@ -5,11 +5,12 @@ use Rattle.std.specs.List.{list_any}
 use Rattle.std.proofs.lemmas.Bool.{cases_Bool, eqb-true, or_cases, or_left, or_right}
 use Rattle.std.proofs.lemmas.List.{length-map}
 use Rattle.std.proofs.lemmas.Option.{get_or_from_slice_get, same_Some, slice_get-get_or, slice_get-map, slice_get_within}
+use Rattle.rv_word.specs.declared.version.GraphVersion.{GraphVersion}
+use Rattle.rv_word.specs.declared.version.GraphVersion.TheVariants.{OneLabel, TwoLabels}
 use Rattle.rv_word.proofs.Cases.{mapped}
 use Rattle.cfi_class.specs.Classes.{IsIn, has}
 use Rattle.cfi_graph.specs.declared.line.Sort.{Sort}
 use Rattle.cfi_graph.specs.declared.line.Sort.TheVariants.{Both, Calls, Jumps}
-use Rattle.rv_word.specs.Image.{IsVersion}
 use Rattle.cfi_graph.specs.declared.line.SiteKind.{SiteKind}
 use Rattle.cfi_graph.specs.declared.line.SiteKind.TheVariants as kinds
 use Rattle.cfi_graph.specs.Graph.{ClassLine, is_sort_of}
@@ -208,16 +209,13 @@ two_sorts P calls jumps (suc zero) sort e = subst (P 1) (same_Some Jumps sort e)
 two_sorts P calls jumps (suc (suc j)) sort e = absurd (cc)
 
 -- what holds of each sort of a version
-pub each_sort : (version : ℕ) (P : Bool → ℕ → Sort → Type 0) → P false 0 Both → P true 0 Calls → P true 1 Jumps →
-    (j : ℕ) (sort : Sort) → slice_get (sorts_of version) j ≡ Some sort → P (version == 2) j sort
-each_sort version P both calls jumps j sort e = by (version == 2) e
-  where
-    by : (b : Bool) → slice_get (if b then Calls ∷ Jumps ∷ [] else Both ∷ []) j ≡ Some sort → P b j sort
-    by true is = two_sorts (P true) calls jumps j sort is
-    by false is = one_sort (P false) both j sort is
+pub each_sort : (P : GraphVersion → ℕ → Sort → Type 0) → P OneLabel 0 Both → P TwoLabels 0 Calls → P TwoLabels 1 Jumps →
+    (version : GraphVersion) (j : ℕ) (sort : Sort) → slice_get (sorts_of version) j ≡ Some sort → P version j sort
+each_sort P both calls jumps OneLabel j sort e = one_sort (P OneLabel) both j sort e
+each_sort P both calls jumps TwoLabels j sort e = two_sorts (P TwoLabels) calls jumps j sort e
 
-sort_word : (version j : ℕ) (sort : Sort) → slice_get (sorts_of version) j ≡ Some sort → past (read_of sort) ≡ 4 * j
-sort_word version = each_sort version (λ b j sort. past (read_of sort) ≡ 4 * j) refl refl refl
+sort_word : (version : GraphVersion) (j : ℕ) (sort : Sort) → slice_get (sorts_of version) j ≡ Some sort → past (read_of sort) ≡ 4 * j
+sort_word = each_sort (λ version j sort. past (read_of sort) ≡ 4 * j) refl refl refl
 
 reads_first : (kind : SiteKind) → word_read First kind ≡ First
 reads_first kinds.Call = refl
@@ -231,27 +229,22 @@ jumps_serve : (kind : SiteKind) → is_of Jumps kind ≡ true → serves Jumps k
 jumps_serve kinds.Jump of = refl
 jumps_serve kinds.Call of = absurd (cc)
 
-sort_serves : (version j : ℕ) (sort : Sort) (kind : SiteKind) → slice_get (sorts_of version) j ≡ Some sort → is_of sort kind ≡ true →
+sort_serves : (version : GraphVersion) (j : ℕ) (sort : Sort) (kind : SiteKind) → slice_get (sorts_of version) j ≡ Some sort → is_of sort kind ≡ true →
     serves sort kind (word_read (jump_word version) kind) ≡ true
 sort_serves version j sort kind =
-    each_sort version (λ b j sort. is_of sort kind ≡ true → serves sort kind (word_read (if b then Second else First) kind) ≡ true)
-    (λ of. ap (serves Both kind) (reads_first kind)) (calls_serve kind) (jumps_serve kind) j sort
+    each_sort (λ version j sort. is_of sort kind ≡ true → serves sort kind (word_read (jump_word version) kind) ≡ true)
+    (λ of. ap (serves Both kind) (reads_first kind)) (calls_serve kind) (jumps_serve kind) version j sort
 
-pub sort_fits : (version : ℕ) → IsVersion version → (j : ℕ) (sort : Sort) → slice_get (sorts_of version) j ≡ Some sort → is_sort_of version sort ≡ true
-sort_fits version (inl one) j sort e =
-    subst (λ (v : ℕ). is_sort_of v sort ≡ true) (sym one)
-    (one_sort (λ j sort. is_sort_of 1 sort ≡ true) refl j sort (sym (ap (λ (v : ℕ). slice_get (sorts_of v) j) one) ∙ e))
-sort_fits version (inr two) j sort e =
-    subst (λ (v : ℕ). is_sort_of v sort ≡ true) (sym two)
-    (two_sorts (λ j sort. is_sort_of 2 sort ≡ true) refl refl j sort (sym (ap (λ (v : ℕ). slice_get (sorts_of v) j) two) ∙ e))
+pub sort_fits : (version : GraphVersion) (j : ℕ) (sort : Sort) → slice_get (sorts_of version) j ≡ Some sort → is_sort_of version sort ≡ true
+sort_fits = each_sort (λ version j sort. is_sort_of version sort ≡ true) refl refl refl
 
 -- the sort of a side is the version's
-pub sort_get : (version : ℕ) (sides : List Side) → map (λ (s : Side). s.sort) sides ≡ sorts_of version → (j : ℕ) (side : Side) → slice_get sides j ≡ Some side →
+pub sort_get : (version : GraphVersion) (sides : List Side) → map (λ (s : Side). s.sort) sides ≡ sorts_of version → (j : ℕ) (side : Side) → slice_get sides j ≡ Some side →
     slice_get (sorts_of version) j ≡ Some side.sort
 sort_get version sides sorts j side there =
     sym (ap (λ (all : List Sort). slice_get all j) sorts) ∙ slice_get-map (λ (s : Side). s.sort) sides j ∙ ap (option_map (λ (s : Side). s.sort)) there
 
-sort_at : (version : ℕ) (sides : List Side) → map (λ (s : Side). s.sort) sides ≡ sorts_of version → (j : ℕ) (side : Side) → slice_get sides j ≡ Some side →
+sort_at : (version : GraphVersion) (sides : List Side) → map (λ (s : Side). s.sort) sides ≡ sorts_of version → (j : ℕ) (side : Side) → slice_get sides j ≡ Some side →
     past (read_of side.sort) ≡ 4 * j
 sort_at version sides sorts j side there = sort_word version j side.sort (sort_get version sides sorts j side there)
 

@@ -1,11 +1,13 @@
 -- The sites of a closed graph: each computed transfer is a site of the side of its sort, and of no other; its class is there.
-use Rattle.std.proofs.Common.{◌≡◌, ℕ, zero, suc, ◌<◌, ◌==◌, Bool, true, false, List, [], ◌∷◌, length, map, Some, Contains, inl, inr, refl, sym, subst, ap, ◌∙◌, arith}
-use Rattle.std.specs.Prelude.{if◌then◌else◌, option_map, slice_get}
+use Rattle.std.proofs.Common.{◌≡◌, ℕ, zero, suc, ◌<◌, ◌==◌, true, List, [], ◌∷◌, length, map, Some, Contains, inl, inr, refl, sym, subst, ap, ◌∙◌, arith}
+use Rattle.std.specs.Prelude.{option_map, slice_get}
 use Rattle.std.specs.List.{All, list_any}
 use Rattle.std.proofs.lemmas.Bool.{eq-eqb, eqb-true, or_cases, or_left, or_right}
 use Rattle.std.proofs.lemmas.List.Elements.{All-contains}
 use Rattle.std.proofs.lemmas.List.Quantifiers.{position-Some}
 use Rattle.std.proofs.lemmas.Option.{get_or_from_slice_get, same_Some, slice_get-get_or, slice_get-map, slice_get_within}
+use Rattle.rv_word.specs.declared.version.GraphVersion.{GraphVersion}
+use Rattle.rv_word.specs.declared.version.GraphVersion.TheVariants.{OneLabel, TwoLabels}
 use Rattle.rv_word.proofs.Cases.{mapped}
 use Rattle.obj_program.specs.Program.{Program, count, item_of}
 use Rattle.cfi_graph.specs.declared.line.SiteKind.{SiteKind}
@@ -83,37 +85,34 @@ module _ (program : Program) (policy : PolicyParts) (raw : RawGraph) (side : Sid
       class_there side.classes s.targets c (ap (λ (x : Site). x.class) same ∙ some)
 
 -- which side has the transfers of a kind
-side_for : Bool → SiteKind → ℕ
-side_for false kind = 0
-side_for true kinds.Call = 0
-side_for true kinds.Jump = 1
+side_for : GraphVersion → SiteKind → ℕ
+side_for OneLabel kind = 0
+side_for TwoLabels kinds.Call = 0
+side_for TwoLabels kinds.Jump = 1
 
-calls_are : (kind : SiteKind) → is_of Calls kind ≡ true → 0 ≡ side_for true kind
+calls_are : (kind : SiteKind) → is_of Calls kind ≡ true → 0 ≡ side_for TwoLabels kind
 unfolding side_for
 calls_are kinds.Call e = refl
 calls_are kinds.Jump e = absurd (cc)
 
-jumps_are : (kind : SiteKind) → is_of Jumps kind ≡ true → 1 ≡ side_for true kind
+jumps_are : (kind : SiteKind) → is_of Jumps kind ≡ true → 1 ≡ side_for TwoLabels kind
 unfolding side_for
 jumps_are kinds.Jump e = refl
 jumps_are kinds.Call e = absurd (cc)
 
-no_other : (version : ℕ) (kind : SiteKind) (i : ℕ) (sort : Sort) → slice_get (sorts_of version) i ≡ Some sort → is_of sort kind ≡ true → i ≡ side_for (version == 2) kind
+no_other : (version : GraphVersion) (kind : SiteKind) (i : ℕ) (sort : Sort) → slice_get (sorts_of version) i ≡ Some sort → is_of sort kind ≡ true → i ≡ side_for version kind
 unfolding side_for
 no_other version kind =
-    each_sort version (λ b i sort. is_of sort kind ≡ true → i ≡ side_for b kind) (λ e. refl) (calls_are kind) (jumps_are kind)
+    each_sort (λ version i sort. is_of sort kind ≡ true → i ≡ side_for version kind) (λ e. refl) (calls_are kind) (jumps_are kind) version
 
-sort_for : (version : ℕ) (kind : SiteKind) → (sort : Sort) × (slice_get (sorts_of version) (side_for (version == 2) kind) ≡ Some sort) × (is_of sort kind ≡ true)
+sort_for : (version : GraphVersion) (kind : SiteKind) → (sort : Sort) × (slice_get (sorts_of version) (side_for version kind) ≡ Some sort) × (is_of sort kind ≡ true)
 unfolding side_for
-sort_for version kind = by (version == 2) kind
-  where
-    by : (b : Bool) (k : SiteKind) → (sort : Sort) × (slice_get (if b then Calls ∷ Jumps ∷ [] else Both ∷ []) (side_for b k) ≡ Some sort) × (is_of sort k ≡ true)
-    by false k = (Both, refl, refl)
-    by true kinds.Call = (Calls, refl, refl)
-    by true kinds.Jump = (Jumps, refl, refl)
+sort_for OneLabel kind = (Both, refl, refl)
+sort_for TwoLabels kinds.Call = (Calls, refl, refl)
+sort_for TwoLabels kinds.Jump = (Jumps, refl, refl)
 
 -- of sides that are all closed
-module _ (program : Program) (policy : PolicyParts) (raw : RawGraph) (is : IsRaw program policy raw) (version : ℕ) (sides : List Side)
+module _ (program : Program) (policy : PolicyParts) (raw : RawGraph) (is : IsRaw program policy raw) (version : GraphVersion) (sides : List Side)
     (sorts : map (λ (s : Side). s.sort) sides ≡ sorts_of version) (all : All (IsSide raw) sides) where
   pub side_at : (j : ℕ) (side : Side) → slice_get sides j ≡ Some side → IsSide raw side
   side_at j side there = subst (IsSide raw) (get_or_from_slice_get sides j side side there) (all j side (slice_get_within sides j side there))
@@ -121,7 +120,7 @@ module _ (program : Program) (policy : PolicyParts) (raw : RawGraph) (is : IsRaw
   pub site_of : (k : ℕ) (kind : SiteKind) → k < count program → site_kind (item_of program k).kind ≡ Some kind → IsSiteOf sides k kind
   site_of k kind below some =
       let (sort, at, own) = sort_for version kind in
-      let index = side_for (version == 2) kind in
+      let index = side_for version kind in
       let here : option_map (λ (s : Side). s.sort) (slice_get sides index) ≡ Some sort =
       sym (slice_get-map (λ (s : Side). s.sort) sides index) ∙ ap (λ (ss : List Sort). slice_get ss index) sorts ∙ at in
       let (side, there, same) = mapped (λ (s : Side). s.sort) (slice_get sides index) sort here in

@@ -4,6 +4,7 @@ use Rattle.std.specs.Prelude.{IsTrue, nat_le, is_some, option_and_then, slice_ge
 use Rattle.std.specs.List.{last_or, list_any}
 use Rattle.std.proofs.lemmas.Bool.{and_from, cases_Bool, eq-eqb, le-leb, or_left, or_right}
 use Rattle.std.proofs.lemmas.Option.{get_or_from_slice_get, same_Some, slice_get_within, slice_get-get_or}
+use Rattle.rv_word.specs.declared.version.GraphVersion.{GraphVersion}
 use Rattle.rv_word.specs.MemoryMap.{CODE_SIZE, CODE_START, Profile}
 use Rattle.rv_instr.specs.declared.instr.Instr.{Instr}
 use Rattle.obj_input.specs.declared.item_kind.ItemKind.{ItemKind}
@@ -116,7 +117,7 @@ lead_asks : (o : Option ℕ) → is_some (site_of (body (lead_unit o))) ≡ fals
 lead_asks None = refl
 lead_asks (Some label) = refl
 
-lead_admitted : (version : ℕ) (calls : Option (List ℕ)) (o : Option ℕ) → admits version calls (lead_unit o) ≡ true
+lead_admitted : (version : GraphVersion) (calls : Option (List ℕ)) (o : Option ℕ) → admits version calls (lead_unit o) ≡ true
 lead_admitted version calls None = is_free calls version (lead_unit None) refl (λ numbers. refl) refl
 lead_admitted version calls (Some label) = is_free calls version (lead_unit (Some label)) refl (λ numbers. refl) refl
 

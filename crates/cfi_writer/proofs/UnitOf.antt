@@ -3,6 +3,7 @@ use Rattle.std.proofs.Common.{◌≡◌, ℕ, suc, ◌+◌, ◌*◌, Bool, true,
 use Rattle.std.specs.Prelude.{◌&&◌, ◌||◌, not}
 use Rattle.std.proofs.lemmas.Bool.{and_from}
 use Rattle.std.proofs.lemmas.Option.{same_Some}
+use Rattle.rv_word.specs.declared.version.GraphVersion.{GraphVersion}
 use Rattle.rv_word.proofs.SameNumbers.{same_itself}
 use Rattle.rv_instr.specs.declared.instr.UpperOp.{UpperOp}
 use Rattle.rv_instr.specs.declared.instr.Instr.{Instr}
@@ -166,16 +167,16 @@ same_read First = refl
 same_read Second = refl
 
 -- and what is no system call may stand with any list
-pub is_free : (calls : Option (List ℕ)) (version : ℕ) (unit : U.Unit) → may_call None unit ≡ true → ((numbers : List ℕ) → may_call (Some numbers) unit ≡ true) →
+pub is_free : (calls : Option (List ℕ)) (version : GraphVersion) (unit : U.Unit) → may_call None unit ≡ true → ((numbers : List ℕ) → may_call (Some numbers) unit ≡ true) →
     is_of_version version unit ≡ true → admits version calls unit ≡ true
 is_free None version unit none some of = and_from (is_of_version version unit) (may_call None unit) of none
 is_free (Some numbers) version unit none some of = and_from (is_of_version version unit) (may_call (Some numbers) unit) of (some numbers)
 
-call_admitted : (version : ℕ) (calls : Option (List ℕ)) → admits version calls (call_unit calls) ≡ true
+call_admitted : (version : GraphVersion) (calls : Option (List ℕ)) → admits version calls (call_unit calls) ≡ true
 call_admitted version None = refl
 call_admitted version (Some numbers) = same_itself numbers
 
-pub unit_admitted : (version : ℕ) (calls : Option (List ℕ)) (kind : ItemKind) (i : Instr) (whole : Bool) (target label : ℕ) (group : Group) → is_right kind i ≡ true →
+pub unit_admitted : (version : GraphVersion) (calls : Option (List ℕ)) (kind : ItemKind) (i : Instr) (whole : Bool) (target label : ℕ) (group : Group) → is_right kind i ≡ true →
     admits version calls (unit_of calls kind i whole target (jump_word version) label group) ≡ true
 unit_admitted version calls is.Ijump (I.Jalr rd rs1 imm) whole target label group right = is_free calls version (V.Ijump (jump_word version) rs1 imm label) refl (λ numbers. refl) (same_read (jump_word version))
 unit_admitted version calls is.Icall (I.Jalr rd rs1 imm) whole target label group right = is_free calls version (V.Icall rs1 imm label) refl (λ numbers. refl) refl

@@ -1,15 +1,15 @@
 -- What is written: its lines are those of its units, it is a graph's and well formed with it, and its units stand in its words.
 use Rattle.std.proofs.Common.{◌≡◌, ℕ, suc, ◌+◌, ◌-◌, ◌*◌, ◌%◌, ◌^◌, ◌<◌, ◌==◌, inl, inr, Bool, true, List, [], ◌∷◌, ◌++◌, length, map, get_or, Option, Some, None, refl, sym, ap, subst, ◌∙◌, arith}
-use Rattle.std.specs.Prelude.{◌&&◌, ◌||◌, if◌then◌else◌, nat_le, nat_lt, slice_get, slice_index}
+use Rattle.std.specs.Prelude.{◌&&◌, if◌then◌else◌, nat_le, nat_lt, slice_get, slice_index}
 use Rattle.std.specs.List.Sorted.{IsStrictlyIncreasing}
-use Rattle.std.proofs.lemmas.Bool.{and_from, cases_Bool, eq-eqb, le-leb, lt-ltb, or_left, or_right}
+use Rattle.std.proofs.lemmas.Bool.{and_from, cases_Bool, eq-eqb, le-leb, lt-ltb, or_left}
 use Rattle.std.proofs.lemmas.Option.{get_or_from_slice_get, slice_get_within}
+use Rattle.rv_word.specs.declared.version.GraphVersion.{GraphVersion}
 use Rattle.rv_word.specs.MemoryMap.{CODE_SIZE, CODE_START, START}
 use Rattle.obj_input.specs.declared.item_kind.ItemKind.{ItemKind}
 use Rattle.obj_input.specs.declared.item_kind.ItemKind.TheVariants as is
 use Rattle.obj_program.specs.declared.item.Item.{Item}
 use Rattle.obj_program.specs.Program.{count, item_of, no_item}
-use Rattle.rv_word.specs.Image.{IsVersion}
 use Rattle.cfi_graph.specs.Graph.{IsGraph, is_code_address, is_code_length, is_label, is_sort_of}
 use Rattle.cfi_graph.specs.declared.line.GraphLine.{GraphLine}
 use Rattle.cfi_graph.specs.declared.line.GraphLine.TheVariants.{Call}
@@ -41,10 +41,6 @@ use Rattle.cfi_writer.proofs.SideLabels.{in_classes, in_side, sort_fits, sort_ge
 use Rattle.cfi_writer.proofs.SoundCode.{member_at, member_there, written_sound}
 use Rattle.cfi_writer.proofs.Standing.{gate_starts, gates_rise, group_gate, laid, later_word, lead_there, leader, right, the_run, unit_there}
 use Rattle.cfi_writer.proofs.UnitOf.{is_right, unit_line}
-
-known_version : (version : ℕ) → IsVersion version → (version == 1 || version == 2) ≡ true
-known_version version (inl one) = or_left (version == 1) (version == 2) (eq-eqb version 1 one)
-known_version version (inr two) = or_right (version == 1) (version == 2) (eq-eqb version 2 two)
 
 -- a word before a unit has no line
 lines_led : (os : List (Option ℕ)) (us : List U.Unit) (at : ℕ) → lines_from at (map lead_unit os ++ us) ≡ lines_from (at + 4 * length (map lead_unit os)) us
@@ -183,11 +179,10 @@ module _ (m : Choice) (ok : IsAccepted m) where
   sorts_right j t get =
       let of = in_side m.layout.closed.sides j t get in
       ap (is_sort_of m.layout.closed.version) (sym of.sort_is)
-      ∙ sort_fits m.layout.closed.version ok.version of.index of.side.sort (sort_get m.layout.closed.version m.layout.closed.sides ok.sorts of.index of.side of.there)
+      ∙ sort_fits m.layout.closed.version of.index of.side.sort (sort_get m.layout.closed.version m.layout.closed.sides ok.sorts of.index of.side of.there)
 
   class_graph : IsGraph (record { version = m.layout.closed.version; code = size; lines = written_classes m })
   class_graph = record {
-    version = known_version m.layout.closed.version ok.version;
     sorts = lines_of_version m.layout.closed.version m.layout.gates m.labels (tagged m.layout.closed.sides) sorts_right;
     length = length_right;
     range = lines_range size m.layout.gates m.labels (tagged m.layout.closed.sides) label_right gate_right;
@@ -214,7 +209,7 @@ written_graph = graph_is
 pub written_well_formed : WrittenIsWellFormed
 written_well_formed m image graph ok words version lines same_length =
     placed_well_formed m.layout.profile (entry_gate m) (units m) (written_heads m) image graph ok.profile
-    (subst (λ (v : ℕ). IsSound m.layout.profile v (entry_gate m) (units m) (written_heads m)) (sym version) (written_sound m ok)) words (lines ∙ lines_are m ok) same_length
+    (subst (λ (v : GraphVersion). IsSound m.layout.profile v (entry_gate m) (units m) (written_heads m)) (sym version) (written_sound m ok)) words (lines ∙ lines_are m ok) same_length
 
 pub written_units : WrittenUnits
 written_units m ok = record {

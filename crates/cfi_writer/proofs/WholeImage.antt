@@ -1,6 +1,8 @@
 -- A prepared program that is written, with its graph and map.
 use Rattle.std.proofs.Common.{◌≡◌, ℕ, ◌*◌, ◌^◌, ◌<◌, ◌≤◌, List, length, Some, sym, ap, subst, ◌∙◌, arith}
 use Rattle.std.specs.Prelude.{slice_index}
+use Rattle.rv_word.specs.declared.version.GraphVersion.{GraphVersion}
+use Rattle.rv_word.specs.declared.version.ImageVersion.{ImageVersion}
 use Rattle.rv_word.specs.Image.{IsImageSize}
 use Rattle.rv_word.specs.Form.{image_version, profile_for}
 use Rattle.rv_word.specs.MemoryMap.{CODE_SIZE, Profile}
@@ -55,7 +57,7 @@ image_size m code init ok same room less =
     record { some = omega arith; most = omega arith; words = omega arith; data_most = less }
 
 -- code and data are bytes
-pub are_bytes : (version : ℕ) (code init : List ℕ) → ((k : ℕ) → slice_index code k < 2 ^ 8) → ((k : ℕ) → slice_index init k < 2 ^ 8) →
+pub are_bytes : (version : ImageVersion) (code init : List ℕ) → ((k : ℕ) → slice_index code k < 2 ^ 8) → ((k : ℕ) → slice_index init k < 2 ^ 8) →
     IsImageSize (length code) (length init) → AreBytes (record { version = version; code = code; init = init })
 are_bytes version code init of_code of_init size = record { code = of_code; init = of_init; size = size }
 
@@ -84,7 +86,7 @@ written_as form s labels code init image graph map able code_is init_is image_is
         init_is = init_is;
         bytes = bytes;
         image = image_is;
-        graph = graph_is ∙ ap (λ (v : ℕ). record { version = v; code = length code; lines = graph_lines s.layout labels }) able.version_is;
+        graph = graph_is ∙ ap (λ (v : GraphVersion). record { version = v; code = length code; lines = graph_lines s.layout labels }) able.version_is;
         map = legal;
         map_form = ap (λ (x : MapParts). x.form) map_is;
         gates = ap (λ (x : MapParts). gates_of x.lines) map_is ∙ gates_are m able.accepted;

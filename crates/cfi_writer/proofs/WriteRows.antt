@@ -1,5 +1,6 @@
 -- Worked rows: the prologue in its three parts, and the lines of a map of two places.
 use Rattle.std.proofs.Common.{◌≡◌, ℕ, [], ◌∷◌, ◌++◌, None, false, refl}
+use Rattle.rv_word.specs.declared.version.GraphVersion.TheVariants.{OneLabel}
 use Rattle.rv_word.specs.MemoryMap.{version_1, version_2}
 use Rattle.obj_input.specs.declared.item_kind.ItemKind.TheVariants as is
 use Rattle.obj_program.specs.declared.item.Patch.TheVariants as put
@@ -31,7 +32,7 @@ row_items = record {
     funcs = [];
     names = [];
   };
-  closed = record { version = 1; sides = record { sort = Both; classes = []; sites = [] } ∷ []; taken = false ∷ false ∷ []; calls = None };
+  closed = record { version = OneLabel; sides = record { sort = Both; classes = []; sites = [] } ∷ []; taken = false ∷ false ∷ []; calls = None };
   gates = 0x40000040 ∷ 0x40000054 ∷ [];
   entry = 0;
 }

@@ -3,6 +3,7 @@
 -- instructions and the sizes of units.
 use Rattle.std.proofs.Common.{◌≡◌, ℕ, true, false, List, [], ◌∷◌, ◌++◌, Some, None, length, take, drop, pos, refl}
 use Rattle.std.specs.Prelude.{Option, slice_get}
+use Rattle.rv_word.specs.declared.version.GraphVersion.TheVariants.{OneLabel, TwoLabels}
 use Rattle.rv_word.specs.MemoryMap.{Profile, UNITS_START, version_1, version_2}
 use Rattle.rv_code.specs.Decode.{decoded}
 use Rattle.rv_code.specs.Encode.{code_of}
@@ -14,7 +15,8 @@ use Rattle.obj_program.specs.declared.item.Patch.TheVariants as put
 use Rattle.obj_program.specs.declared.item.Value.TheVariants.{Number}
 use Rattle.obj_program.specs.AtMap.{instr_at}
 use Rattle.obj_program.specs.Program.{Program}
-use Rattle.cfi_graph.specs.declared.line.GraphLine.TheVariants.{Call, CallClass, Class, Edge, JumpClass, Site}
+use Rattle.cfi_graph.specs.declared.line.Sort.TheVariants as sorts
+use Rattle.cfi_graph.specs.declared.line.GraphLine.TheVariants.{Call, Class, Edge, Site}
 use Rattle.cfi_graph.specs.declared.line.SiteKind.TheVariants as site
 use Rattle.cfi_graph.specs.declared.line.Sort.TheVariants.{Both, Calls, Jumps}
 use Rattle.cfi_closed.specs.Closed.{Side}
@@ -45,7 +47,7 @@ abbrev pub layout : Profile → Program → List ℕ → ProgramAtMap
 layout profile program gates = record {
   profile = profile;
   program = program;
-  closed = record { version = 1; sides = record { sort = Both; classes = []; sites = [] } ∷ []; taken = false ∷ false ∷ false ∷ false ∷ []; calls = None };
+  closed = record { version = OneLabel; sides = record { sort = Both; classes = []; sites = [] } ∷ []; taken = false ∷ false ∷ false ∷ false ∷ []; calls = None };
   gates = gates;
   entry = 0;
 }
@@ -151,7 +153,7 @@ pointer = record {
       funcs = [];
       names = [];
     };
-    closed = record { version = 1; sides = record { sort = Both; classes = (8 ∷ 10 ∷ []) ∷ []; sites = record { place = 4; class = Some 0 } ∷ [] } ∷ []; taken = []; calls = None };
+    closed = record { version = OneLabel; sides = record { sort = Both; classes = (8 ∷ 10 ∷ []) ∷ []; sites = record { place = 4; class = Some 0 } ∷ [] } ∷ []; taken = []; calls = None };
     gates = 0x40000040 ∷ 0x40000044 ∷ 0x40000054 ∷ 0x40000058 ∷ 0x4000005c ∷ 0x400000ac ∷ 0x400000b0 ∷ 0x400000b4 ∷ 0x400000c8 ∷ 0x400000d0 ∷ 0x400000e4 ∷ 0x400000ec ∷ 0x40000100 ∷ [];
     entry = 0;
   };
@@ -168,7 +170,7 @@ pointer_rows : (length (written_code pointer) ≡ 65)
     × (take 6 (drop 17 (written_code pointer)) ≡ 0x00810f93 ∷ 0x024f9f93 ∷ 0x024fdf93 ∷ 0x001fb023 ∷ 0x000102b7 ∷ 0x0002b283 ∷ [])
     × (slice_get (written_code pointer) 31 ≡ Some 0x00001237) × (slice_get (written_code pointer) 50 ≡ Some 0x00001037)
     × (graph_lines pointer.layout pointer.labels
-    ≡ Class 1 (0x400000c8 ∷ 0x400000e4 ∷ []) ∷ Call 0x4000000c 0x40000040 ∷ Site 0x4000005c site.Call 1 ∷ [])
+    ≡ Class sorts.Both 1 (0x400000c8 ∷ 0x400000e4 ∷ []) ∷ Call 0x4000000c 0x40000040 ∷ Site 0x4000005c site.Call 1 ∷ [])
 unfolding units_of followers code_from words_of code_of instr_at decoded words_from labels_of label_at site_label site_number tagged class_lines place_lines empty_classes
 pointer_rows = (refl, refl, refl, refl, refl)
 
@@ -189,7 +191,7 @@ jumping = record {
     names = [];
   };
   closed = record {
-    version = 2;
+    version = TwoLabels;
     sides =
         record { sort = Calls; classes = (5 ∷ []) ∷ []; sites = record { place = 7; class = Some 0 } ∷ [] }
         ∷ record { sort = Jumps; classes = (3 ∷ 5 ∷ []) ∷ []; sites = record { place = 2; class = Some 0 } ∷ [] }
@@ -214,7 +216,7 @@ both_ways_rows : (length (written_code both_ways) ≡ 73) × (take 2 (drop 31 (w
     × (slice_get (written_code both_ways) 26 ≡ Some 0x00002237) × (slice_get (written_code both_ways) 54 ≡ Some 0x000faf03)
     × (slice_get (written_code both_ways) 55 ≡ Some 0x00001237)
     × (graph_lines both_ways.layout both_ways.labels
-    ≡ CallClass 1 (0x4000009c ∷ []) ∷ JumpClass 2 (0x4000007c ∷ 0x4000009c ∷ []) ∷ Call 0x4000000c 0x40000040 ∷ Site 0x40000048 site.Jump 2
+    ≡ Class sorts.Calls 1 (0x4000009c ∷ []) ∷ Class sorts.Jumps 2 (0x4000007c ∷ 0x4000009c ∷ []) ∷ Call 0x4000000c 0x40000040 ∷ Site 0x40000048 site.Jump 2
     ∷ Site 0x400000bc site.Call 1 ∷ [])
 unfolding jumping units_of followers code_from words_of code_of instr_at decoded words_from labels_of label_at site_label site_number tagged class_lines place_lines empty_classes
 both_ways_rows = (refl, refl, refl, refl, refl, refl, refl, refl)
@@ -229,6 +231,6 @@ with_empty =
 order_of_labels : (site_label (1 ∷ 2 ∷ 3 ∷ 4 ∷ []) with_empty 4 ≡ 1) × (site_label (1 ∷ 2 ∷ 3 ∷ 4 ∷ []) with_empty 1 ≡ 2)
     × (site_label (1 ∷ 2 ∷ 3 ∷ 4 ∷ []) with_empty 2 ≡ 3) × (site_label (1 ∷ 2 ∷ 3 ∷ 4 ∷ []) with_empty 3 ≡ 4)
     × (labels_of (1 ∷ 2 ∷ 3 ∷ 4 ∷ []) with_empty 9 ≡ Some 1 ∷ Some 3 ∷ [])
-    × (class_lines [] (1 ∷ 2 ∷ 3 ∷ 4 ∷ []) (tagged with_empty) ≡ CallClass 1 (0 ∷ []) ∷ CallClass 2 [] ∷ JumpClass 3 (0 ∷ []) ∷ JumpClass 4 [] ∷ [])
+    × (class_lines [] (1 ∷ 2 ∷ 3 ∷ 4 ∷ []) (tagged with_empty) ≡ Class sorts.Calls 1 (0 ∷ []) ∷ Class sorts.Calls 2 [] ∷ Class sorts.Jumps 3 (0 ∷ []) ∷ Class sorts.Jumps 4 [] ∷ [])
 unfolding labels_of label_at site_label site_number tagged class_lines empty_classes
 order_of_labels = (refl, refl, refl, refl, refl, refl)

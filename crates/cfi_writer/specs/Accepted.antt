@@ -3,7 +3,6 @@
 use Rattle.std.specs.Prelude.{◌≡◌, ℕ, ◌+◌, ◌*◌, ◌^◌, ◌≤◌, ◌<◌, true, false, List, Some, is_some, length, map, slice_get}
 use Rattle.std.specs.List.{All}
 use Rattle.std.specs.List.Sorted.{IsStrictlyIncreasing}
-use Rattle.rv_word.specs.Image.{IsVersion}
 use Rattle.rv_word.specs.MemoryMap.{CODE_SIZE, IsProfile}
 use Rattle.obj_program.specs.AtMap.{instr_at}
 use Rattle.obj_program.specs.Program.{count, is_end, item_of}
@@ -51,9 +50,8 @@ pub record IsAccepted (m : Choice) : Type 0 where
       is_some (instr_at m.layout.program m.layout.gates (words_at m.layout) k) ≡ true
   -- a list of system calls is one that a graph may have
   pub calls : may_be_calls m.layout.closed.calls ≡ true
-  -- its closed graph is for a version of graphs, and has the sides of that; of each the members of classes are places, rise, and are in one class alone, and
+  -- its closed graph has the sides of its version; of each the members of classes are places, rise, and are in one class alone, and
   -- the classes of sites are there; each computed transfer is a site of one side, of its sort
-  pub version : IsVersion m.layout.closed.version
   pub sorts : map (λ (s : Side). s.sort) m.layout.closed.sides ≡ sorts_of m.layout.closed.version
   pub members : (j c k : ℕ) (side : Side) → slice_get m.layout.closed.sides j ≡ Some side → IsIn side.classes c k → k < count m.layout.program
   pub rising : (j : ℕ) (side : Side) → slice_get m.layout.closed.sides j ≡ Some side → All IsStrictlyIncreasing side.classes

@@ -2,6 +2,7 @@
 -- the side with the index j stands 4 * j behind a target's gate.
 use Rattle.std.specs.Prelude.{◌≡◌, ℕ, ◌*◌, ◌<◌, true, List, [], Some, length, map, option_and_then, slice_get, slice_index, slice_index_or}
 use Rattle.std.specs.List.Sorted.{IsStrictlyIncreasing}
+use Rattle.rv_word.specs.declared.version.GraphVersion.{GraphVersion}
 use Rattle.cfi_class.specs.Classes.{IsIn}
 use Rattle.cfi_graph.specs.Graph.{ClassLine, class_in}
 use Rattle.cfi_graph.specs.declared.line.SiteKind.{SiteKind}
@@ -23,7 +24,7 @@ word_read which kinds.Call = First
 word_read which kinds.Jump = which
 
 -- labels of the classes of the sides for a version of graphs
-pub record AreLabelled (version : ℕ) (labels : List ℕ) (sides : List Side) : Type 0 where
+pub record AreLabelled (version : GraphVersion) (labels : List ℕ) (sides : List Side) : Type 0 where
   pub sorts : map (λ (s : Side). s.sort) sides ≡ sorts_of version
   pub counted : length labels ≡ length (tagged sides)
   pub rising : IsStrictlyIncreasing labels
@@ -47,20 +48,20 @@ pub record IsBorne (gates labels : List ℕ) (sides : List Side) (a : ℕ) (c : 
 -- each target of a class bears its label, at the word that its checks read
 abbrev pub TargetsBear : Type 0
 TargetsBear =
-    (version : ℕ) (gates labels : List ℕ) (sides : List Side) → AreLabelled version labels sides → (n a : ℕ) (c : ClassLine) →
+    (version : GraphVersion) (gates labels : List ℕ) (sides : List Side) → AreLabelled version labels sides → (n a : ℕ) (c : ClassLine) →
     option_and_then class_in (slice_get (class_lines gates labels (tagged sides)) n) ≡ Some c → is_among a c.targets ≡ true →
     IsBorne gates labels sides a c
 
 -- each place that bears a class's label is one of its targets
 abbrev pub GatesListed : Type 0
 GatesListed =
-    (version : ℕ) (gates labels : List ℕ) (sides : List Side) → AreLabelled version labels sides → (k j label : ℕ) (c : ClassLine) →
+    (version : GraphVersion) (gates labels : List ℕ) (sides : List Side) → AreLabelled version labels sides → (k j label : ℕ) (c : ClassLine) →
     slice_get (labels_of labels sides k) j ≡ Some (Some label) → class_with (class_lines gates labels (tagged sides)) label ≡ Some c →
     (past (read_of c.sort) ≡ 4 * j) × (is_among (slice_index gates k) c.targets ≡ true)
 
 -- each site is served by the class whose label it asks for
 abbrev pub SitesServed : Type 0
 SitesServed =
-    (version : ℕ) (gates labels : List ℕ) (sides : List Side) → AreLabelled version labels sides → (k : ℕ) (kind : SiteKind) (at : IsSiteOf sides k kind) →
+    (version : GraphVersion) (gates labels : List ℕ) (sides : List Side) → AreLabelled version labels sides → (k : ℕ) (kind : SiteKind) (at : IsSiteOf sides k kind) →
     targets_for (class_lines gates labels (tagged sides)) kind (word_read (jump_word version) kind) (site_label labels sides k)
     ≡ Some (map (slice_index gates) (slice_index_or (all_classes at.side) (site_number at.side.sites (length at.side.classes) k) []))

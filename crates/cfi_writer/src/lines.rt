@@ -68,7 +68,7 @@ impl<'c, 'a, 'b> Chosen<'c, 'a, 'b> {
     {
         for i in 0..many {
             let gates = self.class_gates(alloc, side, i)?;
-            lines.push(GraphLine::of_class(side.sort(), labels[i as usize], gates))?;
+            lines.push(GraphLine::Class(side.sort(), labels[i as usize], gates))?;
         }
         Ok(())
     }

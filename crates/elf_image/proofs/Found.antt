@@ -2,6 +2,7 @@
 use Rattle.std.proofs.Common.{◌≡◌, ℕ, ◌+◌, ◌-◌, List, ◌++◌, length, take, drop, None, refl, sym, ap, ◌∙◌, arith}
 use Rattle.std.proofs.Math.Seq.{take-add}
 use Rattle.std.proofs.lemmas.List.{take-append-drop, length-take-le, length-drop}
+use Rattle.rv_word.specs.declared.version.ImageVersion.{ImageVersion}
 use Rattle.elf_image.specs.Header.{fields_of, data_start, elf_header, program_header}
 use Rattle.elf_image.specs.Spelling.{headers, zeros, spelling}
 use Rattle.elf_image.specs.Fault.{version_in, code_of, init_of, fault_of}
@@ -21,7 +22,7 @@ five_parts xs a b c d =
     cc
 
 -- the parts of a file of this version with these lengths
-placed : (bytes code init : List ℕ) (v n d : ℕ) → IsSound bytes v n d
+placed : (bytes code init : List ℕ) (v : ImageVersion) (n d : ℕ) → IsSound bytes v n d
     → code ≡ take n (drop 0x1000 bytes) → init ≡ drop (data_start n) bytes
     → take 232 bytes ≡ headers v n d → take (0x1000 - 232) (drop 232 bytes) ≡ zeros (0x1000 - 232)
     → take (data_start n - 0x1000 - n) (drop (0x1000 + n) bytes) ≡ zeros (data_start n - 0x1000 - n)

@@ -1,8 +1,9 @@
 -- The spelling of an image has no fault, and is read as that image.
 use Rattle.std.proofs.Common.{◌≡◌, ℕ, ◌+◌, ◌-◌, ◌^◌, ◌<◌, ◌≤◌, List, [], ◌++◌, length, take, drop, None, refl, sym, ap, subst, ◌∙◌, arith, lit<, length-append}
 use Rattle.std.proofs.lemmas.List.{append_assoc, take_at, drop_at, length-replicate}
+use Rattle.rv_word.specs.declared.version.ImageVersion.{ImageVersion}
 use Rattle.rv_word.specs.MemoryMap.{Profile, IsProfile, profile_of}
-use Rattle.rv_word.specs.Image.{IsImageSize, IsVersion}
+use Rattle.rv_word.specs.Image.{IsImageSize}
 use Rattle.rv_word.proofs.Versions.{laid_out, is_profile}
 use Rattle.elf_image.specs.declared.field.Segment.{Segment}
 use Rattle.elf_image.specs.Header.{data_segment, code_segment, shadow_segment, fields_of, data_start, code_length, data_length, elf_header, program_header}
@@ -24,7 +25,7 @@ shadow_fits : (p : Profile) → IsProfile p → p.shadow_size < 256 ^ 8
 shadow_fits p is = let laid = laid_out p is in omega arith
 
 -- and so those of all headers
-all_fit : (v n d : ℕ) → n ≤ 2 ^ 20 → Fit (fields_of v n d)
+all_fit : (v : ImageVersion) (n d : ℕ) → n ≤ 2 ^ 20 → Fit (fields_of v n d)
 unfolding elf_header
 all_fit v n d small =
     let start : data_start n < 256 ^ 8 = omega arith in
@@ -38,7 +39,7 @@ all_fit v n d small =
     fit-append (elf_header ++ program_header 64 (data_segment n d) ++ program_header 120 (code_segment n)) (program_header 176 (shadow_segment v)) two third
 
 -- there are 232 bytes of headers
-pub length-headers : (v n d : ℕ) → length (headers v n d) ≡ 232
+pub length-headers : (v : ImageVersion) (n d : ℕ) → length (headers v n d) ≡ 232
 unfolding headers elf_header program_header
 length-headers v n d = refl
 
@@ -47,7 +48,7 @@ unfolding zeros
 length-zeros n = length-replicate n 0
 
 -- the headers are read as they were written
-headers_hold : (v n d : ℕ) (rest : List ℕ) → n ≤ 2 ^ 20 → Hold (headers v n d ++ rest) (fields_of v n d)
+headers_hold : (v : ImageVersion) (n d : ℕ) (rest : List ℕ) → n ≤ 2 ^ 20 → Hold (headers v n d ++ rest) (fields_of v n d)
 unfolding headers elf_header program_header
 headers_hold v n d rest small = row_reads [] (fields_of v n d) rest refl (all_fit v n d small)
 
@@ -65,7 +66,7 @@ length-five : (h z c y d : List ℕ) → length (((h ++ z) ++ c ++ y) ++ d) ≡ 
 length-five h z c y d = simp (length-append, append_assoc) (omega arith)
 
 -- what is read of a spelling
-pub record IsReadAs (bytes : List ℕ) (version : ℕ) (code init : List ℕ) : Type 0 where
+pub record IsReadAs (bytes : List ℕ) (version : ImageVersion) (code init : List ℕ) : Type 0 where
   pub sound : IsSound bytes version (length code) (length init)
   pub version_named : version_in bytes ≡ version
   pub code_named : code_of bytes ≡ length code
@@ -73,9 +74,9 @@ pub record IsReadAs (bytes : List ℕ) (version : ℕ) (code init : List ℕ) : 
   pub code_there : take (length code) (drop 0x1000 bytes) ≡ code
   pub init_there : drop (data_start (length code)) bytes ≡ init
 
-pub read_as : (v : ℕ) (code init : List ℕ) → IsVersion v → IsImageSize (length code) (length init) → IsReadAs (spelling v code init) v code init
+pub read_as : (v : ImageVersion) (code init : List ℕ) → IsImageSize (length code) (length init) → IsReadAs (spelling v code init) v code init
 unfolding spelling
-read_as v code init known size =
+read_as v code init size =
     let n = length code in
     let d = length init in
     let h = headers v n d in
@@ -105,19 +106,19 @@ read_as v code init known size =
         after_headers = none_in_zeros bytes 232 0x1000 second;
         after_code = none_in_zeros bytes (0x1000 + n) (data_start n) (fourth ∙ ap zeros gap);
       };
-      version_named = version_named bytes v n d known held;
+      version_named = version_named bytes v n d held;
       code_named = code_named bytes v n d held ∙ omega arith;
       init_named = init_named bytes v n d held ∙ omega arith;
       code_there = third;
       init_there = drop_at (h ++ z ++ code ++ y) init _ to_data;
     }
 
-pub reads_none : (bytes : List ℕ) (v : ℕ) (code init : List ℕ) → IsVersion v → IsImageSize (length code) (length init) → bytes ≡ spelling v code init
+pub reads_none : (bytes : List ℕ) (v : ImageVersion) (code init : List ℕ) → IsImageSize (length code) (length init) → bytes ≡ spelling v code init
     → fault_of bytes ≡ None
-reads_none bytes v code init known size e =
-    let r = read_as v code init known size in
+reads_none bytes v code init size e =
+    let r = read_as v code init size in
     let file = spelling v code init in
     let whole : IsSound file (version_in file) (code_of file) (init_of file) =
-    let sound_as : ℕ → Type 0 = λ k. IsSound file k (code_of file) (init_of file) in
+    let sound_as : ImageVersion → Type 0 = λ k. IsSound file k (code_of file) (init_of file) in
     subst sound_as (sym r.version_named) (rw (r.code_named, r.init_named) r.sound) in
     rw e (no_fault _ whole)

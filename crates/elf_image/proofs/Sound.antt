@@ -3,9 +3,11 @@ use Rattle.std.proofs.Common.{◌≡◌, ℕ, zero, suc, ◌+◌, ◌≤◌, nat
 use Rattle.std.specs.List.{slice_get}
 use Rattle.std.proofs.lemmas.Bool.{cases_lt}
 use borrow.Author.Tests.{lt-ltb, le-ltb}
+use Rattle.rv_word.specs.declared.version.ImageVersion.{ImageVersion}
+use Rattle.rv_word.specs.declared.version.ImageVersion.TheVariants.{OneHart, EightHarts}
 use Rattle.rv_word.proofs.Cases.{neither, unmapped}
 use Rattle.rv_word.specs.MemoryMap.{profile_of}
-use Rattle.rv_word.specs.Image.{IsImageSize, IsVersion}
+use Rattle.rv_word.specs.Image.{IsImageSize}
 use Rattle.elf_bytes.specs.Fields.{number_at}
 use Rattle.elf_image.specs.declared.field.Field.{Field}
 use Rattle.elf_image.specs.declared.refusal.ImageRefusal.TheVariants.{Short, Long}
@@ -14,7 +16,7 @@ use Rattle.elf_image.specs.Fault.{first_wrong, first_nonzero, version_in, code_o
 use Rattle.elf_image.proofs.Rows.{Hold, hold}
 
 -- what there is to say of a file of this version and these lengths that has no fault
-pub record IsSound (bytes : List ℕ) (version code init : ℕ) : Type 0 where
+pub record IsSound (bytes : List ℕ) (version : ImageVersion) (code init : ℕ) : Type 0 where
   pub long : 232 ≤ length bytes
   pub fields : first_wrong bytes (fields_of version code init) ≡ None
   pub end : length bytes ≡ data_start code + init
@@ -64,29 +66,29 @@ value_at bytes (g ∷ fs) zero f e h = let same : g ≡ f = cc in rw (← same) 
 value_at bytes (g ∷ fs) (suc i) f e h = value_at bytes fs i f e h.1
 
 -- the lengths that right headers name
-pub code_named : (bytes : List ℕ) (version code init : ℕ) → Hold bytes (fields_of version code init) → code_of bytes ≡ code_length code
+pub code_named : (bytes : List ℕ) (version : ImageVersion) (code init : ℕ) → Hold bytes (fields_of version code init) → code_of bytes ≡ code_length code
 unfolding elf_header program_header
 code_named bytes version code init h = value_at bytes (fields_of version code init) 27 (long 152 (code_length code)) refl h
 
-pub init_named : (bytes : List ℕ) (version code init : ℕ) → Hold bytes (fields_of version code init) → init_of bytes ≡ data_length init
+pub init_named : (bytes : List ℕ) (version : ImageVersion) (code init : ℕ) → Hold bytes (fields_of version code init) → init_of bytes ≡ data_length init
 unfolding elf_header program_header
 init_named bytes version code init h = value_at bytes (fields_of version code init) 19 (long 96 (data_length init)) refl h
 
 -- and the version
-shadow_named : (bytes : List ℕ) (version code init : ℕ) → Hold bytes (fields_of version code init)
+shadow_named : (bytes : List ℕ) (version : ImageVersion) (code init : ℕ) → Hold bytes (fields_of version code init)
     → number_at bytes 216 8 ≡ (profile_of version).shadow_size
 unfolding elf_header program_header
 shadow_named bytes version code init h =
     value_at bytes (fields_of version code init) 36 (long 216 (profile_of version).shadow_size) refl h
 
-named_by : (bytes : List ℕ) (version : ℕ) → IsVersion version → number_at bytes 216 8 ≡ (profile_of version).shadow_size
+named_by : (bytes : List ℕ) (version : ImageVersion) → number_at bytes 216 8 ≡ (profile_of version).shadow_size
     → version_in bytes ≡ version
-named_by bytes version (inl one) e = let size : number_at bytes 216 8 ≡ 0x10000 = rw one at e in rw (size, one) refl
-named_by bytes version (inr two) e = let size : number_at bytes 216 8 ≡ 0x80000 = rw two at e in rw (size, two) refl
+named_by bytes OneHart e = rw e refl
+named_by bytes EightHarts e = rw e refl
 
-pub version_named : (bytes : List ℕ) (version code init : ℕ) → IsVersion version → Hold bytes (fields_of version code init)
+pub version_named : (bytes : List ℕ) (version : ImageVersion) (code init : ℕ) → Hold bytes (fields_of version code init)
     → version_in bytes ≡ version
-version_named bytes version code init known h = named_by bytes version known (shadow_named bytes version code init h)
+version_named bytes version code init h = named_by bytes version (shadow_named bytes version code init h)
 
 -- are lengths that an image may have
 pub right_sizes : (bytes : List ℕ) → IsSound bytes (version_in bytes) (code_of bytes) (init_of bytes) → IsImageSize (code_of bytes) (init_of bytes)

@@ -1,6 +1,8 @@
 -- What is wrong with a file that is no image: the first of these in the order of the file, but lengths go before padding.
 use Rattle.std.specs.Prelude.{ℕ, ◌+◌, nat_lt, ◌==◌, not, if◌then◌else◌, Option, Some, None, option_map, List, [], ◌∷◌, length, position, slice_range}
 use Rattle.std.specs.Option.{option_or}
+use Rattle.rv_word.specs.declared.version.ImageVersion.{ImageVersion}
+use Rattle.rv_word.specs.declared.version.ImageVersion.TheVariants.{OneHart, EightHarts}
 use Rattle.rv_word.specs.MemoryMap.{version_2}
 use Rattle.elf_bytes.specs.Fields.{number_at}
 use Rattle.elf_image.specs.declared.field.Field.{Field}
@@ -26,8 +28,8 @@ init_of bytes = number_at bytes 96 8
 
 -- the version that a file names by p_memsz of its third program header: any size but version 2's is read as
 -- version 1's, and is a wrong field where it is another
-abbrev pub version_in : List ℕ → ℕ
-version_in bytes = if number_at bytes 216 8 == version_2.shadow_size then 2 else 1
+abbrev pub version_in : List ℕ → ImageVersion
+version_in bytes = if number_at bytes 216 8 == version_2.shadow_size then EightHarts else OneHart
 
 -- the offset of the first byte between headers and code or between code and data that is not zero
 abbrev pub wrong_padding : List ℕ → ℕ → Option ℕ
@@ -40,7 +42,7 @@ length_fault bytes code init =
     if nat_lt (data_start code + init) (length bytes) then Some (Long (length bytes)) else None
 
 -- what is wrong with a file that names this version and these lengths: a field, its length, or its padding
-abbrev pub fault_with : List ℕ → ℕ → ℕ → ℕ → Option ImageRefusal
+abbrev pub fault_with : List ℕ → ImageVersion → ℕ → ℕ → Option ImageRefusal
 fault_with bytes version code init =
     option_or (option_map (λ at. Byte at) (first_wrong bytes (fields_of version code init)))
     (option_or (length_fault bytes code init) (option_map (λ at. Byte at) (wrong_padding bytes code)))

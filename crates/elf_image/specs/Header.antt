@@ -1,5 +1,6 @@
 -- The headers of an image, field by field in the order of the file (System V gABI, "ELF Header" and "Program Header").
 use Rattle.std.specs.Prelude.{ℕ, ◌+◌, ◌-◌, ◌*◌, ◌/◌, ◌^◌, min, max, nat_le, Bool, ◌&&◌, List, [], ◌∷◌, ◌++◌}
+use Rattle.rv_word.specs.declared.version.ImageVersion.{ImageVersion}
 use Rattle.rv_word.specs.MemoryMap.{CODE_SIZE, CODE_START, DATA_END, DATA_START, SHADOW_START, START, profile_of}
 use Rattle.elf_image.specs.declared.field.Field.{Field}
 use Rattle.elf_image.specs.declared.field.Segment.{Segment}
@@ -71,12 +72,12 @@ abbrev pub code_segment : ℕ → Segment
 code_segment code = record { flags = 5; offset = 0x1000; address = CODE_START; file_size = code_length code; memory_size = CODE_SIZE }
 
 -- the shadow stack: PF_R and PF_W, nothing of it in the file; its size is what the versions differ in
-abbrev pub shadow_segment : ℕ → Segment
+abbrev pub shadow_segment : ImageVersion → Segment
 shadow_segment version =
     record { flags = 6; offset = 0; address = SHADOW_START; file_size = 0; memory_size = (profile_of version).shadow_size }
 
 -- the fields of a file of a version with `code` bytes of code and `init` of data: 232 bytes
-abbrev pub fields_of : ℕ → ℕ → ℕ → List Field
+abbrev pub fields_of : ImageVersion → ℕ → ℕ → List Field
 fields_of version code init =
     elf_header ++ program_header 64 (data_segment code init) ++ program_header 120 (code_segment code) ++ program_header 176 (shadow_segment version)
 

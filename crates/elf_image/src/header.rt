@@ -3,9 +3,9 @@ ghost use Rattle.std.specs.List.{list_all};
 ghost use Rattle.elf_image.specs.Header.{elf_header, program_header, data_segment, code_segment, shadow_segment, data_start, is_inside};
 
 use super::field::{Field, Segment, half, ident, long, word};
+use rv_word::ImageVersion;
 use rv_word::memory_map::{CODE_SIZE, CODE_START, DATA_END, DATA_START, SHADOW_START};
 use rv_word::profile::START;
-use rv_word::version::shadow_size;
 
 /// How many bytes a page has, on which code and data begin.
 pub(crate) const PAGE: u128 = 0x1000;
@@ -92,7 +92,7 @@ pub(crate) fn code_segment(code: u128) -> Segment
 }
 
 /// The shadow stack, of which the file has nothing, in an image of a version.
-pub(crate) fn shadow_segment(version: u8) -> Segment
+pub(crate) fn shadow_segment(version: ImageVersion) -> Segment
     ensures { result ≡ shadow_segment version }
 {
     Segment {
@@ -100,6 +100,6 @@ pub(crate) fn shadow_segment(version: u8) -> Segment
         offset: 0,
         address: u128::from(SHADOW_START),
         file_size: 0,
-        memory_size: u128::from(shadow_size(version)),
+        memory_size: u128::from(version.shadow_size()),
     }
 }

@@ -1,7 +1,7 @@
 ghost use Rattle.std.specs.Prelude.{◌≡◌, ◌+◌, ◌<◌, ◌≤◌, ◌^◌, List, ℕ, IsTrue, IsOkAnd, IfOk, OnOk, IfErr, None, Some, IfSome, option_map, length, position, not, ◌==◌};
 ghost use Rattle.std.specs.List.{list_all};
 ghost use Rattle.std.specs.Option.{option_or};
-ghost use Rattle.rv_word.specs.Image.{IsImageSize, IsVersion};
+ghost use Rattle.rv_word.specs.Image.{IsImageSize};
 ghost use Rattle.elf_bytes.specs.Fields.{number_at};
 ghost use Rattle.elf_image.specs.Header.{fields_of, data_start, is_inside};
 ghost use Rattle.elf_image.specs.Spelling.{spelling};
@@ -15,8 +15,7 @@ use super::header::{
 use super::refusal::ImageRefusal;
 use byteorder::{ByteOrder, LittleEndian};
 use elf_bytes::u64_at;
-use rv_word::Image;
-use rv_word::version::shadow_size;
+use rv_word::{Image, ImageVersion};
 
 /// Where the headers name the length of the code and of the data: `p_filesz` of their segments.
 const CODE_LENGTH: u64 = 152;
@@ -29,7 +28,7 @@ const SHADOW_LENGTH: usize = 216;
 /// What a file is made of: its version, where its code ends and where its data begin.
 #[derive(Clone, Copy)]
 struct Parts {
-    version: u8,
+    version: ImageVersion,
     end: usize,
     start: usize,
 }
@@ -40,7 +39,7 @@ pub fn read_image<'a>(bytes: &'a [u8]) -> Result<Image<'a>, ImageRefusal>
     ensures spelled { IfOk result (λ i. bytes.now ≡ spelling i.version i.code i.init) }
     ensures refused { IfErr result (λ e. fault_of bytes.now ≡ Some e) }
     ensures read { OnOk result (fault_of bytes.now ≡ None) }
-    ensures only { (version : ℕ) (code init : List ℕ) → IsVersion version → IsImageSize (length code) (length init) → bytes.now ≡ spelling version code init
+    ensures only { (version : ImageVersion) (code init : List ℕ) → IsImageSize (length code) (length init) → bytes.now ≡ spelling version code init
         → IsOkAnd result (λ i. i ≡ record { version = version; code = code; init = init }) }
 {
     let parts = parts_of(bytes)?;
@@ -90,20 +89,20 @@ fn named_lengths(bytes: &[u8]) -> Result<(u64, u64), ImageRefusal>
     }
 }
 
-/// The version whose shadow stack has the size that the program headers name, and 1 where neither has.
-fn named_version(bytes: &[u8]) -> u8
+/// The version whose shadow stack has the size that the program headers name, and version 1 where neither has.
+fn named_version(bytes: &[u8]) -> ImageVersion
     requires { 232 ≤ length bytes.now }
     ensures { result ≡ version_in bytes.now }
 {
-    if number(bytes, SHADOW_LENGTH, 8) == u128::from(shadow_size(2)) {
-        2
+    if number(bytes, SHADOW_LENGTH, 8) == u128::from(ImageVersion::EightHarts.shadow_size()) {
+        ImageVersion::EightHarts
     } else {
-        1
+        ImageVersion::OneHart
     }
 }
 
 /// The offset of the first field of the headers that is not as this version and these lengths want it.
-fn first_wrong_field(bytes: &[u8], version: u8, code: u64, init: u64) -> Option<usize>
+fn first_wrong_field(bytes: &[u8], version: ImageVersion, code: u64, init: u64) -> Option<usize>
     requires { 232 ≤ length bytes.now }
     ensures { result ≡ first_wrong bytes.now (fields_of version code init) }
 {

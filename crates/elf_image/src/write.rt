@@ -1,6 +1,7 @@
 ghost use Rattle.std.specs.Prelude.{◌≡◌, ◌≤◌, ◌<◌, ◌^◌, ◌+◌, ◌++◌, IsTrue, IfOk, OnOk, length};
 ghost use Rattle.std.specs.List.{flat_map, list_all};
-ghost use Rattle.rv_word.specs.Image.{IsImageSize, IsVersion};
+ghost use Rattle.rv_word.specs.Image.{IsImageSize};
+ghost use Rattle.rv_word.specs.declared.version.ImageVersion.TheVariants.{OneHart};
 ghost use Rattle.elf_image.specs.Header.{is_inside};
 ghost use Rattle.elf_image.specs.Spelling.{field_bytes, headers, zeros, spelling};
 
@@ -9,27 +10,26 @@ use super::header::{
     HEADERS, PAGE, code_segment, data_offset, data_segment, elf_header, program_header,
     shadow_segment,
 };
-use rv_word::NoMemory;
+use rv_word::{ImageVersion, NoMemory};
 use std::alloc::{AllocError, Global};
 
 /// The file of an image of version 1 with this code and these data.
 pub fn write_image(alloc: Global, code: &[u8], init: &[u8]) -> Result<Vec<u8>, NoMemory>
     requires { IsImageSize (length code.now) (length init.now) }
-    ensures { IfOk result (λ file. file.items ≡ spelling 1 code.now init.now) }
+    ensures { IfOk result (λ file. file.items ≡ spelling OneHart code.now init.now) }
 {
-    write_image_as(alloc, 1, code, init)
+    write_image_as(alloc, ImageVersion::OneHart, code, init)
 }
 
-/// The file of an image of version 1 or 2 with this code and these data.
+/// The file of an image of a version with this code and these data.
 #[tactic(auto, unfolding(crate::specs::Spelling::spelling))]
 pub fn write_image_as(
     alloc: Global,
-    version: u8,
+    version: ImageVersion,
     code: &[u8],
     init: &[u8],
 ) -> Result<Vec<u8>, NoMemory>
-    requires version { IsVersion version }
-    requires size { IsImageSize (length code.now) (length init.now) }
+    requires { IsImageSize (length code.now) (length init.now) }
     ensures { IfOk result (λ file. file.items ≡ spelling version code.now init.now) }
 {
     let start = data_offset(code.len() as u128) as usize;
@@ -44,7 +44,12 @@ pub fn write_image_as(
 
 /// Appends the headers of a file of a version with these lengths.
 #[tactic(auto, unfolding(crate::specs::Spelling::headers))]
-fn put_headers(file: &mut Vec<u8>, version: u8, code: u128, init: u128) -> Result<(), AllocError>
+fn put_headers(
+    file: &mut Vec<u8>,
+    version: ImageVersion,
+    code: u128,
+    init: u128,
+) -> Result<(), AllocError>
     requires { code < 2 ^ 64 }
     ensures { OnOk result (file.new.items ≡ file.old.items ++ headers version code init) }
 {

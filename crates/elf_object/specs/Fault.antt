@@ -3,8 +3,8 @@ use Rattle.std.specs.Prelude.{◌≡◌, ℕ, ◌+◌, nat_lt, Bool, ◌==◌, �
 use Rattle.std.specs.Option.{option_or}
 use Rattle.elf_object.specs.declared.fault.ObjectFault.{ObjectFault}
 use Rattle.elf_object.specs.declared.fault.ObjectFault.TheVariants.{NotElf, NotRelocatable, NotRiscv, Flags, Truncated, BadTable, SectionKind, BadSymbol}
-use Rattle.elf_object.specs.declared.fault.ObjectEnd.{ObjectEnd}
-use Rattle.elf_object.specs.declared.fault.ObjectEnd.TheVariants.{Refused, NoMemory}
+use Rattle.rv_word.specs.declared.end.End.{End}
+use Rattle.rv_word.specs.declared.end.End.TheVariants.{Fault, NoMemory}
 use Rattle.least.specs.First.{first_below}
 use Rattle.elf_tables.specs.Header.{e_shoff, e_shnum, section_headers_end}
 use Rattle.elf_object.specs.Header.{is_elf, e_type, e_machine, e_flags, are_flags_taken}
@@ -62,7 +62,7 @@ unfoldable pub fault_of : List ℕ → Option ObjectFault
 fault_of bytes = option_or (header_fault bytes) (option_or (truncated bytes) (section_fault bytes))
 
 -- an answer is the right one: an object, which is these bytes, exactly where they have no fault; only want of memory is free
-abbrev pub Answers : List ℕ → Result (List ℕ) ObjectEnd → Type 0
+abbrev pub Answers : List ℕ → Result (List ℕ) (End ObjectFault) → Type 0
 Answers bytes (Ok object) = (object ≡ bytes) × (fault_of bytes ≡ None)
-Answers bytes (Err (Refused fault)) = fault_of bytes ≡ Some fault
+Answers bytes (Err (Fault fault)) = fault_of bytes ≡ Some fault
 Answers bytes (Err NoMemory) = Unit {0}

@@ -1,6 +1,7 @@
 //! Sections whose bytes leave the file.
 
 ghost use Rattle.std.specs.Prelude.{◌≡◌, ◌<◌, ◌≤◌, None, Some, IfOk, OnOk, IfErr, length};
+ghost use Rattle.rv_word.specs.End.{IsFaultOf};
 ghost use Rattle.elf_tables.specs.Header.{e_shnum};
 ghost use Rattle.least.specs.First.{first_below};
 ghost use Rattle.elf_object.specs.Fault.{is_cut, cut_section, truncated};
@@ -8,6 +9,7 @@ ghost use Rattle.elf_object.specs.Fault.{is_cut, cut_section, truncated};
 use crate::fault::ObjectFault;
 use elf_tables::{Sections, long};
 use least::first_below;
+use rv_word::End;
 
 /// Whether the bytes of the section with this index leave the file.
 fn is_cut(sections: &Sections, index: u32) -> bool
@@ -36,17 +38,17 @@ pub(crate) fn cut_section(sections: &Sections) -> Option<ObjectFault>
 
 /// The sections of a file with room for the ELF header, if they and their headers lie in it.
 #[tactic(auto, unfolding(crate::specs::Fault::truncated))]
-pub(crate) fn whole_sections<'a>(bytes: &'a [u8]) -> Result<Sections<'a>, ObjectFault>
+pub(crate) fn whole_sections<'a>(bytes: &'a [u8]) -> Result<Sections<'a>, End<ObjectFault>>
     requires { 64 ≤ length bytes.now }
     ensures file { IfOk result (λ s. s ≡ bytes.now) }
     ensures whole { OnOk result (truncated bytes.now ≡ None) }
-    ensures truncated { IfErr result (λ fault. truncated bytes.now ≡ Some fault) }
+    ensures truncated { IfErr result (IsFaultOf (truncated bytes.now)) }
 {
     let Some(sections) = Sections::of(bytes) else {
-        return Err(ObjectFault::Truncated(long(bytes, 40)));
+        return Err(End::Fault(ObjectFault::Truncated(long(bytes, 40))));
     };
     match cut_section(&sections) {
-        Some(fault) => Err(fault),
+        Some(fault) => Err(End::Fault(fault)),
         None => Ok(sections),
     }
 }

@@ -1,9 +1,7 @@
 ghost use Rattle.std.specs.Prelude.{◌≡◌};
 ghost use Rattle.elf_object.specs.FaultText.{fault_number};
 
-use rv_word::NoMemory;
 use std::{error, fmt};
-use thiserror::Error;
 
 /// What is wrong with an object: the first of these that is, in this order, at its least index.
 #[derive(Clone, Copy, Debug)]
@@ -80,36 +78,3 @@ impl fmt::Display for ObjectFault {
 }
 
 impl error::Error for ObjectFault {}
-
-/// Why an object could not be read: a fault of its bytes, or want of memory.
-#[derive(Clone, Copy, Debug, Error)]
-pub enum ObjectEnd {
-    /// The file has this fault.
-    #[error("{0}")]
-    Refused(ObjectFault),
-    /// Memory could not be had.
-    #[error("out of memory")]
-    NoMemory,
-}
-
-impl From<NoMemory> for ObjectEnd {
-    ghost use Rattle.std.specs.Prelude.{◌≡◌};
-    ghost use Rattle.elf_object.specs.declared.fault.ObjectEnd.TheVariants as ends;
-
-    ghost from_gives = { λ e r. r ≡ ends.NoMemory };
-
-    fn from(_: NoMemory) -> Self {
-        ObjectEnd::NoMemory
-    }
-}
-
-impl From<ObjectFault> for ObjectEnd {
-    ghost use Rattle.std.specs.Prelude.{◌≡◌};
-    ghost use Rattle.elf_object.specs.declared.fault.ObjectEnd.TheVariants as ends;
-
-    ghost from_gives = { λ e r. r ≡ ends.Refused e };
-
-    fn from(fault: ObjectFault) -> Self {
-        ObjectEnd::Refused(fault)
-    }
-}

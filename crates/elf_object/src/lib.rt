@@ -3,7 +3,7 @@
 #![tactic(auto)]
 
 pub use elf_tables::{Reloc, SectionHeader, SymbolEntry};
-pub use fault::{ObjectEnd, ObjectFault};
+pub use fault::ObjectFault;
 pub use object::{Object, Relocs, Section, Symbol};
 
 mod cut;

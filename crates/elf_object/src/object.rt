@@ -8,11 +8,12 @@ ghost use Rattle.elf_tables.specs.Relocation.{relocation_bytes, relocation_count
 ghost use Rattle.elf_object.specs.Fault.{Answers, fault_of};
 
 use crate::cut::whole_sections;
-use crate::fault::ObjectEnd;
+use crate::fault::ObjectFault;
 use crate::header::header_fault;
 use crate::section::section_fault;
 use elf_tables::constants::{ENTRY_SIZE, SHF_ALLOC, SHF_EXECINSTR, SHF_WRITE};
 use elf_tables::{Lookup, Reloc, SectionHeader, SymbolEntry};
+use rv_word::End;
 use std::alloc::Global;
 use std::marker::Model;
 
@@ -127,16 +128,16 @@ impl<'a> Model for Object<'a> {
 
 impl<'a> Object<'a> {
     /// The object that a file is, or the first fault of the file at its least index.
-    pub fn read(alloc: Global, bytes: &'a [u8]) -> Result<Object<'a>, ObjectEnd>
+    pub fn read(alloc: Global, bytes: &'a [u8]) -> Result<Object<'a>, End<ObjectFault>>
         ensures { Answers bytes.now result }
     {
         if let Some(fault) = header_fault(bytes) {
-            return Err(ObjectEnd::Refused(fault));
+            return Err(End::Fault(fault));
         }
         let sections = whole_sections(bytes)?;
         let lookup = Lookup::of(alloc, sections)?;
         if let Some(fault) = section_fault(&lookup) {
-            return Err(ObjectEnd::Refused(fault));
+            return Err(End::Fault(fault));
         }
         Ok(Object { lookup })
     }

@@ -10,7 +10,7 @@ pub mod ProgramOf
 pub mod Before
 pub mod Standing
 pub mod Ranges
-pub mod ItemEnd
+pub mod Told
 pub mod FitCode
 pub mod Laws
 pub mod Added

@@ -9,14 +9,14 @@ ghost use Rattle.obj_items.specs.FitCode.{HasFitCode};
 ghost use Rattle.obj_said.specs.SaidOf.{said_by, said_of};
 ghost use Rattle.obj_items.specs.Finished.{IsFinished, Tells, told_in};
 
-use crate::item_end::ItemEnd;
-use crate::join_end::JoinEnd;
+use crate::join_fault::JoinFault;
 use crate::program::items_of;
 use elf_object::Object;
 use obj_join::Definers;
 use obj_program::Items;
 use obj_rules::ItemFault;
 use obj_said::{joined_input, name_numbers, symbols_of};
+use rv_word::End;
 use std::alloc::Global;
 
 /// The code of objects is whole words, in sections whose indices have 16 bits.
@@ -44,15 +44,15 @@ fn among(objects: &[Object], number: u64) -> (u64, u64)
 }
 
 /// What a fault of the input of objects is told as.
-fn told_in<'a>(objects: &[Object], fault: ItemFault) -> JoinEnd<'a>
+fn told_in<'a>(objects: &[Object], fault: ItemFault) -> JoinFault<'a>
     ensures { result ≡ told_in objects.now fault }
 {
     match fault {
         ItemFault::Undefined(number) => {
             let (object, symbol) = among(objects, number);
-            JoinEnd::Undefined(object, symbol)
+            JoinFault::Undefined(object, symbol)
         }
-        fault => JoinEnd::Items(fault),
+        fault => JoinFault::Items(fault),
     }
 }
 
@@ -61,7 +61,7 @@ fn program<'a>(
     alloc: Global,
     objects: &[Object<'a>],
     definers: &Definers<'_, 'a>,
-) -> Result<Items<'a>, JoinEnd<'a>>
+) -> Result<Items<'a>, End<JoinFault<'a>>>
     requires few { sum_by e_shnum objects.now ≤ 2 ^ 16 }
     requires definers { definers.now ≡ (said_by objects.now).symbols }
     ensures { Tells objects.now (joined_input (map said_of objects.now)) result }
@@ -70,13 +70,16 @@ fn program<'a>(
     codes_fit(objects);
     match items_of(alloc, input) {
         Ok(items) => Ok(items),
-        Err(ItemEnd::Refused(fault)) => Err(told_in(objects, fault)),
-        Err(ItemEnd::NoMemory) => Err(JoinEnd::NoMemory),
+        Err(End::Fault(fault)) => Err(End::Fault(told_in(objects, fault))),
+        Err(End::NoMemory) => Err(End::NoMemory),
     }
 }
 
 /// The program that objects are, if there is one.
-pub(crate) fn finished<'a>(alloc: Global, objects: &[Object<'a>]) -> Result<Items<'a>, JoinEnd<'a>>
+pub(crate) fn finished<'a>(
+    alloc: Global,
+    objects: &[Object<'a>],
+) -> Result<Items<'a>, End<JoinFault<'a>>>
     requires { sum_by e_shnum objects.now ≤ 2 ^ 16 }
     ensures { IsFinished objects.now result }
 {
@@ -84,7 +87,7 @@ pub(crate) fn finished<'a>(alloc: Global, objects: &[Object<'a>]) -> Result<Item
     let names = name_numbers(alloc, objects)?;
     let definers = Definers::of(alloc, &symbols, &names)?;
     match definers.duplicate() {
-        Some(name) => Err(JoinEnd::Duplicate(name)),
+        Some(name) => Err(End::Fault(JoinFault::Duplicate(name))),
         None => program(alloc, objects, &definers),
     }
 }

@@ -6,9 +6,10 @@ ghost use Rattle.obj_items.specs.Added.{IsAdded};
 ghost use Rattle.obj_items.specs.Finished.{IsFinished, Tells};
 
 use crate::finish::finished;
-use crate::join_end::JoinEnd;
+use crate::join_fault::JoinFault;
 use elf_object::Object;
 use obj_program::Items;
+use rv_word::End;
 use std::alloc::Global;
 use std::marker::Model;
 
@@ -47,13 +48,17 @@ impl<'a> Join<'a> {
     }
 
     /// Puts the object that a file is behind the others. After an error the objects are those that they were.
-    pub fn add(&mut self, object: &'a [u8]) -> Result<(), JoinEnd<'a>>
+    pub fn add(&mut self, object: &'a [u8]) -> Result<(), End<JoinFault<'a>>>
         ensures { IsAdded self.old object.now result self.new }
     {
-        let object = Object::read(self.alloc, object)?;
+        let object = match Object::read(self.alloc, object) {
+            Ok(object) => object,
+            Err(End::Fault(fault)) => return Err(End::Fault(JoinFault::Object(fault))),
+            Err(End::NoMemory) => return Err(End::NoMemory),
+        };
         let sections = self.sections + u64::from(object.sections());
         if sections > MAX_SECTIONS {
-            return Err(JoinEnd::TooManySections(sections));
+            return Err(End::Fault(JoinFault::TooManySections(sections)));
         }
         self.objects.push(object)?;
         self.sections = sections;
@@ -62,7 +67,7 @@ impl<'a> Join<'a> {
 
     /// The program that the objects are, where no name is defined twice and nothing is wrong with their instructions and
     /// relocations.
-    pub fn finish(self) -> Result<Items<'a>, JoinEnd<'a>>
+    pub fn finish(self) -> Result<Items<'a>, End<JoinFault<'a>>>
         ensures finished { IsFinished self.entry result }
         // One object whose names all differ is the program that it is by itself.
         ensures alone { (object : List ℕ) → self.entry ≡ object ∷ [] → HasOwnNames (said_of object).symbols → Tells (object ∷ []) (input_of object) result }

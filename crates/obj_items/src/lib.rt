@@ -6,9 +6,8 @@
 
 pub use fault::fault_in;
 pub use from_object::input_of;
-pub use item_end::ItemEnd;
 pub use join::Join;
-pub use join_end::JoinEnd;
+pub use join_fault::JoinFault;
 pub use program::{items, items_of};
 
 mod bare;
@@ -16,9 +15,8 @@ mod fault;
 mod finish;
 mod from_object;
 mod init;
-mod item_end;
 mod join;
-mod join_end;
+mod join_fault;
 pub mod laws;
 mod links;
 mod outline;

@@ -7,7 +7,7 @@ ghost use Rattle.obj_program.specs.Sound.{IsSound};
 ghost use Rattle.obj_items.specs.Contents.{AreContents};
 ghost use Rattle.obj_items.specs.FitCode.{HasFitCode};
 ghost use Rattle.obj_items.specs.FromObject.{input_of};
-ghost use Rattle.obj_items.specs.ItemEnd.{IsTold};
+ghost use Rattle.obj_items.specs.Told.{IsTold};
 ghost use Rattle.obj_items.specs.Links.{item_with};
 ghost use Rattle.obj_items.specs.Outline.{outline};
 ghost use Rattle.obj_items.specs.ProgramOf.{program_of};
@@ -15,7 +15,6 @@ ghost use Rattle.obj_items.specs.ProgramOf.{program_of};
 use crate::bare::bare;
 use crate::from_object::{code_fits, input_of};
 use crate::init::init;
-use crate::item_end::ItemEnd;
 use crate::links::linked_places;
 use crate::outline::{outline, room};
 use crate::ranges::program_is_sound;
@@ -24,8 +23,8 @@ use crate::taken::taken;
 use elf_object::Object;
 use obj_input::{DataLayout, Input};
 use obj_program::{InitialData, Items, PackedItem};
-use obj_rules::fault_of;
-use rv_word::NoMemory;
+use obj_rules::{ItemFault, fault_of};
+use rv_word::{End, NoMemory};
 use std::alloc::Global;
 
 /// What a program holds beside the symbols of its input and the relocations of data.
@@ -123,20 +122,20 @@ fn program_of<'a>(
 /// The program of an input, where nothing is wrong with its instructions and relocations; else what is wrong: the first of
 /// eight tests that fails anywhere, at its least section and offset. Room for all places is asked for before the tests, so
 /// that an input whose sections of code share bytes, and have more places than there is room for, costs no time.
-pub fn items_of<'a>(alloc: Global, input: Input<'a>) -> Result<Items<'a>, ItemEnd>
+pub fn items_of<'a>(alloc: Global, input: Input<'a>) -> Result<Items<'a>, End<ItemFault>>
     requires { HasFitCode input }
     ensures { IsTold input.entry result }
 {
     let room = room(alloc, &input)?;
     match fault_of(&input) {
-        Some(fault) => Err(ItemEnd::Refused(fault)),
+        Some(fault) => Err(End::Fault(fault)),
         None => Ok(program_of(alloc, input, room)?),
     }
 }
 
 /// The program that an object is by itself, or what is wrong with its instructions and relocations. It borrows the object's
 /// names and its data.
-pub fn items<'a>(alloc: Global, object: &Object<'a>) -> Result<Items<'a>, ItemEnd>
+pub fn items<'a>(alloc: Global, object: &Object<'a>) -> Result<Items<'a>, End<ItemFault>>
     ensures { IsTold (input_of object.now) result }
 {
     let input = input_of(alloc, object)?;

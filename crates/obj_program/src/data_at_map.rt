@@ -10,56 +10,23 @@ use crate::item::DataReloc;
 use crate::items::Items;
 use crate::packed_reloc::PackedReloc;
 use rv_reloc::{RelocRange, patch_data};
-use rv_word::NoMemory;
+use rv_word::End;
 use std::alloc::Global;
-use thiserror::Error;
-
-/// Why data have no value at a map: a value leaves the range of its relocation, or want of memory.
-#[derive(Clone, Copy, Debug, Error)]
-pub enum DataEnd {
-    #[error("relocation out of range")]
-    RelocRange,
-    /// Memory could not be had.
-    #[error("out of memory")]
-    NoMemory,
-}
-
-impl From<NoMemory> for DataEnd {
-    ghost use Rattle.std.specs.Prelude.{◌≡◌};
-    ghost use Rattle.obj_program.specs.declared.data_at_map.DataEnd.TheVariants as ends;
-
-    ghost from_gives = { λ e r. r ≡ ends.NoMemory };
-
-    fn from(_: NoMemory) -> Self {
-        DataEnd::NoMemory
-    }
-}
-
-impl From<RelocRange> for DataEnd {
-    ghost use Rattle.std.specs.Prelude.{◌≡◌};
-    ghost use Rattle.obj_program.specs.declared.data_at_map.DataEnd.TheVariants as ends;
-
-    ghost from_gives = { λ e r. r ≡ ends.RelocRange };
-
-    fn from(_: RelocRange) -> Self {
-        DataEnd::RelocRange
-    }
-}
 
 impl<'a> Items<'a> {
-    ghost use Rattle.obj_program.specs.declared.data_at_map.DataEnd.TheVariants as ends;
+    ghost use Rattle.rv_word.specs.End.{OnFault};
 
-    /// The initialised data where the places' gates, which are addresses, are these. `RelocRange` comes where a value leaves
+    /// The initialised data where the places' gates, which are addresses, are these. A fault comes where a value leaves
     /// the range of its relocation (RISC-V ELF psABI, "Relocations").
     #[tactic(auto, unfolding(crate::specs::DataAtMap::data_at))]
-    pub fn data_at(&self, alloc: Global, gates: &[u64]) -> Result<Vec<u8>, DataEnd>
+    pub fn data_at(&self, alloc: Global, gates: &[u64]) -> Result<Vec<u8>, End<RelocRange>>
         requires { length gates.now ≡ count self.now }
         ensures value { IfOk result (λ v. data_at self.now gates.now ≡ Some v.items) }
         ensures length { IfOk result (λ v. length v.items ≡ init_size self.now) }
-        ensures refused { IfErr result (λ e. e ≡ ends.RelocRange → data_at self.now gates.now ≡ None) }
+        ensures refused { IfErr result (OnFault (λ _. data_at self.now gates.now ≡ None)) }
     {
         let mut bytes = self.init().copied(alloc)?;
-        apply_all(bytes.as_mut_slice(), gates, self.relocations())?;
+        apply_all(bytes.as_mut_slice(), gates, self.relocations()).map_err(End::Fault)?;
         Ok(bytes)
     }
 }

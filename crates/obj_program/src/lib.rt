@@ -2,7 +2,6 @@
 //! have. A map from places to addresses makes instructions and data of it again. Above it nobody sees the object's bytes.
 #![tactic(auto)]
 
-pub use data_at_map::DataEnd;
 pub use initial_data::InitialData;
 pub use item::{DataReloc, Item, Patch, Value};
 pub use items::{Extent, Items};

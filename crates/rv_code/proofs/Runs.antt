@@ -1,5 +1,6 @@
 -- Worked runs, computed from the definition step by step: how many steps each takes to its stop.
 use Rattle.std.proofs.Common.{◌≡◌, ℕ, List, [], ◌∷◌, ◌++◌, refl, replicate}
+use Rattle.rv_word.specs.declared.version.ImageVersion.TheVariants.{OneHart}
 use Rattle.rv_word.specs.Image.{Contents}
 use Rattle.rv_word.specs.MemoryMap.{version_1}
 use Rattle.rv_word.specs.Memory.{loaded, placed, write}
@@ -16,7 +17,7 @@ prologue_bytes = 115 ∷ 0 ∷ 16 ∷ 0 ∷ 115 ∷ 0 ∷ 16 ∷ 0 ∷ 115 ∷ 0
 
 -- an image of the prologue, a call of the first unit, and these bytes
 abbrev image_of : List ℕ → Contents
-image_of code = record { version = 1; init = []; code = prologue_bytes ++ code }
+image_of code = record { version = OneHart; init = []; code = prologue_bytes ++ code }
 
 -- nothing changes before `n` steps
 abbrev pub calm : ℕ → List (List ByteChange)

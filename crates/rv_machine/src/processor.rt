@@ -19,10 +19,10 @@ use rv_instr::{
     BranchOp, Immediate, ImmediateOp, Instr, LoadOp, Reg, RegisterOp, ShiftOp, ShiftWordOp,
     StoreOp, UpperOp,
 };
-use rv_mem::{Change, LoadFault, Memory, WriteRefusal};
+use rv_mem::{Change, LoadFault, Memory};
 use rv_sys::{SysEnd, System};
 use rv_word::memory_map::{CODE_SIZE, CODE_START};
-use rv_word::{Bytes, Image, NoMemory};
+use rv_word::{Bytes, End, Image, ImageVersion, NoMemory};
 use std::alloc::Global;
 use std::marker::Model;
 use std::mem;
@@ -91,7 +91,7 @@ impl Processor {
     /// It runs by `execute`, which takes its instructions from elsewhere.
     pub fn with_data(
         alloc: Global,
-        version: u8,
+        version: ImageVersion,
         init: &[u8],
         input: &[u8],
     ) -> Result<Processor, NoMemory>
@@ -391,8 +391,8 @@ impl Processor {
                 self.hart.set_pc(self.hart.pc() + 4);
                 Ok(Turn::Ran)
             }
-            Err(WriteRefusal::StoreFault) => Ok(Turn::StoreFault(self.hart.pc(), addr)),
-            Err(WriteRefusal::NoMemory) => Err(NoMemory),
+            Err(End::Fault(_)) => Ok(Turn::StoreFault(self.hart.pc(), addr)),
+            Err(End::NoMemory) => Err(NoMemory),
         }
     }
 

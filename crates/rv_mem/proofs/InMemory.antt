@@ -4,6 +4,7 @@ use Rattle.std.proofs.lemmas.Bool.{cases_lt, and_parts}
 use Rattle.std.proofs.lemmas.Bool.Decides.{nat_tests}
 use Rattle.std.proofs.lemmas.List.{get_or_past, get_or-drop}
 use Rattle.std.proofs.Math.Path.{fun_ext}
+use Rattle.rv_word.specs.declared.version.ImageVersion.{ImageVersion}
 use Rattle.rv_word.specs.MemoryMap.{CODE_START, CODE_SIZE, DATA_START, DATA_END, lies_within, can_store, profile_of}
 use Rattle.rv_word.specs.Memory.{Memory, placed, read, zeros}
 use Rattle.rv_word.proofs.Versions.{is_profile, laid_out}
@@ -159,7 +160,7 @@ unfolding placed
 placed-swap code init below = fun_ext (λ k. grind (arith, nat_tests))
 
 -- memory of code alone
-pub memory_of-code : (version : ℕ) (code : List ℕ) (pages : Paged) → length code ≤ CODE_SIZE → byte_of pages ≡ zeros → memory_of (record { version = version; code = code; pages = pages }) ≡ placed zeros CODE_START code
+pub memory_of-code : (version : ImageVersion) (code : List ℕ) (pages : Paged) → length code ≤ CODE_SIZE → byte_of pages ≡ zeros → memory_of (record { version = version; code = code; pages = pages }) ≡ placed zeros CODE_START code
 unfolding memory_of placed
 memory_of-code version code pages fits none = fun_ext (λ k. rw (ap (λ (m : Memory). m (place_of k)) none) (grind (arith, nat_tests, get_or_past code (k - CODE_START) 0)))
 
@@ -167,7 +168,7 @@ pub bytes_placed : (m : Memory) (a : ℕ) (bs : List ℕ) → AreBytes m → ((k
 unfolding placed
 bytes_placed m a bs low bytes k = grind (arith, nat_tests, low k, bytes (k - a))
 
-pub whole_with_code : (version : ℕ) (code : List ℕ) (pages : Paged) → length code ≤ CODE_SIZE → byte_of pages ≡ zeros → ((k : ℕ) → get_or code k 0 < 2 ^ 8) → IsWhole (record { version = version; code = code; pages = pages })
+pub whole_with_code : (version : ImageVersion) (code : List ℕ) (pages : Paged) → length code ≤ CODE_SIZE → byte_of pages ≡ zeros → ((k : ℕ) → get_or code k 0 < 2 ^ 8) → IsWhole (record { version = version; code = code; pages = pages })
 whole_with_code version code pages fits none small = record {
   code = fits;
   bytes = subst (λ (f : Memory). AreBytes f) (sym (memory_of-code version code pages fits none)) (bytes_placed zeros CODE_START code (λ k. lit< tt) small);

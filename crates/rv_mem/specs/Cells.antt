@@ -1,5 +1,6 @@
 -- How memory is kept, and what it holds at each address.
 use Rattle.std.specs.Prelude.{ℕ, ◌+◌, ◌-◌, ◌/◌, ◌≤◌, ◌<◌, ◌^◌, ◌==◌, nat_lt, Bool, ◌||◌, ◌&&◌, if◌then◌else◌, List, slice_index, length, IsTrue}
+use Rattle.rv_word.specs.declared.version.ImageVersion.{ImageVersion}
 use Rattle.rv_word.specs.MemoryMap.{DATA_END, CODE_START, CODE_SIZE, SHADOW_START, lies_within, profile_of}
 use Rattle.rv_word.specs.Memory.{Memory}
 use Rattle.rv_mem.specs.Pages.{PAGE_SIZE, Paged, byte_of, is_made}
@@ -7,7 +8,7 @@ use Rattle.rv_mem.specs.Pages.{PAGE_SIZE, Paged, byte_of, is_made}
 -- the version of the image whose memory it is, which says how large the shadow is, the bytes of code that the image
 -- has, and the pages of data and shadow
 pub record Cells : Type 0 where
-  pub version : ℕ
+  pub version : ImageVersion
   pub code : List ℕ
   pub pages : Paged
 
@@ -16,7 +17,7 @@ abbrev pub place_of : ℕ → ℕ
 place_of a = if nat_lt a DATA_END then a else DATA_END + (a - SHADOW_START)
 
 -- an address of data or shadow, which are kept in pages
-abbrev pub is_paged : ℕ → ℕ → Bool
+abbrev pub is_paged : ImageVersion → ℕ → Bool
 is_paged version a = lies_within 0 DATA_END a 1 || lies_within SHADOW_START (profile_of version).shadow_size a 1
 
 -- what memory holds at each address

@@ -4,9 +4,8 @@ ghost use Rattle.std.specs.Prelude.{◌≡◌, ◌≤◌, ◌+◌, ◌<◌, ◌^
 ghost use Rattle.rv_word.specs.MemoryMap.{can_load, can_store, lies_within, profile_of, region_of};
 ghost use Rattle.rv_mem.specs.Cells.{is_paged};
 
-use rv_word::Region;
 use rv_word::memory_map::{CODE_SIZE, CODE_START, CODE_TAIL, DATA_END, SHADOW_START};
-use rv_word::version::shadow_size;
+use rv_word::{ImageVersion, Region};
 
 /// Whether the `n` bytes from `addr` on lie whole in the `size` bytes from `start` on.
 pub(crate) fn is_within(start: u64, size: u64, addr: u64, n: u64) -> bool
@@ -18,40 +17,40 @@ pub(crate) fn is_within(start: u64, size: u64, addr: u64, n: u64) -> bool
 }
 
 /// Whether a load may read the `n` bytes from `addr` on.
-pub(crate) fn is_loadable(version: u8, addr: u64, n: u8) -> bool
+pub(crate) fn is_loadable(version: ImageVersion, addr: u64, n: u8) -> bool
     requires { n ≤ 8 }
     ensures { result ≡ can_load (profile_of version) addr n }
 {
     let n = u64::from(n);
     is_within(0, DATA_END, addr, n)
         || is_within(CODE_START, CODE_SIZE + CODE_TAIL, addr, n)
-        || is_within(SHADOW_START, shadow_size(version), addr, n)
+        || is_within(SHADOW_START, version.shadow_size(), addr, n)
 }
 
-pub(crate) fn is_storable(version: u8, addr: u64, n: u8) -> bool
+pub(crate) fn is_storable(version: ImageVersion, addr: u64, n: u8) -> bool
     requires { n ≤ 8 }
     ensures { result ≡ can_store (profile_of version) addr n }
 {
     let n = u64::from(n);
-    is_within(0, DATA_END, addr, n) || is_within(SHADOW_START, shadow_size(version), addr, n)
+    is_within(0, DATA_END, addr, n) || is_within(SHADOW_START, version.shadow_size(), addr, n)
 }
 
 /// Whether an address is one of data or shadow, which are kept in pages.
-pub(crate) fn is_paged(version: u8, addr: u64) -> bool
+pub(crate) fn is_paged(version: ImageVersion, addr: u64) -> bool
     ensures { result ≡ is_paged version addr }
 {
-    is_within(0, DATA_END, addr, 1) || is_within(SHADOW_START, shadow_size(version), addr, 1)
+    is_within(0, DATA_END, addr, 1) || is_within(SHADOW_START, version.shadow_size(), addr, 1)
 }
 
-/// The region of an address in the machine of images of a version, 1 or 2, if it is in one.
-pub fn region(addr: u64, version: u8) -> Option<Region>
+/// The region of an address in the machine of images of a version, if it is in one.
+pub fn region(addr: u64, version: ImageVersion) -> Option<Region>
     ensures { result ≡ region_of (profile_of version) addr }
 {
     if is_within(0, DATA_END, addr, 1) {
         Some(Region::Data)
     } else if is_within(CODE_START, CODE_SIZE, addr, 1) {
         Some(Region::Code)
-    } else if is_within(SHADOW_START, shadow_size(version), addr, 1) {
+    } else if is_within(SHADOW_START, version.shadow_size(), addr, 1) {
         Some(Region::Shadow)
     } else {
         None

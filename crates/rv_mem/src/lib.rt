@@ -4,13 +4,13 @@
 
 pub use access::region;
 pub use change::Change;
+pub use fault::{LoadFault, StoreFault};
 pub use memory::Memory;
-pub use refusal::{LoadFault, WriteRefusal};
 
 mod access;
 mod change;
+mod fault;
 mod little_endian;
 mod memory;
 mod page;
 mod pages;
-mod refusal;

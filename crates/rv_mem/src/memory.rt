@@ -1,18 +1,20 @@
-ghost use Rattle.std.specs.Prelude.{◌≡◌, ℕ, ◌+◌, ◌%◌, ◌≤◌, ◌<◌, ◌^◌, ◌↔◌, nat_le, IfOk, OnOk, OnErr, IsErr, IsErrOf, IsTrue, true, false, length, Result, slice_index};
+ghost use Rattle.std.specs.Prelude.{◌≡◌, ℕ, ◌+◌, ◌%◌, ◌≤◌, ◌<◌, ◌^◌, ◌↔◌, nat_le, IfOk, OnOk, OnErr, IsErr, IsErrAnd, IsErrOf, IsTrue, true, false, length, Result, slice_index};
 ghost use Rattle.rv_word.specs.MemoryMap.{can_load, can_store, profile_of, DATA_START, DATA_END, CODE_START, CODE_SIZE};
+ghost use Rattle.rv_word.specs.End.{IsFault};
 ghost use Rattle.rv_word.specs.Memory.{placed, read, write, zeros, loaded};
+ghost use Rattle.rv_word.specs.declared.version.ImageVersion.TheVariants.{OneHart};
 ghost use Rattle.rv_mem.specs.Access.{IsAccessSize};
 ghost use Rattle.rv_mem.specs.Cells.{memory_of, has_room, HasRoom, with_byte, AreBytes, place_of};
 ghost use Rattle.rv_mem.specs.Pages.{PAGE_SIZE};
 
 use crate::access::{is_loadable, is_paged, is_storable, is_within};
 use crate::change::Change;
+use crate::fault::{LoadFault, StoreFault};
 use crate::little_endian::{double_word_at, half_word_at, rest, word_at};
 use crate::page::PAGE_SIZE;
 use crate::pages::Pages;
-use crate::refusal::{LoadFault, WriteRefusal};
 use rv_word::memory_map::{CODE_SIZE, CODE_START, DATA_END, DATA_START, SHADOW_START};
-use rv_word::{Image, NoMemory};
+use rv_word::{End, Image, ImageVersion, NoMemory};
 use std::alloc::Global;
 use std::marker::Model;
 
@@ -20,7 +22,7 @@ use std::marker::Model;
 /// kept as the bytes that an image has, data and shadow in pages, each made at the first write to it.
 #[derive(Drop)]
 pub struct Memory {
-    version: u8,
+    version: ImageVersion,
     code: Vec<u8>,
     pages: Pages,
 }
@@ -38,10 +40,10 @@ impl Model for Memory {
 impl Memory {
     /// Memory of zeros, for images of version 1.
     pub fn new(alloc: Global) -> Result<Memory, NoMemory>
-        ensures version { IfOk result (λ memory. memory.version ≡ 1) }
+        ensures version { IfOk result (λ memory. memory.version ≡ OneHart) }
         ensures memory { IfOk result (λ memory. memory_of memory ≡ zeros) }
     {
-        Memory::with_contents(alloc, 1, &[], &[])
+        Memory::with_contents(alloc, ImageVersion::OneHart, &[], &[])
     }
 
     /// The memory in which a run of an image starts.
@@ -53,7 +55,7 @@ impl Memory {
     }
 
     /// The memory of a version in which initialised data stand alone, without code.
-    pub fn with_data(alloc: Global, version: u8, init: &[u8]) -> Result<Memory, NoMemory>
+    pub fn with_data(alloc: Global, version: ImageVersion, init: &[u8]) -> Result<Memory, NoMemory>
         requires { DATA_START + length init.now ≤ DATA_END }
         ensures version { IfOk result (λ memory. memory.version ≡ version) }
         ensures memory { IfOk result (λ memory. memory_of memory ≡ placed zeros DATA_START init.now) }
@@ -64,7 +66,7 @@ impl Memory {
     /// The memory in which this code and these initialised data stand.
     fn with_contents(
         alloc: Global,
-        version: u8,
+        version: ImageVersion,
         code: &[u8],
         init: &[u8],
     ) -> Result<Memory, NoMemory>
@@ -79,7 +81,7 @@ impl Memory {
     }
 
     /// The memory in which this code stands alone.
-    fn with_code(alloc: Global, version: u8, code: &[u8]) -> Result<Memory, NoMemory>
+    fn with_code(alloc: Global, version: ImageVersion, code: &[u8]) -> Result<Memory, NoMemory>
         requires { length code.now ≤ CODE_SIZE }
         ensures version { IfOk result (λ memory. memory.version ≡ version) }
         ensures memory { IfOk result (λ memory. memory_of memory ≡ placed zeros CODE_START code.now) }
@@ -148,18 +150,18 @@ impl Memory {
     /// Writes the low `n` bytes of `value`, the lowest first. A write into data or shadow may want
     /// memory, unless its pages were made.
     #[inline(always)]
-    pub fn write(&mut self, addr: u64, n: u8, value: u64) -> Result<(), WriteRefusal>
+    pub fn write(&mut self, addr: u64, n: u8, value: u64) -> Result<(), End<StoreFault>>
         requires { IsAccessSize n }
         ensures written { OnOk result (memory_of self.new ≡ write n (memory_of self.old) addr value) }
-        ensures fault { IsErrOf result WriteRefusal.StoreFault ↔ (can_store (profile_of self.old.version) addr n ≡ false) }
-        ensures wants { IsErrOf result WriteRefusal.NoMemory → can_store (profile_of self.old.version) addr n ≡ true }
-        ensures room { IsErrOf result WriteRefusal.NoMemory → ¬ HasRoom self.old addr n }
+        ensures fault { IsErrAnd result IsFault ↔ (can_store (profile_of self.old.version) addr n ≡ false) }
+        ensures wants { IsErrOf result End.NoMemory → can_store (profile_of self.old.version) addr n ≡ true }
+        ensures room { IsErrOf result End.NoMemory → ¬ HasRoom self.old addr n }
         ensures refused { OnErr result (memory_of self.new ≡ memory_of self.old) }
         ensures version { self.new.version ≡ self.old.version }
         ensures kept { (k : ℕ) → IsTrue (has_room self.old k) → IsTrue (has_room self.new k) }
     {
         if !is_storable(self.version, addr, n) {
-            return Err(WriteRefusal::StoreFault);
+            return Err(End::Fault(StoreFault));
         }
         let bytes = value.to_le_bytes();
         let bytes = &bytes[..usize::from(n)];

@@ -1,5 +1,7 @@
 -- What both versions of images have: the facts about their addresses that proofs about any profile need.
-use Rattle.std.proofs.Common.{◌≡◌, ℕ, ◌+◌, ◌*◌, ◌%◌, ◌≤◌, ◌==◌, inl, inr, Bool, true, false, if◌then◌else◌, refl, sym, subst, arith}
+use Rattle.std.proofs.Common.{◌≡◌, ◌+◌, ◌*◌, ◌%◌, ◌≤◌, inl, inr, refl, sym, subst, arith}
+use Rattle.rv_word.specs.declared.version.ImageVersion.{ImageVersion}
+use Rattle.rv_word.specs.declared.version.ImageVersion.TheVariants.{OneHart, EightHarts}
 use Rattle.rv_word.specs.MemoryMap.{CODE_START, PART_SIZE, Profile, IsProfile, profile_of, version_1, version_2}
 
 pub record LaidOut (p : Profile) : Type 0 where
@@ -41,8 +43,6 @@ laid_out p (inl e) = subst (λ (q : Profile). LaidOut q) (sym e) laid_out_1
 laid_out p (inr e) = subst (λ (q : Profile). LaidOut q) (sym e) laid_out_2
 
 -- each version has a profile
-pub is_profile : (version : ℕ) → IsProfile (profile_of version)
-is_profile version = by_test (version == 1) where
-  by_test : (b : Bool) → IsProfile (if b then version_1 else version_2)
-  by_test true = inl refl
-  by_test false = inr refl
+pub is_profile : (version : ImageVersion) → IsProfile (profile_of version)
+is_profile OneHart = inl refl
+is_profile EightHarts = inr refl

@@ -1,27 +1,32 @@
 -- The forms in which a program is hardened: each has images of one version, graphs of one version, and a name.
-use Rattle.std.specs.Prelude.{ℕ, ◌==◌, List, Option, Some, None, codes, if◌then◌else◌}
+use Rattle.std.specs.Prelude.{ℕ, List, Option, Some, None, codes, if◌then◌else◌}
 use Rattle.std.specs.Str.{bytes_eq}
 use Rattle.rv_word.specs.MemoryMap.{Profile, profile_of}
+use Rattle.rv_word.specs.declared.version.ImageVersion.{ImageVersion}
+use Rattle.rv_word.specs.declared.version.ImageVersion.TheVariants.{OneHart, EightHarts}
+use Rattle.rv_word.specs.declared.version.GraphVersion.{GraphVersion}
+use Rattle.rv_word.specs.declared.version.GraphVersion.TheVariants.{OneLabel, TwoLabels}
 use Rattle.rv_word.specs.declared.form.Form.{Form}
 use Rattle.rv_word.specs.declared.form.Form.TheVariants.{Plain, Harts, Split, HartsSplit}
 
-abbrev pub image_version : Form → ℕ
-image_version Plain = 1
-image_version Harts = 2
-image_version Split = 1
-image_version HartsSplit = 2
+abbrev pub image_version : Form → ImageVersion
+image_version Plain = OneHart
+image_version Harts = EightHarts
+image_version Split = OneHart
+image_version HartsSplit = EightHarts
 
-abbrev pub graph_version : Form → ℕ
-graph_version Plain = 1
-graph_version Harts = 1
-graph_version Split = 2
-graph_version HartsSplit = 2
+abbrev pub graph_version : Form → GraphVersion
+graph_version Plain = OneLabel
+graph_version Harts = OneLabel
+graph_version Split = TwoLabels
+graph_version HartsSplit = TwoLabels
 
 -- the form with images and graphs of these versions
-abbrev pub form_of : ℕ → ℕ → Form
-form_of image graph =
-    if image == 2 then (if graph == 2 then HartsSplit else Harts) else
-    if graph == 2 then Split else Plain
+abbrev pub form_of : ImageVersion → GraphVersion → Form
+form_of OneHart OneLabel = Plain
+form_of EightHarts OneLabel = Harts
+form_of OneHart TwoLabels = Split
+form_of EightHarts TwoLabels = HartsSplit
 
 -- what images of a form have of their version
 abbrev pub profile_for : Form → Profile

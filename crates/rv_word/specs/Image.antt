@@ -1,15 +1,12 @@
 -- An image: its version, and the bytes of its code and of its initialised data.
-use Rattle.std.specs.Prelude.{◌≡◌, ◌⊎◌, ℕ, ◌%◌, ◌≤◌, ◌^◌, List}
+use Rattle.std.specs.Prelude.{◌≡◌, ℕ, ◌%◌, ◌≤◌, ◌^◌, List}
 use Rattle.rv_word.specs.MemoryMap.{Profile, profile_of}
+use Rattle.rv_word.specs.declared.version.ImageVersion.{ImageVersion}
 
 pub record Contents : Type 0 where
-  pub version : ℕ
+  pub version : ImageVersion
   pub code : List ℕ
   pub init : List ℕ
-
--- the versions that there are
-abbrev pub IsVersion : ℕ → Type 0
-IsVersion version = (version ≡ 1) ⊎ (version ≡ 2)
 
 -- what an image's version differs in
 abbrev pub image_profile : Contents → Profile

@@ -1,6 +1,8 @@
 -- The machine's memory map: three regions, and what each allows. Its addresses and sizes are the
 -- constants of `src/memory_map.rt` and `src/profile.rt`, under the same names.
-use Rattle.std.specs.Prelude.{◌≡◌, ℕ, ◌+◌, ◌*◌, ◌==◌, ◌≤◌, nat_le, ◌⊎◌, Bool, ◌&&◌, ◌||◌, Option, Some, None, if◌then◌else◌}
+use Rattle.std.specs.Prelude.{◌≡◌, ℕ, ◌+◌, ◌*◌, ◌≤◌, nat_le, ◌⊎◌, Bool, ◌&&◌, ◌||◌, Option, Some, None, if◌then◌else◌}
+use Rattle.rv_word.specs.declared.version.ImageVersion.{ImageVersion}
+use Rattle.rv_word.specs.declared.version.ImageVersion.TheVariants.{OneHart, EightHarts}
 use Rattle.rv_word.specs.declared.region.Region.{Region}
 use Rattle.rv_word.specs.declared.region.Region.TheVariants.{Data, Code, Shadow}
 use Rattle.rv_word.specs.declared.memory_map.TheConstants as map
@@ -73,8 +75,9 @@ version_2 = record {
 }
 
 -- the profile of a version's images
-abbrev pub profile_of : ℕ → Profile
-profile_of version = if version == 1 then version_1 else version_2
+abbrev pub profile_of : ImageVersion → Profile
+profile_of OneHart = version_1
+profile_of EightHarts = version_2
 
 abbrev pub IsProfile : Profile → Type 0
 IsProfile p = (p ≡ version_1) ⊎ (p ≡ version_2)

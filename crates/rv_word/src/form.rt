@@ -1,9 +1,8 @@
 ghost use Rattle.std.specs.Prelude.{◌≡◌, ◌+◌, ◌-◌, ◌≤◌, ◌<◌, ◌^◌};
 ghost use Rattle.rv_word.specs.Form.{form_name, form_named, form_of, graph_version, image_version, profile_for};
-ghost use Rattle.rv_word.specs.Image.{IsVersion};
 ghost use Rattle.rv_word.specs.MemoryMap.{CODE_START};
 
-use crate::version::{closing, units_from};
+use crate::version::{GraphVersion, ImageVersion};
 
 /// The form in which a program is hardened. What is asked of a form is a number or a value of it.
 #[derive(Clone, Copy, Debug, PartialEq, Eq)]
@@ -20,25 +19,23 @@ pub enum Form {
 
 impl Form {
     /// The version of the images of this form.
-    pub fn image_version(self) -> u8
-        ensures value { result ≡ image_version self }
-        ensures known { IsVersion result }
+    pub fn image_version(self) -> ImageVersion
+        ensures { result ≡ image_version self }
     {
         match self {
-            Form::Plain | Form::Split => 1,
-            Form::Harts | Form::HartsSplit => 2,
+            Form::Plain | Form::Split => ImageVersion::OneHart,
+            Form::Harts | Form::HartsSplit => ImageVersion::EightHarts,
         }
     }
 
     /// The version of the graphs of this form. The two versions tell the form.
-    pub fn graph_version(self) -> u8
+    pub fn graph_version(self) -> GraphVersion
         ensures value { result ≡ graph_version self }
-        ensures known { IsVersion result }
         ensures told { form_of (image_version self) result ≡ self }
     {
         match self {
-            Form::Plain | Form::Harts => 1,
-            Form::Split | Form::HartsSplit => 2,
+            Form::Plain | Form::Harts => GraphVersion::OneLabel,
+            Form::Split | Form::HartsSplit => GraphVersion::TwoLabels,
         }
     }
 
@@ -48,7 +45,7 @@ impl Form {
         ensures low { CODE_START + 64 ≤ result }
         ensures high { result ≤ CODE_START + 80 }
     {
-        units_from(self.image_version())
+        self.image_version().units_from()
     }
 
     /// The address to which a program returns in images of this form.
@@ -56,7 +53,7 @@ impl Form {
         ensures value { result ≡ (profile_for self).closing }
         ensures near { result < 2 ^ 32 }
     {
-        closing(self.image_version())
+        self.image_version().closing()
     }
 
     /// The address at which the opening's call of the entry begins, as a unit, in images of this form.

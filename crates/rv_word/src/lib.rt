@@ -1,5 +1,5 @@
 //! Words of the machine: exact bit numbers, their products and quotients, the regions of memory, an
-//! image's bytes, the numbers of system calls, and the answer for want of memory. All crates but
+//! image's bytes, versions of images and graphs, the numbers of system calls, and the answer for want of memory. All crates but
 //! `rv_instr`, `elf_bytes` and `tool_io` stand on this one.
 #![tactic(auto)]
 
@@ -7,6 +7,7 @@ pub use bits::{add64, field, low32, sext};
 pub use bytes::Bytes;
 pub use divide::{div64, rem64};
 pub use divide_word::{div32, rem32};
+pub use end::End;
 pub use form::Form;
 pub use image::Image;
 pub use multiply::mul_high;
@@ -14,11 +15,13 @@ pub use no_memory::NoMemory;
 pub use numbers::{MOST_NUMBERS, Numbers};
 pub use places::Places;
 pub use region::Region;
+pub use version::{GraphVersion, ImageVersion};
 
 mod bits;
 mod bytes;
 mod divide;
 mod divide_word;
+mod end;
 mod form;
 mod image;
 pub mod laws;
@@ -30,4 +33,4 @@ mod places;
 pub mod profile;
 mod region;
 pub mod unit_words;
-pub mod version;
+mod version;

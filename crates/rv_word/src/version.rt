@@ -1,46 +1,86 @@
-//! What the versions of images differ in, by the version's number.
+//! The versions of images and of graphs, and what those of images differ in.
 
 ghost use Rattle.std.specs.Prelude.{◌≡◌, ◌+◌, ◌≤◌, ◌^◌};
 ghost use Rattle.rv_word.specs.MemoryMap.{CODE_START, profile_of};
+ghost use Rattle.rv_word.specs.Version.{graph_number, image_number};
 
 use crate::memory_map::SHADOW_SIZE;
 use crate::profile::{
     CLOSING, CLOSING_OF_HARTS, SHADOW_SIZE_OF_HARTS, UNITS_START, UNITS_START_OF_HARTS,
 };
 
-/// How many bytes the shadow stack has in images of a version.
-pub fn shadow_size(version: u8) -> u64
-    ensures value { result ≡ (profile_of version).shadow_size }
-    ensures some { 2 ^ 16 ≤ result }
-    ensures most { result ≤ 2 ^ 19 }
-{
-    if version == 1 {
-        SHADOW_SIZE
-    } else {
-        SHADOW_SIZE_OF_HARTS
+/// The version of an image, by how many harts may run it.
+#[derive(Clone, Copy, Debug, PartialEq, Eq)]
+pub enum ImageVersion {
+    /// Version 1: one hart.
+    OneHart,
+    /// Version 2: one to eight harts.
+    EightHarts,
+}
+
+/// The version of a graph, by the labels of its classes.
+#[derive(Clone, Copy, Debug, PartialEq, Eq)]
+pub enum GraphVersion {
+    /// Version 1: computed calls and jumps share one label.
+    OneLabel,
+    /// Version 2: computed calls have a label, and computed jumps another.
+    TwoLabels,
+}
+
+impl ImageVersion {
+    /// Its number, 1 or 2.
+    pub fn number(self) -> u8
+        ensures { result ≡ image_number self }
+    {
+        match self {
+            ImageVersion::OneHart => 1,
+            ImageVersion::EightHarts => 2,
+        }
+    }
+
+    /// How many bytes the shadow stack has in images of the version.
+    pub fn shadow_size(self) -> u64
+        ensures value { result ≡ (profile_of self).shadow_size }
+        ensures some { 2 ^ 16 ≤ result }
+        ensures most { result ≤ 2 ^ 19 }
+    {
+        match self {
+            ImageVersion::OneHart => SHADOW_SIZE,
+            ImageVersion::EightHarts => SHADOW_SIZE_OF_HARTS,
+        }
+    }
+
+    /// The address of the first unit in images of the version.
+    pub fn units_from(self) -> u64
+        ensures value { result ≡ (profile_of self).units_from }
+        ensures low { CODE_START + 64 ≤ result }
+        ensures high { result ≤ CODE_START + 80 }
+    {
+        match self {
+            ImageVersion::OneHart => UNITS_START,
+            ImageVersion::EightHarts => UNITS_START_OF_HARTS,
+        }
+    }
+
+    /// The address to which a program returns, the prologue's closing, in images of the version.
+    pub fn closing(self) -> u64
+        ensures { result ≡ (profile_of self).closing }
+    {
+        match self {
+            ImageVersion::OneHart => CLOSING,
+            ImageVersion::EightHarts => CLOSING_OF_HARTS,
+        }
     }
 }
 
-/// The address of the first unit in images of a version.
-pub fn units_from(version: u8) -> u64
-    ensures value { result ≡ (profile_of version).units_from }
-    ensures low { CODE_START + 64 ≤ result }
-    ensures high { result ≤ CODE_START + 80 }
-{
-    if version == 1 {
-        UNITS_START
-    } else {
-        UNITS_START_OF_HARTS
-    }
-}
-
-/// The address to which a program returns, the prologue's closing, in images of a version.
-pub fn closing(version: u8) -> u64
-    ensures { result ≡ (profile_of version).closing }
-{
-    if version == 1 {
-        CLOSING
-    } else {
-        CLOSING_OF_HARTS
+impl GraphVersion {
+    /// Its number, 1 or 2.
+    pub fn number(self) -> u8
+        ensures { result ≡ graph_number self }
+    {
+        match self {
+            GraphVersion::OneLabel => 1,
+            GraphVersion::TwoLabels => 2,
+        }
     }
 }

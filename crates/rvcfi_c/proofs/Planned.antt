@@ -1,7 +1,8 @@
 -- Where the parts of an image stand in its file.
 use Rattle.std.proofs.Common.{◌≡◌, ℕ, ◌+◌, ◌-◌, ◌≤◌, List, length, take, drop, ap, ◌∙◌, arith}
 use Rattle.std.proofs.Math.Seq.{take-length}
-use Rattle.rv_word.specs.Image.{IsImageSize, IsVersion}
+use Rattle.rv_word.specs.declared.version.ImageVersion.{ImageVersion}
+use Rattle.rv_word.specs.Image.{IsImageSize}
 use Rattle.elf_image.specs.Header.{data_start}
 use Rattle.elf_image.specs.Spelling.{spelling}
 use Rattle.elf_image.proofs.Only.{read_as}
@@ -13,10 +14,10 @@ pub record AreThere (bytes code init : List ℕ) : Type 0 where
   pub data_there : bytes_at bytes (length bytes - length init) (length init) ≡ init
   pub data_ends : length bytes - length init + length init ≡ length bytes
 
-pub are_there : (bytes : List ℕ) (v : ℕ) (code init : List ℕ) → IsVersion v → IsImageSize (length code) (length init) → bytes ≡ spelling v code init
+pub are_there : (bytes : List ℕ) (v : ImageVersion) (code init : List ℕ) → IsImageSize (length code) (length init) → bytes ≡ spelling v code init
     → AreThere bytes code init
-are_there bytes v code init known size e =
-    let r = read_as v code init known size in
+are_there bytes v code init size e =
+    let r = read_as v code init size in
     let file = spelling v code init in
     let ends : length file ≡ data_start (length code) + length init = r.sound.end in
     let at : length file - length init ≡ data_start (length code) = omega arith in

@@ -10,17 +10,18 @@ use Rattle.cfi_pair.specs.Numbers.{verdict_of}
 use Rattle.cfi_pair.specs.Opening.{IsPairEnd}
 use Rattle.cfi_pair.specs.Spelled.{Spell}
 use Rattle.cfi_pair.specs.declared.judging.Verdict.{Verdict}
-use Rattle.cfi_pair.specs.declared.opening.PairEnd.{PairEnd}
+use Rattle.rv_word.specs.declared.end.End.{End}
+use Rattle.cfi_pair.specs.declared.opening.PairFault.{PairFault}
 use Rattle.cfi_pair.specs.declared.verdict.RvcfiVerdict.{RvcfiVerdict}
 
 -- what may be said of two texts: of want of memory nothing
-abbrev pub IsSaid : List ℕ → List ℕ → Result Verdict PairEnd → Type 0
+abbrev pub IsSaid : List ℕ → List ℕ → Result Verdict (End PairFault) → Type 0
 IsSaid image graph (Ok verdict) = HasJudgement image graph verdict
 IsSaid image graph (Err end) = IsPairEnd image graph end
 
 -- the verdict tells what may be said
 abbrev pub IsVerdictOf : List ℕ → List ℕ → RvcfiVerdict → Type 0
-IsVerdictOf image graph verdict = (said : Result Verdict PairEnd) × IsSaid image graph said × (verdict ≡ verdict_of said)
+IsVerdictOf image graph verdict = (said : Result Verdict (End PairFault)) × IsSaid image graph said × (verdict ≡ verdict_of said)
 
 -- a text is no image
 abbrev pub IsNoImage : List ℕ → Type 0

@@ -1,7 +1,8 @@
 -- What a loader maps of an image.
 use Rattle.std.specs.Prelude.{◌≡◌, ℕ, ◌+◌, List, length, take, drop}
-use Rattle.rv_word.specs.Image.{Contents, IsImageSize, IsVersion}
+use Rattle.rv_word.specs.Image.{Contents, IsImageSize}
 use Rattle.rv_word.specs.MemoryMap.{CODE_SIZE, CODE_START, DATA_END, DATA_START, SHADOW_START, START, profile_of}
+use Rattle.rv_word.specs.Version.{image_number}
 use Rattle.elf_image.specs.Spelling.{spelling}
 use Rattle.rvcfi_c.specs.declared.plan.RvcfiPlan.{RvcfiPlan}
 
@@ -13,9 +14,8 @@ bytes_at bytes offset n = take n (drop offset bytes)
 pub record IsPlanOf (bytes : List ℕ) (plan : RvcfiPlan) : Type 0 where
   pub image : Contents
   pub spelled : bytes ≡ spelling image.version image.code image.init
-  pub known : IsVersion image.version
   pub size : IsImageSize (length image.code) (length image.init)
-  pub version : plan.version ≡ image.version
+  pub version : plan.version ≡ image_number image.version
   pub harts : plan.harts ≡ (profile_of image.version).harts
   pub entry : plan.entry ≡ START
   pub code_there : bytes_at bytes plan.code_offset plan.code_length ≡ image.code

@@ -2,8 +2,8 @@ ghost use Rattle.std.specs.Prelude.{◌≡◌, ◌⊎◌};
 ghost use Rattle.rvcfi_c.specs.Calls.{HasNoList, IsListOf, IsNoGraph};
 
 use cfi_graph::read_graph;
+use rv_word::End;
 use std::alloc::Global;
-use text_lines::TextEnd;
 
 /// The list of system calls of the graph that a text is. The answer is 0 where it has one: `count` is how many numbers it has,
 /// and `calls` gets as many as it holds; 1 where it has none, 2 where the text is no graph, and 4 for want of memory, and `calls`
@@ -23,8 +23,8 @@ pub extern "C" fn rvcfi_calls(
 {
     let graph = match read_graph(alloc, graph) {
         Ok(graph) => graph,
-        Err(TextEnd::Line(..)) => return 2,
-        Err(TextEnd::NoMemory) => return 4,
+        Err(End::Fault(_)) => return 2,
+        Err(End::NoMemory) => return 4,
     };
     match graph.calls() {
         Some(numbers) => {

@@ -4,9 +4,9 @@ ghost use Rattle.rv_word.specs.MemoryMap.{profile_of};
 ghost use Rattle.rvcfi_c.specs.Plan.{IsPlanOf};
 
 use elf_image::{ImageRefusal, read_image};
+use rv_word::ImageVersion;
 use rv_word::memory_map::{CODE_SIZE, CODE_START, DATA_END, DATA_START, SHADOW_START};
 use rv_word::profile::{MOST_HARTS, START};
-use rv_word::version::shadow_size;
 
 /// Where the code begins in each file of an image.
 const CODE_OFFSET: u64 = 0x1000;
@@ -44,10 +44,13 @@ pub struct RvcfiPlan {
 }
 
 /// How many harts an image of a version may have.
-fn most_harts(version: u8) -> u32
+fn most_harts(version: ImageVersion) -> u32
     ensures { result ≡ (profile_of version).harts }
 {
-    if version == 1 { 1 } else { MOST_HARTS as u32 }
+    match version {
+        ImageVersion::OneHart => 1,
+        ImageVersion::EightHarts => MOST_HARTS as u32,
+    }
 }
 
 /// What a loader maps of the image that a file is.
@@ -60,7 +63,7 @@ pub(crate) fn plan_of(bytes: &[u8]) -> Result<RvcfiPlan, ImageRefusal>
     let code = image.code().len() as u64;
     let init = image.init().len();
     Ok(RvcfiPlan {
-        version: u32::from(version),
+        version: u32::from(version.number()),
         harts: most_harts(version),
         entry: START,
         code_offset: CODE_OFFSET,
@@ -72,6 +75,6 @@ pub(crate) fn plan_of(bytes: &[u8]) -> Result<RvcfiPlan, ImageRefusal>
         data_address: DATA_START,
         data_end: DATA_END,
         shadow_address: SHADOW_START,
-        shadow_size: shadow_size(version),
+        shadow_size: version.shadow_size(),
     })
 }

@@ -1,5 +1,6 @@
 -- What the library tells C of a run: the numbers of what it comes to, and what it wrote.
 use Rattle.std.specs.Prelude.{◌≡◌, ◌⊎◌, ℕ, List, [], ◌∷◌, Option, None, Some, Result, Ok, Err, length}
+use Rattle.rv_word.specs.declared.version.ImageVersion.{ImageVersion}
 use Rattle.rv_word.specs.Image.{Contents, image_profile}
 use Rattle.rv_word.specs.MemoryMap.{MayRun}
 use Rattle.cfi_graph.specs.Graph.{GraphParts}
@@ -13,11 +14,12 @@ use Rattle.cfi_pair.specs.Numbers.{numbers, reason_number, verdict_of}
 use Rattle.cfi_pair.specs.Room.{held}
 use Rattle.cfi_pair.specs.Spelled.{Spell}
 use Rattle.cfi_pair.specs.declared.judging.Verdict.TheVariants as verdicts
-use Rattle.cfi_pair.specs.declared.opening.PairEnd.TheVariants as pair
+use Rattle.rv_word.specs.declared.end.End.TheVariants as pair
 use Rattle.cfi_pair.specs.declared.verdict.RvcfiVerdict.{RvcfiVerdict}
 use Rattle.cfi_launch.specs.Launch.{IsLaunchEnd, IsLaunchOf, script_given}
-use Rattle.cfi_launch.specs.declared.launching.LaunchEnd.{LaunchEnd}
-use Rattle.cfi_launch.specs.declared.launching.LaunchEnd.TheVariants.{Fault, NoMemory}
+use Rattle.rv_word.specs.declared.end.End.{End}
+use Rattle.cfi_launch.specs.declared.launching.LaunchFault.{LaunchFault}
+use Rattle.rv_word.specs.declared.end.End.TheVariants.{Fault, NoMemory}
 use Rattle.cfi_launch.specs.declared.launching.LaunchFault.TheVariants.{Pair, Script, Harts}
 use Rattle.cfi_launch.specs.declared.launching.Launched.{Launched}
 use Rattle.cfi_launch.specs.declared.launching.Launched.TheVariants.{Rejected, Ran}
@@ -53,7 +55,7 @@ not_run v = record {
   written = 0;
 }
 
-abbrev pub run_of : Result Launched LaunchEnd → RvcfiRun
+abbrev pub run_of : Result Launched (End LaunchFault) → RvcfiRun
 run_of (Ok (Ran version report)) = record {
   outcome = 0;
   reason = 0;
@@ -73,24 +75,24 @@ run_of (Err (Fault (Harts count))) = not_run (numbers 6 0 count 0)
 run_of (Err NoMemory) = not_run (verdict_of (Err pair.NoMemory))
 
 -- what a run may come to: of want of memory nothing
-abbrev pub IsSaid : List ℕ → List ℕ → Option (List ℕ) → List ℕ → ℕ → Result Launched LaunchEnd → Type 0
+abbrev pub IsSaid : List ℕ → List ℕ → Option (List ℕ) → List ℕ → ℕ → Result Launched (End LaunchFault) → Type 0
 IsSaid image graph script input limit (Ok launched) = IsLaunchOf image graph script input limit launched
 IsSaid image graph script input limit (Err end) = IsLaunchEnd image graph script end
 
 -- the numbers tell what the run comes to
 abbrev pub IsToldOf : List ℕ → List ℕ → Option (List ℕ) → List ℕ → ℕ → RvcfiRun → Type 0
 IsToldOf image graph script input limit run =
-    (said : Result Launched LaunchEnd) × IsSaid image graph script input limit said × (run ≡ run_of said)
+    (said : Result Launched (End LaunchFault)) × IsSaid image graph script input limit said × (run ≡ run_of said)
 
 -- what stands at output after a call: what a run wrote, as much of it as there is room for
-abbrev pub output_of : Result Launched LaunchEnd → List ℕ → List ℕ
+abbrev pub output_of : Result Launched (End LaunchFault) → List ℕ → List ℕ
 output_of (Ok (Ran version report)) before = held report.output before
 output_of other before = before
 
 -- it ran: the report of a safe pair's run, its numbers, and what it wrote
 abbrev pub IsRan : List ℕ → List ℕ → Option (List ℕ) → List ℕ → ℕ → List ℕ → List ℕ → RvcfiRun → Type 0
 IsRan image graph script input limit before after run =
-    (version : ℕ) × (report : RunReport) × IsLaunchOf image graph script input limit (Ran version report)
+    (version : ImageVersion) × (report : RunReport) × IsLaunchOf image graph script input limit (Ran version report)
     × (run ≡ run_of (Ok (Ran version report))) × (after ≡ held report.output before)
 
 -- every pair that meets the rules is run under a script whose harts it may have, but for want of memory

@@ -2,7 +2,8 @@ ghost use Rattle.std.specs.Prelude.{◌≡◌, ◌≤◌, ◌⊎◌, option_map}
 ghost use Rattle.rvcfi_run_c.specs.Told.{IsComplete, IsRan, IsToldOf, output_of, run_of, script_in};
 
 use crate::told::{RvcfiRun, run_of};
-use cfi_launch::{LaunchEnd, Launched, launch};
+use cfi_launch::{LaunchFault, Launched, launch};
+use rv_word::End;
 use std::alloc::Global;
 
 /// Runs an image with its graph for at most so many steps, on `input`. An empty script lets one hart run, undisturbed. The answer is the
@@ -44,7 +45,7 @@ fn text_of(script: &[u8]) -> Option<&[u8]>
 }
 
 /// Puts what a run wrote, as much of it as there is room for.
-fn put_output(launched: &Result<Launched, LaunchEnd>, output: &mut [u8])
+fn put_output(launched: &Result<Launched, End<LaunchFault>>, output: &mut [u8])
     ensures { output.new ≡ output_of launched.now output.old }
 {
     match launched {

@@ -1,9 +1,10 @@
 ghost use Rattle.std.specs.Prelude.{◌≡◌};
 ghost use Rattle.rvcfi_run_c.specs.Told.{not_run, run_of, stop_of};
 
-use cfi_launch::{LaunchEnd, LaunchFault, Launched};
-use cfi_pair::{PairEnd, RvcfiVerdict, Verdict, reason_number, verdict_of};
+use cfi_launch::{LaunchFault, Launched};
+use cfi_pair::{RvcfiVerdict, Verdict, reason_number, verdict_of};
 use cfi_step::{Handler, RunEnd};
+use rv_word::End;
 
 /// What a run comes to, in numbers.
 #[repr(C)]
@@ -65,7 +66,7 @@ fn not_run(verdict: RvcfiVerdict) -> RvcfiRun
 }
 
 /// The numbers of what a run comes to.
-pub(crate) fn run_of(said: &Result<Launched, LaunchEnd>) -> RvcfiRun
+pub(crate) fn run_of(said: &Result<Launched, End<LaunchFault>>) -> RvcfiRun
     ensures { result ≡ run_of said.now }
 {
     match said {
@@ -85,21 +86,21 @@ pub(crate) fn run_of(said: &Result<Launched, LaunchEnd>) -> RvcfiRun
             }
         }
         Ok(Launched::Rejected(reject)) => not_run(verdict_of(Ok(Verdict::Rejected(*reject)))),
-        Err(LaunchEnd::Fault(LaunchFault::Pair(fault))) => {
-            not_run(verdict_of(Err(PairEnd::Fault(*fault))))
+        Err(End::Fault(LaunchFault::Pair(fault))) => {
+            not_run(verdict_of(Err(End::Fault(*fault))))
         }
-        Err(LaunchEnd::Fault(LaunchFault::Script(line, reason))) => not_run(RvcfiVerdict {
+        Err(End::Fault(LaunchFault::Script(line, reason))) => not_run(RvcfiVerdict {
             outcome: 5,
             reason: reason_number(*reason),
             first: *line,
             second: 0,
         }),
-        Err(LaunchEnd::Fault(LaunchFault::Harts(count))) => not_run(RvcfiVerdict {
+        Err(End::Fault(LaunchFault::Harts(count))) => not_run(RvcfiVerdict {
             outcome: 6,
             reason: 0,
             first: u64::from(*count),
             second: 0,
         }),
-        Err(LaunchEnd::NoMemory) => not_run(verdict_of(Err(PairEnd::NoMemory))),
+        Err(End::NoMemory) => not_run(verdict_of(Err(End::NoMemory))),
     }
 }

@@ -1,15 +1,17 @@
 use elf_image::write_image_as;
-use rv_word::NoMemory;
+use rv_word::{ImageVersion, NoMemory};
 use sample_programs::{code, code_of_harts};
 use std::alloc::Global;
 use tool_io::MemFiles;
 
-/// The image of version 1 or 2 of some code and data; no bytes where no image may have such code.
-pub fn image_as(alloc: Global, version: u8, code: &[u8], data: &[u8]) -> Result<Vec<u8>, NoMemory> {
+/// The image of a version of some code and data; no bytes where no image may have such code.
+pub fn image_as(
+    alloc: Global,
+    version: ImageVersion,
+    code: &[u8],
+    data: &[u8],
+) -> Result<Vec<u8>, NoMemory> {
     let (len, init) = (code.len(), data.len());
-    if version != 1 && version != 2 {
-        return Ok(Vec::new(alloc));
-    }
     if len < 4 || len > 0x10_0000 || len % 4 != 0 || init > 0x200_0000 {
         return Ok(Vec::new(alloc));
     }
@@ -18,12 +20,17 @@ pub fn image_as(alloc: Global, version: u8, code: &[u8], data: &[u8]) -> Result<
 
 /// The image for one hart of the prologue, some units and data.
 pub fn image_of(alloc: Global, units: &[u32], data: &[u8]) -> Result<Vec<u8>, NoMemory> {
-    image_as(alloc, 1, &code(alloc, units)?, data)
+    image_as(alloc, ImageVersion::OneHart, &code(alloc, units)?, data)
 }
 
 /// The image for several harts of their prologue, some units and data.
 pub fn image_of_harts(alloc: Global, units: &[u32], data: &[u8]) -> Result<Vec<u8>, NoMemory> {
-    image_as(alloc, 2, &code_of_harts(alloc, units)?, data)
+    image_as(
+        alloc,
+        ImageVersion::EightHarts,
+        &code_of_harts(alloc, units)?,
+        data,
+    )
 }
 
 /// Adds the image of its units and data under a name.

@@ -10,13 +10,13 @@ use cfi_script::{Meddler, Script};
 use cfi_step::{HartWalk, RunReport, run};
 use cfi_verify::{Checked, verify};
 use rv_code::{Event, Events};
-use rv_word::Image;
+use rv_word::{Image, ImageVersion};
 use sample_programs::{code, code_of_harts};
 use std::alloc::Global;
 
 /// A program that is run.
 pub struct Program {
-    pub version: u8,
+    pub version: ImageVersion,
     pub units: &'static [u32],
     pub graph: &'static [u8],
     pub data: &'static [u8],
@@ -33,10 +33,9 @@ pub fn report<M: Meddler>(
 ) -> Option<RunReport>
     ensures { IfSome result (λ report. IsScript report.made) }
 {
-    let made = if program.version == 1 {
-        code(alloc, program.units)
-    } else {
-        code_of_harts(alloc, program.units)
+    let made = match program.version {
+        ImageVersion::OneHart => code(alloc, program.units),
+        ImageVersion::EightHarts => code_of_harts(alloc, program.units),
     };
     match made {
         Ok(bytes) => report_of(alloc, &bytes, program, harts, meddler, limit),
@@ -59,11 +58,7 @@ fn report_of<M: Meddler>(
     if len < 4 || len > 0x10_0000 || len % 4 != 0 || init > 0x200_0000 {
         return None;
     }
-    let image = if program.version == 1 {
-        Image::of(code, program.data)
-    } else {
-        Image::of_version(2, code, program.data)
-    };
+    let image = Image::of_version(program.version, code, program.data);
     match read_graph(alloc, program.graph) {
         Ok(graph) => report_with(alloc, &image, &graph, program.input, harts, meddler, limit),
         Err(_) => None,
@@ -114,10 +109,13 @@ fn may_run(image: &Image<'_>, harts: u8) -> bool
 }
 
 /// How many harts a run of an image of a version has at most.
-fn most_harts(version: u8) -> u8
+fn most_harts(version: ImageVersion) -> u8
     ensures { result ≡ (profile_of version).harts }
 {
-    if version == 1 { 1 } else { 8 }
+    match version {
+        ImageVersion::OneHart => 1,
+        ImageVersion::EightHarts => 8,
+    }
 }
 
 /// The arguments of a system call.

@@ -1,8 +1,8 @@
 //! How images and graphs are answered.
 
 use cfi_graph::Graph;
-use cfi_verify::{VerifyEnd, verify};
-use rv_word::Image;
+use cfi_verify::verify;
+use rv_word::{End, Image, ImageVersion};
 use sample_programs::is_told_as;
 use std::alloc::Global;
 
@@ -10,19 +10,21 @@ use std::alloc::Global;
 pub fn is_told(alloc: Global, image: &Image<'_>, graph: &Graph, words: &str) -> bool {
     match verify(alloc, image, graph) {
         Ok(_) => words.is_empty(),
-        Err(VerifyEnd::Reject(reject)) => is_told_as(alloc, &reject, words),
-        Err(VerifyEnd::NoMemory) => false,
+        Err(End::Fault(reject)) => is_told_as(alloc, &reject, words),
+        Err(End::NoMemory) => false,
     }
 }
 
 /// The same of the image of a version that has a code of at most 4,096 bytes.
-pub fn is_code_told(alloc: Global, version: u8, code: &[u8], graph: &Graph, words: &str) -> bool {
+pub fn is_code_told(
+    alloc: Global,
+    version: ImageVersion,
+    code: &[u8],
+    graph: &Graph,
+    words: &str,
+) -> bool {
     if code.len() < 4 || code.len() > 4096 || code.len() % 4 != 0 {
         return false;
     }
-    if version == 1 {
-        is_told(alloc, &Image::of(code, &[]), graph, words)
-    } else {
-        is_told(alloc, &Image::of_version(2, code, &[]), graph, words)
-    }
+    is_told(alloc, &Image::of_version(version, code, &[]), graph, words)
 }

@@ -10,8 +10,10 @@ use Rattle.cfi_map.specs.MapFault.{IsWrongLine}
 use Rattle.cfi_map.specs.GraphAtMap.{program_at}
 use Rattle.src_machine.specs.Running.{SourceParts, source_of}
 use Rattle.cfi_map.specs.Source.{source_start}
-use Rattle.src_machine.specs.declared.source_end.SourceEnd.{SourceEnd}
-use Rattle.src_machine.specs.declared.source_end.SourceEnd.TheVariants as ends
+use Rattle.rv_word.specs.declared.end.End.{End}
+use Rattle.rv_word.specs.declared.end.End.TheVariants.{Fault, NoMemory}
+use Rattle.src_machine.specs.declared.source_fault.SourceFault.{SourceFault}
+use Rattle.src_machine.specs.declared.source_fault.SourceFault.TheVariants.{BadMap, RelocRange}
 
 -- a run of a program that is entered at a place, at a map
 pub record IsBegun (program : Program) (closed : ClosedGraph) (entry : ℕ) (map : MapParts) (input : List ℕ) (run : SourceParts) : Type 0 where
@@ -22,9 +24,9 @@ pub record IsBegun (program : Program) (closed : ClosedGraph) (entry : ℕ) (map
   pub steps : run.steps ≡ 0
 
 -- why there is none
-abbrev pub Ends : Program → ClosedGraph → ℕ → MapParts → SourceEnd → Type 0
-Ends program closed entry map (ends.BadMap number) = IsWrongLine program closed entry map number
-Ends program closed entry map (ends.RelocRange section offset) =
+abbrev pub Ends : Program → ClosedGraph → ℕ → MapParts → End SourceFault → Type 0
+Ends program closed entry map (Fault (BadMap number)) = IsWrongLine program closed entry map number
+Ends program closed entry map (Fault (RelocRange section offset)) =
     IsLegalMap program closed entry map
     × (out_of_range program (gates_of map.lines) (words_from closed.sides 0 (gates_of map.lines)) ≡ Some (record { section = section; offset = offset }))
-Ends program closed entry map ends.NoMemory = Unit {0}
+Ends program closed entry map NoMemory = Unit {0}

@@ -17,7 +17,7 @@ ghost use Rattle.src_machine.specs.State.{source_in};
 use crate::legal::check_map;
 use crate::placed::Placed;
 use crate::run::SourceRun;
-use crate::source_end::SourceEnd;
+use crate::source_fault::SourceFault;
 use crate::state::State;
 use cfi_closed::Closed;
 use cfi_map::Mapped;
@@ -25,7 +25,7 @@ use cfi_map_text::{Map, MapLine};
 use obj_input::ItemKind;
 use obj_program::Items;
 use rv_code::encode;
-use rv_word::NoMemory;
+use rv_word::{End, NoMemory};
 use std::alloc::Global;
 
 /// The gates of a map's lines.
@@ -85,7 +85,7 @@ fn placed<'a, 'b>(
     closed: &'a Closed,
     map: &Map,
     entry: u64,
-) -> Result<Placed<'a, 'b>, SourceEnd>
+) -> Result<Placed<'a, 'b>, End<SourceFault>>
     requires version { closed.now.version ≡ graph_version map.now.form }
     requires legal { IsLegalMap items.now closed.now entry map.now }
     requires entry { entry < count items.now }
@@ -93,7 +93,7 @@ fn placed<'a, 'b>(
 {
     let mapped = mapped(alloc, items, closed, map, entry)?;
     if let Some(place) = mapped.out_of_range() {
-        return Err(SourceEnd::RelocRange(place.section, place.offset));
+        return Err(End::Fault(SourceFault::RelocRange(place.section, place.offset)));
     }
     let code = code(alloc, &mapped)?;
     Ok(Placed { mapped, code })
@@ -130,7 +130,7 @@ impl<'a, 'b> SourceRun<'a, 'b> {
         map: &Map,
         entry: (u32, u64),
         input: &[u8],
-    ) -> Result<SourceRun<'a, 'b>, SourceEnd>
+    ) -> Result<SourceRun<'a, 'b>, End<SourceFault>>
         requires version { closed.now.version ≡ graph_version map.now.form }
         requires entry { is_some (instruction_at items.now (entry.0, entry.1)) ≡ true }
         requires data { DATA_START + init_size items.now ≤ DATA_END }

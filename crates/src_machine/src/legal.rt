@@ -8,13 +8,13 @@ ghost use Rattle.cfi_map.specs.LegalMap.{IsLegalMap};
 ghost use Rattle.src_machine.specs.Beginning.{Ends};
 ghost use Rattle.src_machine.specs.MapLine.{follows_at, has_whole, is_named, is_past_whole, is_wrong, may_be_short, stands, stores_before};
 
-use crate::source_end::SourceEnd;
+use crate::source_fault::SourceFault;
 use cfi_closed::Closed;
 use cfi_map::{Grouping, lead_size, unit_size};
 use cfi_map_text::{Map, MapLine};
 use obj_input::ItemKind;
 use obj_program::{Item, Items};
-use rv_word::Form;
+use rv_word::{End, Form};
 use std::alloc::Global;
 
 /// Whether an address is so many bytes behind another.
@@ -174,12 +174,12 @@ pub(crate) fn check_map<'a, 'b>(
     closed: &'a Closed,
     map: &Map,
     entry: u64,
-) -> Result<(), SourceEnd>
+) -> Result<(), End<SourceFault>>
     ensures { MatchResult result (λ done. IsLegalMap items.now closed.now entry map.now) (λ e. Ends items.now closed.now entry map.now e) }
 {
     let grouping = Grouping::of(alloc, items, closed, entry)?;
     match first_wrong(map.form(), &grouping, map.as_slice()) {
-        Some(j) => Err(SourceEnd::BadMap(j + 2)),
+        Some(j) => Err(End::Fault(SourceFault::BadMap(j + 2))),
         None => Ok(()),
     }
 }

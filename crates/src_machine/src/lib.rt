@@ -4,7 +4,7 @@
 
 pub use cfi_map::Reason;
 pub use run::SourceRun;
-pub use source_end::SourceEnd;
+pub use source_fault::SourceFault;
 pub use turn::SourceTurn;
 
 mod begin;
@@ -12,7 +12,7 @@ pub mod laws;
 mod legal;
 mod placed;
 mod run;
-mod source_end;
+mod source_fault;
 mod state;
 mod step;
 mod tame;

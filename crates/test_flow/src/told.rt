@@ -2,11 +2,11 @@
 //! class; each class by its members; and the list of system calls. Places and classes are told by their indexes.
 
 use cfi_closed::Closed;
-use cfi_flow::{FlowEnd, Raw, RawSite, close, entry_place, raw_graph, used_labels};
+use cfi_flow::{Raw, RawSite, close, entry_place, raw_graph, used_labels};
 use cfi_graph::SiteKind;
 use cfi_policy::{Policy, read_policy};
 use obj_program::Items;
-use rv_word::Form;
+use rv_word::{End, Form};
 use std::alloc::{AllocError, Global};
 use std::fmt::Write;
 
@@ -111,8 +111,11 @@ fn told_of_raw(alloc: Global, form: Form, raw: &Raw) -> Option<String> {
 fn told_under(alloc: Global, form: Form, items: &Items, policy: &Policy) -> Option<String> {
     match raw_graph(alloc, items, policy) {
         Ok(raw) => told_of_raw(alloc, form, &raw),
-        Err(FlowEnd::Policy(line)) => format!(in alloc; "Policy {line}").ok(),
-        Err(FlowEnd::NoMemory) => None,
+        Err(End::Fault(wrong)) => {
+            let line = wrong.number;
+            format!(in alloc; "Policy {line}").ok()
+        }
+        Err(End::NoMemory) => None,
     }
 }
 

@@ -2,6 +2,7 @@
 
 use cfi_graph::Graph;
 use cfi_verify::Checked;
+use rv_word::ImageVersion;
 use sample_programs::{PROLOGUE, PROLOGUE_OF_HARTS};
 use sample_runs::{code_with, is_code_told, walks_so};
 use std::alloc::Global;
@@ -15,21 +16,20 @@ pub(crate) type Went = (&'static [u64], u64, bool);
 /// The code of a version's prologue and some units, with words put at their offsets in it.
 pub(crate) fn code_of(
     alloc: Global,
-    version: u8,
+    version: ImageVersion,
     units: &[u32],
     words: &[(usize, u32)],
 ) -> Option<Vec<u8>> {
-    if version == 1 {
-        code_with(alloc, &PROLOGUE, units, words)
-    } else {
-        code_with(alloc, &PROLOGUE_OF_HARTS, units, words)
+    match version {
+        ImageVersion::OneHart => code_with(alloc, &PROLOGUE, units, words),
+        ImageVersion::EightHarts => code_with(alloc, &PROLOGUE_OF_HARTS, units, words),
     }
 }
 
 /// Whether an image of a version, which has the prologue of that version, is answered so.
 pub(crate) fn is_answered(
     alloc: Global,
-    version: u8,
+    version: ImageVersion,
     units: &[u32],
     words: &[(usize, u32)],
     graph: &Graph,

@@ -7,7 +7,7 @@ use crate::ended::{Ended, ends_alone, ends_in_turns};
 use cfi_graph::{Graph, read_graph};
 use cfi_step::{Handler, RunEnd};
 use cfi_verify::verify;
-use rv_word::Image;
+use rv_word::{Image, ImageVersion};
 use sample_programs::{A, BREAK};
 use sample_runs::Program;
 use std::alloc::Global;
@@ -126,11 +126,11 @@ fn units(sample: Sample) -> (&'static [u32], &'static str) {
     }
 }
 
-/// The version of a program.
-fn version(sample: Sample) -> u8 {
+/// The version of a program's image.
+fn version(sample: Sample) -> ImageVersion {
     match sample {
-        Sample::ExitsOfHarts | Sample::OneOfHarts => 2,
-        _ => 1,
+        Sample::ExitsOfHarts | Sample::OneOfHarts => ImageVersion::EightHarts,
+        _ => ImageVersion::OneHart,
     }
 }
 
@@ -236,10 +236,10 @@ static ROWS: [Row; 73] = [
     Row(Sample::Exits, "calls 93\n", "", &[], "Unlisted 4000000c"),
 ];
 
-/// The graph of a version with the lines of a row; none where there is no memory, or its text is none.
-fn graph_of(alloc: Global, version: u8, row: &Row) -> Option<Graph> {
+/// The graph of the version with a number, with the lines of a row; none where there is no memory, or its text is none.
+fn graph_of(alloc: Global, number: u8, row: &Row) -> Option<Graph> {
     let text = format!(in alloc;
-        "rvcfi-graph {version}\ncode 40000000 {}\n{}{}end\n",
+        "rvcfi-graph {number}\ncode 40000000 {}\n{}{}end\n",
         units(row.0).1,
         row.1,
         row.2
@@ -248,9 +248,9 @@ fn graph_of(alloc: Global, version: u8, row: &Row) -> Option<Graph> {
     read_graph(alloc, text.as_bytes()).ok()
 }
 
-/// Whether the code of a row is answered as it says, with the graph of a version.
-fn is_right(alloc: Global, graphs: u8, row: &Row) -> bool {
-    match graph_of(alloc, graphs, row) {
+/// Whether the code of a row is answered as it says, with the graph of the version with a number.
+fn is_right(alloc: Global, number: u8, row: &Row) -> bool {
+    match graph_of(alloc, number, row) {
         Some(graph) => is_answered(alloc, version(row.0), units(row.0).0, row.3, &graph, row.4),
         None => false,
     }
@@ -265,7 +265,7 @@ fn pairs(rt: HostRuntime) {
 }
 
 static EXITING: Program = Program {
-    version: 1,
+    version: ImageVersion::OneHart,
     units: &EXITS,
     graph: b"rvcfi-graph 1\ncode 40000000 0000005c\ncalls 93\ncall 4000000c 40000040\nend\n",
     data: b"",
@@ -276,7 +276,7 @@ const ONE_GRAPH: &[u8] =
     b"rvcfi-graph 1\ncode 40000000 00000070\ncalls 64\ncall 4000000c 40000040\nend\n";
 
 static CALLING: Program = Program {
-    version: 1,
+    version: ImageVersion::OneHart,
     units: &ONE,
     graph: ONE_GRAPH,
     data: b"\x40\x00\x00\x00\x00\x00\x00\x00",
@@ -284,7 +284,7 @@ static CALLING: Program = Program {
 };
 
 static CALLING_HARTS: Program = Program {
-    version: 2,
+    version: ImageVersion::EightHarts,
     units: &ONE_OF_HARTS,
     graph: b"rvcfi-graph 2\ncode 40000000 00000080\ncalls 64\ncall 4000000c 40000050\nend\n",
     data: b"\x40\x00\x00\x00\x00\x00\x00\x00",
@@ -292,7 +292,7 @@ static CALLING_HARTS: Program = Program {
 };
 
 static CALLING_TWO: Program = Program {
-    version: 1,
+    version: ImageVersion::OneHart,
     units: &TWO,
     graph: b"rvcfi-graph 2\ncode 40000000 00000078\ncalls 64 93\ncall 4000000c 40000040\nend\n",
     data: b"\x40\x00\x00\x00\x00\x00\x00\x00",
@@ -300,7 +300,7 @@ static CALLING_TWO: Program = Program {
 };
 
 static CALLING_EIGHT: Program = Program {
-    version: 1,
+    version: ImageVersion::OneHart,
     units: &EIGHT,
     graph: b"rvcfi-graph 1\ncode 40000000 000000a8\ncalls 0 1 2 3 62 63 64 2047\n\
 call 4000000c 40000040\nend\n",
@@ -457,7 +457,7 @@ fn walks_right(alloc: Global, code: &[u8], graph: &Graph) -> bool {
 
 /// The same, with the code and the graph made.
 fn one_walks_right(alloc: Global) -> bool {
-    let Some(code) = code_of(alloc, 1, &ONE, &[]) else {
+    let Some(code) = code_of(alloc, ImageVersion::OneHart, &ONE, &[]) else {
         return false;
     };
     match read_graph(alloc, ONE_GRAPH) {

@@ -3,6 +3,8 @@
 
 use crate::answered::{Words, is_answered};
 use cfi_graph::{Graph, read_graph};
+use rv_word::ImageVersion;
+use rv_word::ImageVersion::{EightHarts, OneHart};
 use sample_programs::{
     A, A_GRAPH, A_OF_HARTS, APART, APART_GRAPH, APART_OF_HARTS, APART_OF_HARTS_GRAPH, JOBS,
     JOBS_GRAPH, JOINED, JOINED_GRAPH, JUMP, JUMP_GRAPH, P, Q, Q_GRAPH, Q_OF_HARTS,
@@ -12,7 +14,13 @@ use std::alloc::Global;
 
 /// The version of an image, its units, the graph, words that are put by their offsets in the code, and the rule that fails with its
 /// address; no text where the pair is accepted.
-struct Pair(u8, &'static [u32], &'static [u8], Words, &'static str);
+struct Pair(
+    ImageVersion,
+    &'static [u32],
+    &'static [u8],
+    Words,
+    &'static str,
+);
 
 /// `A`, `P` and `JUMP` with graphs of version 2, of which the last is none of its code's.
 const A_APART_GRAPH: &[u8] =
@@ -64,34 +72,34 @@ const UNSIGNED: u32 = 0x004f_ef03;
 #[rattlefmt::skip]
 static PAIRS: [Pair; 24] = [
     // Each version of images with each version of graphs.
-    Pair(1, &Q, Q_GRAPH, &[], ""),
-    Pair(1, &APART, APART_GRAPH, &[], ""),
-    Pair(1, &JOINED, JOINED_GRAPH, &[], ""),
-    Pair(2, &Q_OF_HARTS, Q_OF_HARTS_GRAPH, &[], ""),
-    Pair(2, &APART_OF_HARTS, APART_OF_HARTS_GRAPH, &[], ""),
-    Pair(2, &JOBS, JOBS_GRAPH, &[], ""),
+    Pair(OneHart, &Q, Q_GRAPH, &[], ""),
+    Pair(OneHart, &APART, APART_GRAPH, &[], ""),
+    Pair(OneHart, &JOINED, JOINED_GRAPH, &[], ""),
+    Pair(EightHarts, &Q_OF_HARTS, Q_OF_HARTS_GRAPH, &[], ""),
+    Pair(EightHarts, &APART_OF_HARTS, APART_OF_HARTS_GRAPH, &[], ""),
+    Pair(EightHarts, &JOBS, JOBS_GRAPH, &[], ""),
     // What has no computed jump is right under both.
-    Pair(1, &A, A_GRAPH, &[], ""),
-    Pair(1, &A, A_APART_GRAPH, &[], ""),
-    Pair(2, &A_OF_HARTS, A_OF_HARTS_APART_GRAPH, &[], ""),
-    Pair(1, &P, P_APART_GRAPH, &[], ""),
+    Pair(OneHart, &A, A_GRAPH, &[], ""),
+    Pair(OneHart, &A, A_APART_GRAPH, &[], ""),
+    Pair(EightHarts, &A_OF_HARTS, A_OF_HARTS_APART_GRAPH, &[], ""),
+    Pair(OneHart, &P, P_APART_GRAPH, &[], ""),
     // A jump's check is one version's alone.
-    Pair(1, &JUMP, JUMP_GRAPH, &[(0x64, SECOND)], "Unit 40000048"),
-    Pair(1, &JUMP, JUMP_APART_GRAPH, &[], "Unit 40000048"),
-    Pair(1, &Q, Q_JOINED_GRAPH, &[], "Unit 40000048"),
-    Pair(1, &JOINED, JOINED_APART_GRAPH, &[], "Unit 400000bc"),
-    Pair(2, &JOBS, JOBS_GRAPH, &[(0x7c, SECOND)], "Unit 40000060"),
-    Pair(2, &Q_OF_HARTS, Q_OF_HARTS_GRAPH, &[(0x74, FIRST)], "Unit 40000058"),
+    Pair(OneHart, &JUMP, JUMP_GRAPH, &[(0x64, SECOND)], "Unit 40000048"),
+    Pair(OneHart, &JUMP, JUMP_APART_GRAPH, &[], "Unit 40000048"),
+    Pair(OneHart, &Q, Q_JOINED_GRAPH, &[], "Unit 40000048"),
+    Pair(OneHart, &JOINED, JOINED_APART_GRAPH, &[], "Unit 400000bc"),
+    Pair(EightHarts, &JOBS, JOBS_GRAPH, &[(0x7c, SECOND)], "Unit 40000060"),
+    Pair(EightHarts, &Q_OF_HARTS, Q_OF_HARTS_GRAPH, &[(0x74, FIRST)], "Unit 40000058"),
     // Length and Prologue come first.
-    Pair(1, &Q, APART_GRAPH, &[], "Length 292 340"),
-    Pair(2, &Q_OF_HARTS, Q_GRAPH, &[], "Length 308 292"),
-    Pair(1, &Q, Q_GRAPH, &[(0x04, 0x13), (0x64, FIRST)], "Prologue 40000004"),
-    Pair(2, &Q_OF_HARTS, Q_OF_HARTS_GRAPH, &[(0x10, 0x6000_01b7), (0x74, FIRST)], "Prologue 40000010"),
+    Pair(OneHart, &Q, APART_GRAPH, &[], "Length 292 340"),
+    Pair(EightHarts, &Q_OF_HARTS, Q_GRAPH, &[], "Length 308 292"),
+    Pair(OneHart, &Q, Q_GRAPH, &[(0x04, 0x13), (0x64, FIRST)], "Prologue 40000004"),
+    Pair(EightHarts, &Q_OF_HARTS, Q_OF_HARTS_GRAPH, &[(0x10, 0x6000_01b7), (0x74, FIRST)], "Prologue 40000010"),
     // The last word.
-    Pair(1, &A, LAST_CALLED_GRAPH, &[(0x4c, 0x1037)], "End 4000004c"),
-    Pair(1, &A, LAST_JUMPED_GRAPH, &[(0x4c, 0x1037)], "Gate 4000004c"),
-    Pair(1, &A, BEFORE_LAST_JUMPED_GRAPH, &[(0x4c, 0x1037)], "End 4000004c"),
-    Pair(1, &A, BEFORE_LAST_JUMPED_GRAPH, &[], "Gate 40000048"),
+    Pair(OneHart, &A, LAST_CALLED_GRAPH, &[(0x4c, 0x1037)], "End 4000004c"),
+    Pair(OneHart, &A, LAST_JUMPED_GRAPH, &[(0x4c, 0x1037)], "Gate 4000004c"),
+    Pair(OneHart, &A, BEFORE_LAST_JUMPED_GRAPH, &[(0x4c, 0x1037)], "End 4000004c"),
+    Pair(OneHart, &A, BEFORE_LAST_JUMPED_GRAPH, &[], "Gate 40000048"),
 ];
 
 /// Whether a pair is answered as its row says.
@@ -270,7 +278,7 @@ fn graph_of(alloc: Global, head: &str, call: &str, row: &Row) -> Option<Graph> {
 fn is_right(alloc: Global, row: &Row) -> bool {
     let (head, call) = ("code 40000000 00000124\n", "call 4000000c 40000040\n");
     match graph_of(alloc, head, call, row) {
-        Some(graph) => is_answered(alloc, 1, &Q, row.2, &graph, row.3),
+        Some(graph) => is_answered(alloc, OneHart, &Q, row.2, &graph, row.3),
         None => false,
     }
 }
@@ -279,7 +287,7 @@ fn is_right(alloc: Global, row: &Row) -> bool {
 fn is_right_of_harts(alloc: Global, row: &Row) -> bool {
     let (head, call) = ("code 40000000 00000134\n", "call 4000000c 40000050\n");
     match graph_of(alloc, head, call, row) {
-        Some(graph) => is_answered(alloc, 2, &Q_OF_HARTS, row.2, &graph, row.3),
+        Some(graph) => is_answered(alloc, EightHarts, &Q_OF_HARTS, row.2, &graph, row.3),
         None => false,
     }
 }

@@ -3,6 +3,7 @@
 
 use crate::ended::{Ended, ends_alone, ends_in_turns, has_ended};
 use cfi_step::{Handler, Hostile, RunEnd};
+use rv_word::ImageVersion;
 use sample_programs::{
     APART, APART_DATA, APART_GRAPH, APART_OF_HARTS, APART_OF_HARTS_DATA, APART_OF_HARTS_GRAPH,
     JOINED, JOINED_DATA, JOINED_GRAPH, Q, Q_DATA, Q_GRAPH, Q_OF_HARTS, Q_OF_HARTS_DATA,
@@ -12,7 +13,7 @@ use sample_runs::{Program, is_same_again, report};
 use std::alloc::Global;
 
 static JUMPING: Program = Program {
-    version: 1,
+    version: ImageVersion::OneHart,
     units: &Q,
     graph: Q_GRAPH,
     data: Q_DATA,
@@ -20,7 +21,7 @@ static JUMPING: Program = Program {
 };
 
 static JUMPING_HARTS: Program = Program {
-    version: 2,
+    version: ImageVersion::EightHarts,
     units: &Q_OF_HARTS,
     graph: Q_OF_HARTS_GRAPH,
     data: Q_OF_HARTS_DATA,
@@ -28,7 +29,7 @@ static JUMPING_HARTS: Program = Program {
 };
 
 static PARTED: Program = Program {
-    version: 1,
+    version: ImageVersion::OneHart,
     units: &APART,
     graph: APART_GRAPH,
     data: APART_DATA,
@@ -36,7 +37,7 @@ static PARTED: Program = Program {
 };
 
 static PARTED_HARTS: Program = Program {
-    version: 2,
+    version: ImageVersion::EightHarts,
     units: &APART_OF_HARTS,
     graph: APART_OF_HARTS_GRAPH,
     data: APART_OF_HARTS_DATA,
@@ -44,7 +45,7 @@ static PARTED_HARTS: Program = Program {
 };
 
 static MERGED: Program = Program {
-    version: 1,
+    version: ImageVersion::OneHart,
     units: &JOINED,
     graph: JOINED_GRAPH,
     data: JOINED_DATA,

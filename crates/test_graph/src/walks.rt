@@ -5,7 +5,7 @@ use crate::answered::{Went, are_walked, code_of};
 use cfi_graph::{Graph, SiteKind, read_graph};
 use cfi_unit::TargetWord;
 use cfi_verify::{Asks, Checked, verify};
-use rv_word::Image;
+use rv_word::{Image, ImageVersion};
 use sample_programs::{
     APART, APART_GRAPH, APART_OF_HARTS, APART_OF_HARTS_GRAPH, JOINED, JOINED_GRAPH, Q, Q_GRAPH,
     Q_OF_HARTS, Q_OF_HARTS_GRAPH,
@@ -208,7 +208,7 @@ const JOINED_ASKED: &[Asked] = &[
 
 /// A program: the version of its image, its units, its graph, its undisturbed walk, other walks, and what its classes serve.
 struct Program {
-    version: u8,
+    version: ImageVersion,
     units: &'static [u32],
     graph: &'static [u8],
     trail: &'static [Step],
@@ -218,7 +218,7 @@ struct Program {
 
 static PROGRAMS: [Program; 5] = [
     Program {
-        version: 1,
+        version: ImageVersion::OneHart,
         units: &Q,
         graph: Q_GRAPH,
         trail: Q_TRAIL,
@@ -226,7 +226,7 @@ static PROGRAMS: [Program; 5] = [
         asked: Q_ASKED,
     },
     Program {
-        version: 2,
+        version: ImageVersion::EightHarts,
         units: &Q_OF_HARTS,
         graph: Q_OF_HARTS_GRAPH,
         trail: &[],
@@ -234,7 +234,7 @@ static PROGRAMS: [Program; 5] = [
         asked: &[],
     },
     Program {
-        version: 1,
+        version: ImageVersion::OneHart,
         units: &APART,
         graph: APART_GRAPH,
         trail: APART_TRAIL,
@@ -242,7 +242,7 @@ static PROGRAMS: [Program; 5] = [
         asked: &[],
     },
     Program {
-        version: 1,
+        version: ImageVersion::OneHart,
         units: &JOINED,
         graph: JOINED_GRAPH,
         trail: &[],
@@ -250,7 +250,7 @@ static PROGRAMS: [Program; 5] = [
         asked: JOINED_ASKED,
     },
     Program {
-        version: 2,
+        version: ImageVersion::EightHarts,
         units: &APART_OF_HARTS,
         graph: APART_OF_HARTS_GRAPH,
         trail: &[],
@@ -302,11 +302,8 @@ fn is_code(alloc: Global, code: &[u8], program: &Program) -> bool {
     let Ok(graph) = read_graph(alloc, program.graph) else {
         return false;
     };
-    if program.version == 1 {
-        is_program(alloc, &Image::of(code, &[]), &graph, program)
-    } else {
-        is_program(alloc, &Image::of_version(2, code, &[]), &graph, program)
-    }
+    let image = Image::of_version(program.version, code, &[]);
+    is_program(alloc, &image, &graph, program)
 }
 
 /// Whether a program has its walks.

@@ -1,7 +1,8 @@
 //! What `harden` puts and writes in each form, byte for byte, and that it is accepted: the objects and the tables are those of
 //! `sample_hardened`, `sample_split`, `sample_stores` and `sample_listed`.
 
-use rv_word::NoMemory;
+use rv_word::ImageVersion::{EightHarts, OneHart};
+use rv_word::{ImageVersion, NoMemory};
 use sample_calls::{answers, image_as, put};
 use sample_hardened::{HARTS, PLAIN, Program, file};
 use sample_listed::{CALLS, CALLS_HARTS, CALLS_HARTS_SPLIT, CALLS_SPLIT};
@@ -127,15 +128,15 @@ static CALLS_TOLD: [[&str; 10]; 4] = [
 ];
 
 /// The code of a version's prologue and some units.
-fn code_as(alloc: Global, version: u8, units: &[u32]) -> Result<Vec<u8>, AllocError> {
+fn code_as(alloc: Global, version: ImageVersion, units: &[u32]) -> Result<Vec<u8>, AllocError> {
     match version {
-        1 => code(alloc, units),
-        _ => code_of_harts(alloc, units),
+        OneHart => code(alloc, units),
+        EightHarts => code_of_harts(alloc, units),
     }
 }
 
 /// The image of a program.
-fn image(alloc: Global, version: u8, program: &Program) -> Result<Vec<u8>, NoMemory> {
+fn image(alloc: Global, version: ImageVersion, program: &Program) -> Result<Vec<u8>, NoMemory> {
     let mut code = code_as(alloc, version, program.1)?;
     put(&mut code, program.2, &program.3.to_le_bytes());
     image_as(alloc, version, &code, program.4)
@@ -145,7 +146,7 @@ fn image(alloc: Global, version: u8, program: &Program) -> Result<Vec<u8>, NoMem
 fn add_all(
     alloc: Global,
     files: &mut MemFiles,
-    version: u8,
+    version: ImageVersion,
     program: &Program,
 ) -> Result<(), NoMemory> {
     let object = file(alloc, &program.0).ok_or(NoMemory)?;
@@ -180,7 +181,7 @@ fn are_written(alloc: Global, files: &mut MemFiles, program: &Program) -> bool {
 }
 
 /// Whether an object becomes its program in a form, whose images are of a version.
-fn is_hardened(alloc: Global, form: &str, version: u8, program: &Program, told: &str) -> bool {
+fn is_hardened(alloc: Global, form: &str, version: ImageVersion, program: &Program, told: &str) -> bool {
     let mut files = MemFiles::new(alloc, Vec::new(alloc));
     add_all(alloc, &mut files, version, program).is_ok()
         && is_put(alloc, &mut files, form, program, told)
@@ -192,7 +193,7 @@ fn check(
     rt: &impl Abort,
     alloc: Global,
     form: &str,
-    version: u8,
+    version: ImageVersion,
     programs: &[Program],
     all_told: &[&str],
 ) {
@@ -208,14 +209,14 @@ fn check(
 
 #[test]
 fn hardened(rt: HostRuntime) {
-    check(&rt, rt.alloc(), "plain", 1, &PLAIN, &PLAIN_TOLD);
-    check(&rt, rt.alloc(), "harts", 2, &HARTS, &HARTS_TOLD);
-    check(&rt, rt.alloc(), "split", 1, &SPLIT, &SPLIT_TOLD);
+    check(&rt, rt.alloc(), "plain", OneHart, &PLAIN, &PLAIN_TOLD);
+    check(&rt, rt.alloc(), "harts", EightHarts, &HARTS, &HARTS_TOLD);
+    check(&rt, rt.alloc(), "split", OneHart, &SPLIT, &SPLIT_TOLD);
     check(
         &rt,
         rt.alloc(),
         "harts-split",
-        2,
+        EightHarts,
         &HARTS_SPLIT,
         &HARTS_SPLIT_TOLD,
     );
@@ -224,17 +225,17 @@ fn hardened(rt: HostRuntime) {
 #[test]
 fn joined_stores(rt: HostRuntime) {
     let [plain, harts, split, both] = &STORES_TOLD;
-    check(&rt, rt.alloc(), "plain", 1, &STORES, plain);
-    check(&rt, rt.alloc(), "harts", 2, &STORES_HARTS, harts);
-    check(&rt, rt.alloc(), "split", 1, &STORES_SPLIT, split);
-    check(&rt, rt.alloc(), "harts-split", 2, &STORES_HARTS_SPLIT, both);
+    check(&rt, rt.alloc(), "plain", OneHart, &STORES, plain);
+    check(&rt, rt.alloc(), "harts", EightHarts, &STORES_HARTS, harts);
+    check(&rt, rt.alloc(), "split", OneHart, &STORES_SPLIT, split);
+    check(&rt, rt.alloc(), "harts-split", EightHarts, &STORES_HARTS_SPLIT, both);
 }
 
 #[test]
 fn guarded_calls(rt: HostRuntime) {
     let [plain, harts, split, both] = &CALLS_TOLD;
-    check(&rt, rt.alloc(), "plain", 1, &CALLS, plain);
-    check(&rt, rt.alloc(), "harts", 2, &CALLS_HARTS, harts);
-    check(&rt, rt.alloc(), "split", 1, &CALLS_SPLIT, split);
-    check(&rt, rt.alloc(), "harts-split", 2, &CALLS_HARTS_SPLIT, both);
+    check(&rt, rt.alloc(), "plain", OneHart, &CALLS, plain);
+    check(&rt, rt.alloc(), "harts", EightHarts, &CALLS_HARTS, harts);
+    check(&rt, rt.alloc(), "split", OneHart, &CALLS_SPLIT, split);
+    check(&rt, rt.alloc(), "harts-split", EightHarts, &CALLS_HARTS_SPLIT, both);
 }

@@ -2,6 +2,7 @@
 //! are those that the definitions of the rules give.
 
 use crate::pieces::{Row, is_right};
+use rv_word::ImageVersion::OneHart;
 use sample_programs::{JUMP, P, Q, Q_GRAPH};
 use sample_runs::SAME;
 
@@ -56,37 +57,37 @@ site 400000bc call 00001\nend\n";
 
 #[rattlefmt::skip]
 static ROWS: [Row; 26] = [
-    Row(1, &Q, Q_GRAPH, 0, SAME, ""),
-    Row(1, &P, P_OF_2, 0, SAME, ""),
+    Row(OneHart, &Q, Q_GRAPH, 0, SAME, ""),
+    Row(OneHart, &P, P_OF_2, 0, SAME, ""),
     // A jump that reads the word that its graph's version has not, and a call that reads the second.
-    Row(1, &Q, FIRST, 0, SAME, "Unit 40000048"),
-    Row(1, &JUMP, JUMP_OF_2, 0, SAME, "Unit 40000048"),
-    Row(1, &Q, Q_GRAPH, 0x64, 0x000f_af03, "Unit 40000048"),
-    Row(1, &Q, Q_GRAPH, 0xd8, 0x004f_af03, "Unit 400000bc"),
+    Row(OneHart, &Q, FIRST, 0, SAME, "Unit 40000048"),
+    Row(OneHart, &JUMP, JUMP_OF_2, 0, SAME, "Unit 40000048"),
+    Row(OneHart, &Q, Q_GRAPH, 0x64, 0x000f_af03, "Unit 40000048"),
+    Row(OneHart, &Q, Q_GRAPH, 0xd8, 0x004f_af03, "Unit 400000bc"),
     // A label that is no line's, and one of a class that does not serve the transfer.
-    Row(1, &Q, Q_GRAPH, 0x68, 0x0000_1237, "Site 40000048"),
-    Row(1, &Q, Q_GRAPH, 0xdc, 0x0000_2237, "Site 400000bc"),
-    Row(1, &Q, JUMP_BY_CALLS, 0x68, 0x0000_1237, "Site 40000048"),
-    Row(1, &Q, CALL_BY_JUMPS, 0xdc, 0x0000_2237, "Site 400000bc"),
-    Row(1, &Q, CALL_FOR_JUMP, 0, SAME, "Site 40000048"),
-    Row(1, &P, P_BY_JUMPS, 0, SAME, "Site 4000005c"),
+    Row(OneHart, &Q, Q_GRAPH, 0x68, 0x0000_1237, "Site 40000048"),
+    Row(OneHart, &Q, Q_GRAPH, 0xdc, 0x0000_2237, "Site 400000bc"),
+    Row(OneHart, &Q, JUMP_BY_CALLS, 0x68, 0x0000_1237, "Site 40000048"),
+    Row(OneHart, &Q, CALL_BY_JUMPS, 0xdc, 0x0000_2237, "Site 400000bc"),
+    Row(OneHart, &Q, CALL_FOR_JUMP, 0, SAME, "Site 40000048"),
+    Row(OneHart, &P, P_BY_JUMPS, 0, SAME, "Site 4000005c"),
     // A target of jumps without its second word, or with another one, and one of calls without its first.
-    Row(1, &Q, Q_GRAPH, 0x80, 0x0000_0013, "Gate 4000007c"),
-    Row(1, &Q, Q_GRAPH, 0x80, 0x0000_1037, "Gate 4000007c"),
-    Row(1, &Q, Q_GRAPH, 0xa0, 0x0000_0013, "Gate 4000009c"),
-    Row(1, &Q, Q_GRAPH, 0x9c, 0x0000_0013, "Gate 4000009c"),
-    Row(1, &Q, CALL_OF_BOTH, 0, SAME, "Gate 4000007c"),
+    Row(OneHart, &Q, Q_GRAPH, 0x80, 0x0000_0013, "Gate 4000007c"),
+    Row(OneHart, &Q, Q_GRAPH, 0x80, 0x0000_1037, "Gate 4000007c"),
+    Row(OneHart, &Q, Q_GRAPH, 0xa0, 0x0000_0013, "Gate 4000009c"),
+    Row(OneHart, &Q, Q_GRAPH, 0x9c, 0x0000_0013, "Gate 4000009c"),
+    Row(OneHart, &Q, CALL_OF_BOTH, 0, SAME, "Gate 4000007c"),
     // A target of jumps that is no unit's start, with the gate behind it.
-    Row(1, &Q, JUMP_INSIDE, 0x7c, 0x0000_2037, "Gate 40000078"),
+    Row(OneHart, &Q, JUMP_INSIDE, 0x7c, 0x0000_2037, "Gate 40000078"),
     // A gate at the wrong word of a target, and at none; one of no class may stand at each.
-    Row(1, &Q, Q_GRAPH, 0x7c, 0x0000_2037, "Astray 4000007c"),
-    Row(1, &Q, Q_GRAPH, 0x7c, 0x0000_1037, "Astray 4000007c"),
-    Row(1, &Q, Q_GRAPH, 0x84, 0x0000_2037, "Astray 40000084"),
-    Row(1, &Q, Q_GRAPH, 0x84, 0x0000_1037, "Astray 40000084"),
-    Row(1, &Q, JUMP_TO_ONE, 0, SAME, "Astray 40000080"),
-    Row(1, &Q, CALL_OF_NONE, 0, SAME, "Astray 4000009c"),
-    Row(1, &Q, Q_GRAPH, 0x7c, 0x0000_3037, ""),
-    Row(1, &Q, Q_GRAPH, 0x84, 0x0000_3037, ""),
+    Row(OneHart, &Q, Q_GRAPH, 0x7c, 0x0000_2037, "Astray 4000007c"),
+    Row(OneHart, &Q, Q_GRAPH, 0x7c, 0x0000_1037, "Astray 4000007c"),
+    Row(OneHart, &Q, Q_GRAPH, 0x84, 0x0000_2037, "Astray 40000084"),
+    Row(OneHart, &Q, Q_GRAPH, 0x84, 0x0000_1037, "Astray 40000084"),
+    Row(OneHart, &Q, JUMP_TO_ONE, 0, SAME, "Astray 40000080"),
+    Row(OneHart, &Q, CALL_OF_NONE, 0, SAME, "Astray 4000009c"),
+    Row(OneHart, &Q, Q_GRAPH, 0x7c, 0x0000_3037, ""),
+    Row(OneHart, &Q, Q_GRAPH, 0x84, 0x0000_3037, ""),
 ];
 
 #[test]

@@ -4,7 +4,7 @@ ghost use Rattle.std.specs.Prelude.{◌≡◌, ◌<◌, ◌≤◌, ◌^◌};
 use crate::near::{FIRST, NEAR, SKIPS};
 use cfi_scan::{Entry, Feeder, Listing, Steps};
 use cfi_unit::{SystemOp, TargetWord, Unit, recognise};
-use rv_word::Numbers;
+use rv_word::{ImageVersion, Numbers};
 use sample_programs::{
     A, A_OF_HARTS, AIMED, B, BREAK, DEEP, ECHO, EDGE, H, JOBS, JUMP, LOAD, LOOP, NOWHERE, OTHER, P,
     PROLOGUE, PROLOGUE_OF_HARTS, SECOND, SHARED, STATUS, code, code_of_harts,
@@ -44,7 +44,7 @@ fn list(numbers: &[u16]) -> Option<Numbers> {
 fn fed<L: Ledger>(
     alloc: Global,
     blank: Blank,
-    version: u8,
+    version: ImageVersion,
     calls: &[u16],
     bytes: &[u8],
     room: usize,
@@ -77,7 +77,7 @@ fn fed<L: Ledger>(
 /// The same under a ledger of its own.
 fn listed(
     alloc: Global,
-    version: u8,
+    version: ImageVersion,
     calls: &[u16],
     bytes: &[u8],
     room: usize,
@@ -89,10 +89,13 @@ fn listed(
 }
 
 /// Where the first unit of a version's images stands.
-fn first(version: u8) -> u64
+fn first(version: ImageVersion) -> u64
     ensures { result ≤ 0x40000050 }
 {
-    if version == 1 { FIRST } else { 0x4000_0050 }
+    match version {
+        ImageVersion::OneHart => FIRST,
+        ImageVersion::EightHarts => 0x4000_0050,
+    }
 }
 
 /// Where a field leads from an address, whose offsets are below a bound each way.
@@ -199,25 +202,29 @@ fn is_listed(listing: &Listing, calls: &[u16], words: &[u32]) -> bool {
 }
 
 /// The code of the prologue of a version and some units.
-fn code_in(alloc: Global, version: u8, words: &[u32]) -> Option<Vec<u8>> {
-    if version == 1 {
-        code(alloc, words).ok()
-    } else {
-        code_of_harts(alloc, words).ok()
+fn code_in(alloc: Global, version: ImageVersion, words: &[u32]) -> Option<Vec<u8>> {
+    match version {
+        ImageVersion::OneHart => code(alloc, words).ok(),
+        ImageVersion::EightHarts => code_of_harts(alloc, words).ok(),
     }
 }
 
 /// Whether a listing has the prologue of its version.
 fn has_prologue(listing: &Listing) -> bool {
-    if listing.version() == 1 {
-        listing.prologue() == PROLOGUE.as_slice()
-    } else {
-        listing.prologue() == PROLOGUE_OF_HARTS.as_slice()
+    match listing.version() {
+        ImageVersion::OneHart => listing.prologue() == PROLOGUE.as_slice(),
+        ImageVersion::EightHarts => listing.prologue() == PROLOGUE_OF_HARTS.as_slice(),
     }
 }
 
 /// Whether the code of a version's image is listed as its units are, in pieces of a size.
-fn is_right_under(alloc: Global, version: u8, calls: &[u16], words: &[u32], size: usize) -> bool
+fn is_right_under(
+    alloc: Global,
+    version: ImageVersion,
+    calls: &[u16],
+    words: &[u32],
+    size: usize,
+) -> bool
     requires { 0 < size }
 {
     if words.len() > 900 {
@@ -236,17 +243,17 @@ fn is_right_under(alloc: Global, version: u8, calls: &[u16], words: &[u32], size
 }
 
 /// The same without a list.
-fn is_right_in(alloc: Global, version: u8, words: &[u32], size: usize) -> bool
+fn is_right_in(alloc: Global, version: ImageVersion, words: &[u32], size: usize) -> bool
     requires { 0 < size }
 {
     is_right_under(alloc, version, &[], words, size)
 }
 
-/// The same in version 1.
+/// The same in images for one hart.
 fn is_right(alloc: Global, words: &[u32], size: usize) -> bool
     requires { 0 < size }
 {
-    is_right_in(alloc, 1, words, size)
+    is_right_in(alloc, ImageVersion::OneHart, words, size)
 }
 
 /// Whether it is so of the code with each bit of each word turned.
@@ -262,7 +269,7 @@ fn are_right_under(alloc: Global, calls: &[u16], words: &[u32]) -> bool {
     for k in 0..turned.len() {
         for bit in 0..32_u32 {
             turned[k] ^= 1 << bit;
-            if !is_right_under(alloc, 1, calls, &turned, 4096) {
+            if !is_right_under(alloc, ImageVersion::OneHart, calls, &turned, 4096) {
                 return false;
             }
             turned[k] ^= 1 << bit;
@@ -273,7 +280,7 @@ fn are_right_under(alloc: Global, calls: &[u16], words: &[u32]) -> bool {
 
 /// Whether a code with room for less, or cut off in a word, keeps what it has room for and counts its bytes.
 fn is_kept(alloc: Global, bytes: &[u8], room: usize, prologue: usize, done: usize) -> bool {
-    let Some(listing) = listed(alloc, 1, &[], bytes, room, 7) else {
+    let Some(listing) = listed(alloc, ImageVersion::OneHart, &[], bytes, room, 7) else {
         return false;
     };
     listing.prologue().len() == prologue
@@ -314,11 +321,17 @@ fn in_one_piece(rt: HostRuntime) {
 fn for_several_harts(rt: HostRuntime) {
     for size in 1..9 {
         assert!(rt;
-            is_right_in(rt.alloc(), 2, &A_OF_HARTS, size),
+            is_right_in(rt.alloc(), ImageVersion::EightHarts, &A_OF_HARTS, size),
             "A_OF_HARTS {size}"
         );
-        assert!(rt; is_right_in(rt.alloc(), 2, &SHARED, size), "SHARED {size}");
-        assert!(rt; is_right_in(rt.alloc(), 2, &JOBS, size), "JOBS {size}");
+        assert!(rt;
+            is_right_in(rt.alloc(), ImageVersion::EightHarts, &SHARED, size),
+            "SHARED {size}"
+        );
+        assert!(rt;
+            is_right_in(rt.alloc(), ImageVersion::EightHarts, &JOBS, size),
+            "JOBS {size}"
+        );
     }
 }
 
@@ -333,10 +346,17 @@ fn with_a_bit_turned(rt: HostRuntime) {
 
 /// Whether the entry of the unit at an index under a list tells whether its numbers are the list's.
 fn tells(alloc: Global, calls: &[u16], words: &[u32], index: usize, same: bool) -> bool {
-    let Some(bytes) = code_in(alloc, 1, words) else {
+    let Some(bytes) = code_in(alloc, ImageVersion::OneHart, words) else {
         return false;
     };
-    let Some(listing) = listed(alloc, 1, calls, &bytes, bytes.len() / 4, 7) else {
+    let Some(listing) = listed(
+        alloc,
+        ImageVersion::OneHart,
+        calls,
+        &bytes,
+        bytes.len() / 4,
+        7,
+    ) else {
         return false;
     };
     listing.entry(index) == Some(Entry::Guarded(same)) && is_listed(&listing, calls, words)
@@ -386,11 +406,11 @@ fn system_calls_cut_anywhere(rt: HostRuntime) {
     for size in 1..9 {
         assert!(rt; is_right(rt.alloc(), &GUARDS, size), "no list {size}");
         assert!(rt;
-            is_right_under(rt.alloc(), 1, &[64], &GUARDS, size),
+            is_right_under(rt.alloc(), ImageVersion::OneHart, &[64], &GUARDS, size),
             "GUARDS {size}"
         );
         assert!(rt;
-            is_right_under(rt.alloc(), 1, &[64], &EIGHT, size),
+            is_right_under(rt.alloc(), ImageVersion::OneHart, &[64], &EIGHT, size),
             "EIGHT {size}"
         );
     }

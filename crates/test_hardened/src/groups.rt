@@ -6,13 +6,14 @@ ghost use Rattle.cfi_script.specs.Script.{IsScript};
 
 use cfi_script::Script;
 use cfi_step::{Hostile, RunEnd, RunReport};
+use rv_word::ImageVersion;
 use sample_programs::{GROUPS, GROUPS_DATA, GROUPS_GRAPH};
 use sample_runs::{Program, is_same_again, report};
 use std::alloc::Global;
 
 /// A program that stores by each width behind one mask, in its steps from 16 to 21, and puts out what then stands there in step 29.
 static STORING: Program = Program {
-    version: 1,
+    version: ImageVersion::OneHart,
     units: &GROUPS,
     graph: GROUPS_GRAPH,
     data: GROUPS_DATA,

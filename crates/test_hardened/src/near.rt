@@ -4,10 +4,10 @@ use cfi_graph::{Graph, read_graph};
 use cfi_script::Script;
 use cfi_step::{RunEnd, RunReport};
 use cfi_unit::{Unit, emit, fits, recognise};
-use cfi_verify::{Checked, Reject, Rule, VerifyEnd, verify};
+use cfi_verify::{Checked, Reject, Rule, verify};
 use cfi_walk::{Followed, Walk, follow};
 use rv_instr::{BranchOp, Reg};
-use rv_word::Image;
+use rv_word::{End, Image};
 use sample_programs::code;
 use sample_runs::run_of;
 use std::alloc::Global;
@@ -161,7 +161,7 @@ enum Outcome {
 fn answered(alloc: Global, image: &Image<'_>, graph: &Graph) -> Outcome {
     match verify(alloc, image, graph) {
         Ok(checked) if loops(alloc, &checked) && has_trail(alloc, &checked) => Outcome::Accepted,
-        Err(VerifyEnd::Reject(reject)) => Outcome::Rejected(reject),
+        Err(End::Fault(reject)) => Outcome::Rejected(reject),
         _ => Outcome::Other,
     }
 }

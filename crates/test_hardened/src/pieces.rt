@@ -5,6 +5,8 @@ ghost use Rattle.std.specs.Prelude.{◌≡◌, ◌<◌};
 use cfi_graph::{Graph, read_graph};
 use cfi_scan::Steps;
 use cfi_verify::Scan;
+use rv_word::ImageVersion;
+use rv_word::ImageVersion::{EightHarts, OneHart};
 use sample_programs::{
     A, A_GRAPH, A_OF_HARTS, A_OF_HARTS_GRAPH, B, B_GRAPH, H, H_GRAPH, JOBS, JOBS_GRAPH, JUMP,
     JUMP_GRAPH, LOOP, LOOP_GRAPH, NARROW, NARROW_GRAPH, NOWHERE, NOWHERE_GRAPH, P, P_GRAPH,
@@ -18,7 +20,7 @@ use std::sync::ledger::{Blank, Ledger};
 /// The version of an image, the units of a program, its graph, where in the code a word is put, the word, and the rule that
 /// fails with its address; no text where the code is accepted.
 pub(crate) struct Row(
-    pub(crate) u8,
+    pub(crate) ImageVersion,
     pub(crate) &'static [u32],
     pub(crate) &'static [u8],
     pub(crate) usize,
@@ -41,42 +43,42 @@ const A_CALLS_GRAPH: &[u8] =
 
 #[rattlefmt::skip]
 static ROWS: [Row; 35] = [
-    Row(1, &A, A_GRAPH, 0, SAME, ""),
-    Row(1, &B, B_GRAPH, 0, SAME, ""),
-    Row(1, &H, H_GRAPH, 0, SAME, ""),
-    Row(1, &P, P_GRAPH, 0, SAME, ""),
-    Row(1, &JUMP, JUMP_GRAPH, 0, SAME, ""),
-    Row(1, &LOOP, LOOP_GRAPH, 0, SAME, ""),
-    Row(1, &NARROW, NARROW_GRAPH, 0, SAME, ""),
-    Row(1, &NOWHERE, NOWHERE_GRAPH, 0, SAME, ""),
-    Row(1, &A, A_GRAPH, 0x8, 0x0000_0013, "Prologue 40000008"),
-    Row(1, &A, B_GRAPH, 0, SAME, "Length 80 92"),
-    Row(1, &B, A_GRAPH, 0, SAME, "Length 92 80"),
-    Row(1, &A, A_GRAPH, 0x40, 0x0010_0f13, "Unit 40000040"),
-    Row(1, &A, A_GRAPH, 0x34, 0x0040_00ef, "Target 4000000c"),
-    Row(1, &A, A_GRAPH, 0x40, 0x0080_006f, "Unlisted 40000040"),
-    Row(1, &A, A_GRAPH, 0x4c, 0x0000_0013, "End 4000004c"),
-    Row(1, &B, B_GRAPH, 0x54, 0x0000_8067, "Unit 40000044"),
-    Row(1, &P, P_GRAPH, 0x48, 0x022f_9f93, "Unit 40000044"),
-    Row(1, &P, P_GRAPH, 0x90, 0x0000_0013, "Unit 4000005c"),
-    Row(1, &P, P_GRAPH, 0x7c, 0x0000_2237, "Site 4000005c"),
-    Row(1, &P, P_GRAPH, 0xe4, 0x0000_2037, "Gate 400000e4"),
-    Row(1, &P, P_GRAPH, 0xcc, 0x0000_1037, "Astray 400000cc"),
-    Row(2, &A_OF_HARTS, A_OF_HARTS_GRAPH, 0, SAME, ""),
-    Row(2, &SHARED, SHARED_GRAPH, 0, SAME, ""),
-    Row(2, &JOBS, JOBS_GRAPH, 0, SAME, ""),
-    Row(2, &A_OF_HARTS, A_OF_HARTS_GRAPH, 0x10, 0x6000_01b7, "Prologue 40000010"),
-    Row(2, &A_OF_HARTS, A_OF_HARTS_GRAPH, 0x4c, 0x0010_0073, "Prologue 4000004c"),
-    Row(2, &A_OF_HARTS, A_OF_HARTS_GRAPH, 0x44, 0xffdf_f0ef, "Target 4000000c"),
-    Row(2, &SHARED, SHARED_GRAPH, 0x74, 0x022f_9f93, "Unit 40000070"),
-    Row(2, &JOBS, JOBS_GRAPH, 0x94, 0x0000_2037, "Gate 40000094"),
-    Row(2, &A_OF_HARTS, A_OF_HARTS_GRAPH, 0x5c, 0x0000_0013, "End 4000005c"),
+    Row(OneHart, &A, A_GRAPH, 0, SAME, ""),
+    Row(OneHart, &B, B_GRAPH, 0, SAME, ""),
+    Row(OneHart, &H, H_GRAPH, 0, SAME, ""),
+    Row(OneHart, &P, P_GRAPH, 0, SAME, ""),
+    Row(OneHart, &JUMP, JUMP_GRAPH, 0, SAME, ""),
+    Row(OneHart, &LOOP, LOOP_GRAPH, 0, SAME, ""),
+    Row(OneHart, &NARROW, NARROW_GRAPH, 0, SAME, ""),
+    Row(OneHart, &NOWHERE, NOWHERE_GRAPH, 0, SAME, ""),
+    Row(OneHart, &A, A_GRAPH, 0x8, 0x0000_0013, "Prologue 40000008"),
+    Row(OneHart, &A, B_GRAPH, 0, SAME, "Length 80 92"),
+    Row(OneHart, &B, A_GRAPH, 0, SAME, "Length 92 80"),
+    Row(OneHart, &A, A_GRAPH, 0x40, 0x0010_0f13, "Unit 40000040"),
+    Row(OneHart, &A, A_GRAPH, 0x34, 0x0040_00ef, "Target 4000000c"),
+    Row(OneHart, &A, A_GRAPH, 0x40, 0x0080_006f, "Unlisted 40000040"),
+    Row(OneHart, &A, A_GRAPH, 0x4c, 0x0000_0013, "End 4000004c"),
+    Row(OneHart, &B, B_GRAPH, 0x54, 0x0000_8067, "Unit 40000044"),
+    Row(OneHart, &P, P_GRAPH, 0x48, 0x022f_9f93, "Unit 40000044"),
+    Row(OneHart, &P, P_GRAPH, 0x90, 0x0000_0013, "Unit 4000005c"),
+    Row(OneHart, &P, P_GRAPH, 0x7c, 0x0000_2237, "Site 4000005c"),
+    Row(OneHart, &P, P_GRAPH, 0xe4, 0x0000_2037, "Gate 400000e4"),
+    Row(OneHart, &P, P_GRAPH, 0xcc, 0x0000_1037, "Astray 400000cc"),
+    Row(EightHarts, &A_OF_HARTS, A_OF_HARTS_GRAPH, 0, SAME, ""),
+    Row(EightHarts, &SHARED, SHARED_GRAPH, 0, SAME, ""),
+    Row(EightHarts, &JOBS, JOBS_GRAPH, 0, SAME, ""),
+    Row(EightHarts, &A_OF_HARTS, A_OF_HARTS_GRAPH, 0x10, 0x6000_01b7, "Prologue 40000010"),
+    Row(EightHarts, &A_OF_HARTS, A_OF_HARTS_GRAPH, 0x4c, 0x0010_0073, "Prologue 4000004c"),
+    Row(EightHarts, &A_OF_HARTS, A_OF_HARTS_GRAPH, 0x44, 0xffdf_f0ef, "Target 4000000c"),
+    Row(EightHarts, &SHARED, SHARED_GRAPH, 0x74, 0x022f_9f93, "Unit 40000070"),
+    Row(EightHarts, &JOBS, JOBS_GRAPH, 0x94, 0x0000_2037, "Gate 40000094"),
+    Row(EightHarts, &A_OF_HARTS, A_OF_HARTS_GRAPH, 0x5c, 0x0000_0013, "End 4000005c"),
     // Lists of system calls: a guarded call with its numbers, with others, with a word that is none of its own; a bare one.
-    Row(1, &CALLS, CALLS_GRAPH, 0, SAME, ""),
-    Row(1, &CALLS, CALLS_GRAPH, 0x48, 0x03f0_0f93, "Unit 40000048"),
-    Row(1, &CALLS, CALLS_GRAPH, 0x50, 0x05e0_0f93, "Unit 40000048"),
-    Row(1, &CALLS, CALLS_GRAPH, 0x54, 0x010f_8463, "Unit 40000048"),
-    Row(1, &A, A_CALLS_GRAPH, 0, SAME, "Unit 40000048"),
+    Row(OneHart, &CALLS, CALLS_GRAPH, 0, SAME, ""),
+    Row(OneHart, &CALLS, CALLS_GRAPH, 0x48, 0x03f0_0f93, "Unit 40000048"),
+    Row(OneHart, &CALLS, CALLS_GRAPH, 0x50, 0x05e0_0f93, "Unit 40000048"),
+    Row(OneHart, &CALLS, CALLS_GRAPH, 0x54, 0x010f_8463, "Unit 40000048"),
+    Row(OneHart, &A, A_CALLS_GRAPH, 0, SAME, "Unit 40000048"),
 ];
 
 /// The sizes of pieces.
@@ -86,7 +88,7 @@ const SIZES: [usize; 7] = [1, 3, 4, 5, 13, 64, 260];
 fn scanned<L: Ledger>(
     alloc: Global,
     blank: Blank,
-    version: u8,
+    version: ImageVersion,
     graph: &Graph,
     bytes: &[u8],
     size: usize,
@@ -115,7 +117,13 @@ fn scanned<L: Ledger>(
 }
 
 /// The same under a ledger of its own.
-fn answer(alloc: Global, version: u8, graph: &Graph, bytes: &[u8], size: usize) -> Option<String>
+fn answer(
+    alloc: Global,
+    version: ImageVersion,
+    graph: &Graph,
+    bytes: &[u8],
+    size: usize,
+) -> Option<String>
     requires { 0 < size }
 {
     scanned::<Brand>(alloc, Blank::new(1), version, graph, bytes, size)
@@ -123,11 +131,11 @@ fn answer(alloc: Global, version: u8, graph: &Graph, bytes: &[u8], size: usize) 
 
 /// The code of a row.
 fn code_of(alloc: Global, row: &Row) -> Option<Vec<u8>> {
-    if row.0 == 1 {
-        code_with(alloc, &PROLOGUE, row.1, &[(row.3, row.4)])
-    } else {
-        code_with(alloc, &PROLOGUE_OF_HARTS, row.1, &[(row.3, row.4)])
-    }
+    let prologue = match row.0 {
+        OneHart => PROLOGUE.as_slice(),
+        EightHarts => PROLOGUE_OF_HARTS.as_slice(),
+    };
+    code_with(alloc, prologue, row.1, &[(row.3, row.4)])
 }
 
 /// Whether a code is answered as its row says, in pieces of a size.

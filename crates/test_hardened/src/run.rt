@@ -4,13 +4,14 @@ ghost use Rattle.cfi_script.specs.Script.{IsScript};
 use cfi_script::Script;
 use cfi_step::{Handler, Hostile, RunEnd, RunReport};
 use rv_machine::Change;
+use rv_word::ImageVersion;
 use sample_programs::{ECHO, ECHO_GRAPH, P, P_DATA, P_GRAPH};
 use sample_runs::{Program, is_same_again, report};
 use std::alloc::Global;
 
 /// A program that calls through a pointer.
 static CALLER: Program = Program {
-    version: 1,
+    version: ImageVersion::OneHart,
     units: &P,
     graph: P_GRAPH,
     data: P_DATA,
@@ -19,7 +20,7 @@ static CALLER: Program = Program {
 
 /// A program that writes what it reads.
 static READER: Program = Program {
-    version: 1,
+    version: ImageVersion::OneHart,
     units: &ECHO,
     graph: ECHO_GRAPH,
     data: b"",
@@ -38,7 +39,7 @@ const ROUND_GRAPH: &[u8] = b"rvcfi-graph 1\ncode 40000000 00000098\ncall 4000000
 
 /// A program of these words.
 static STORER: Program = Program {
-    version: 1,
+    version: ImageVersion::OneHart,
     units: &ROUND,
     graph: ROUND_GRAPH,
     data: b"",

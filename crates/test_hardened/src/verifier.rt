@@ -2,8 +2,8 @@ ghost use Rattle.std.specs.Prelude.{◌≡◌, length};
 
 use cfi_graph::{Graph, SiteKind, read_graph};
 use cfi_unit::{TargetWord, Unit};
-use cfi_verify::{Asks, Checked, Place, Reject, Rule, VerifyEnd, verify};
-use rv_word::Image;
+use cfi_verify::{Asks, Checked, Place, Reject, Rule, verify};
+use rv_word::{End, Image};
 use sample_programs::{B, B_GRAPH, code};
 use std::alloc::Global;
 
@@ -47,9 +47,9 @@ fn accepted(checked: &Checked<'_>) -> Outcome {
 }
 
 /// The outcome of a pair that is not accepted.
-fn rejected(end: &VerifyEnd) -> Outcome {
+fn rejected(end: &End<Reject>) -> Outcome {
     match end {
-        VerifyEnd::Reject(Reject::At(Rule::Target, 0x4000_0040)) => Outcome::Rejected,
+        End::Fault(Reject::At(Rule::Target, 0x4000_0040)) => Outcome::Rejected,
         _ => Outcome::Other,
     }
 }

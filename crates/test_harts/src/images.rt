@@ -4,7 +4,8 @@
 use cfi_graph::{Graph, read_graph};
 use cfi_unit::{SystemOp, Unit};
 use cfi_verify::{Checked, Place, verify};
-use rv_word::Image;
+use rv_word::ImageVersion::{EightHarts, OneHart};
+use rv_word::{Image, ImageVersion};
 use sample_programs::{
     A, A_GRAPH, A_OF_HARTS, A_OF_HARTS_GRAPH, JOBS, JOBS_GRAPH, PROLOGUE, PROLOGUE_OF_HARTS,
     SHARED, SHARED_GRAPH,
@@ -23,7 +24,7 @@ const LISTED_GRAPH: &[u8] =
 /// that fails with its address; no text where the image is accepted.
 #[derive(Drop)]
 struct Row(
-    u8,
+    ImageVersion,
     &'static [u32],
     &'static [u32],
     &'static [u8],
@@ -34,33 +35,33 @@ struct Row(
 
 #[rattlefmt::skip]
 static ROWS: [Row; 21] = [
-    Row(2, &PROLOGUE_OF_HARTS, &A_OF_HARTS, A_OF_HARTS_GRAPH, 0, SAME, ""),
-    Row(2, &PROLOGUE_OF_HARTS, &SHARED, SHARED_GRAPH, 0, SAME, ""),
-    Row(2, &PROLOGUE_OF_HARTS, &JOBS, JOBS_GRAPH, 0, SAME, ""),
+    Row(EightHarts, &PROLOGUE_OF_HARTS, &A_OF_HARTS, A_OF_HARTS_GRAPH, 0, SAME, ""),
+    Row(EightHarts, &PROLOGUE_OF_HARTS, &SHARED, SHARED_GRAPH, 0, SAME, ""),
+    Row(EightHarts, &PROLOGUE_OF_HARTS, &JOBS, JOBS_GRAPH, 0, SAME, ""),
     // Code of the other version: the first word that differs is that after the stack's end.
-    Row(1, &PROLOGUE, &A, A_GRAPH, 0, SAME, ""),
-    Row(2, &PROLOGUE, &A, A_GRAPH, 0, SAME, "Prologue 40000010"),
-    Row(1, &PROLOGUE_OF_HARTS, &A_OF_HARTS, A_OF_HARTS_GRAPH, 0, SAME, "Prologue 40000010"),
+    Row(OneHart, &PROLOGUE, &A, A_GRAPH, 0, SAME, ""),
+    Row(EightHarts, &PROLOGUE, &A, A_GRAPH, 0, SAME, "Prologue 40000010"),
+    Row(OneHart, &PROLOGUE_OF_HARTS, &A_OF_HARTS, A_OF_HARTS_GRAPH, 0, SAME, "Prologue 40000010"),
     // The entry's call to another unit, with its line and without, to no unit, and by another register.
-    Row(2, &PROLOGUE_OF_HARTS, &A_OF_HARTS, LATER_GRAPH, 17, 0x0100_00ef, ""),
-    Row(2, &PROLOGUE_OF_HARTS, &A_OF_HARTS, A_OF_HARTS_GRAPH, 17, 0x0100_00ef, "Unlisted 4000000c"),
-    Row(2, &PROLOGUE_OF_HARTS, &A_OF_HARTS, A_OF_HARTS_GRAPH, 17, 0xffdf_f0ef, "Target 4000000c"),
-    Row(2, &PROLOGUE_OF_HARTS, &A_OF_HARTS, A_OF_HARTS_GRAPH, 17, 0x00c0_02ef, "Prologue 40000044"),
+    Row(EightHarts, &PROLOGUE_OF_HARTS, &A_OF_HARTS, LATER_GRAPH, 17, 0x0100_00ef, ""),
+    Row(EightHarts, &PROLOGUE_OF_HARTS, &A_OF_HARTS, A_OF_HARTS_GRAPH, 17, 0x0100_00ef, "Unlisted 4000000c"),
+    Row(EightHarts, &PROLOGUE_OF_HARTS, &A_OF_HARTS, A_OF_HARTS_GRAPH, 17, 0xffdf_f0ef, "Target 4000000c"),
+    Row(EightHarts, &PROLOGUE_OF_HARTS, &A_OF_HARTS, A_OF_HARTS_GRAPH, 17, 0x00c0_02ef, "Prologue 40000044"),
     // A first unit that jumps to each handler, of which the first makes it a stop, to where version 1's units
     // begin, and to the closing.
-    Row(2, &PROLOGUE_OF_HARTS, &A_OF_HARTS, A_OF_HARTS_GRAPH, 20, 0xfb1f_f06f, ""),
-    Row(2, &PROLOGUE_OF_HARTS, &A_OF_HARTS, A_OF_HARTS_GRAPH, 20, 0xfb5f_f06f, "Target 40000050"),
-    Row(2, &PROLOGUE_OF_HARTS, &A_OF_HARTS, A_OF_HARTS_GRAPH, 20, 0xfb9f_f06f, "Target 40000050"),
-    Row(2, &PROLOGUE_OF_HARTS, &A_OF_HARTS, A_OF_HARTS_GRAPH, 20, 0xff1f_f06f, "Target 40000050"),
-    Row(2, &PROLOGUE_OF_HARTS, &A_OF_HARTS, A_OF_HARTS_GRAPH, 20, 0xff9f_f06f, "Target 40000050"),
+    Row(EightHarts, &PROLOGUE_OF_HARTS, &A_OF_HARTS, A_OF_HARTS_GRAPH, 20, 0xfb1f_f06f, ""),
+    Row(EightHarts, &PROLOGUE_OF_HARTS, &A_OF_HARTS, A_OF_HARTS_GRAPH, 20, 0xfb5f_f06f, "Target 40000050"),
+    Row(EightHarts, &PROLOGUE_OF_HARTS, &A_OF_HARTS, A_OF_HARTS_GRAPH, 20, 0xfb9f_f06f, "Target 40000050"),
+    Row(EightHarts, &PROLOGUE_OF_HARTS, &A_OF_HARTS, A_OF_HARTS_GRAPH, 20, 0xff1f_f06f, "Target 40000050"),
+    Row(EightHarts, &PROLOGUE_OF_HARTS, &A_OF_HARTS, A_OF_HARTS_GRAPH, 20, 0xff9f_f06f, "Target 40000050"),
     // A jump to the second unit without its line, no unit, and a last one that is no stop.
-    Row(2, &PROLOGUE_OF_HARTS, &A_OF_HARTS, A_OF_HARTS_GRAPH, 20, 0x0040_006f, "Unlisted 40000050"),
-    Row(2, &PROLOGUE_OF_HARTS, &A_OF_HARTS, A_OF_HARTS_GRAPH, 20, 0x0010_0f13, "Unit 40000050"),
-    Row(2, &PROLOGUE_OF_HARTS, &A_OF_HARTS, A_OF_HARTS_GRAPH, 23, 0x0000_0013, "End 4000005c"),
-    Row(2, &PROLOGUE_OF_HARTS, &A_OF_HARTS, A_GRAPH, 0, SAME, "Length 96 80"),
+    Row(EightHarts, &PROLOGUE_OF_HARTS, &A_OF_HARTS, A_OF_HARTS_GRAPH, 20, 0x0040_006f, "Unlisted 40000050"),
+    Row(EightHarts, &PROLOGUE_OF_HARTS, &A_OF_HARTS, A_OF_HARTS_GRAPH, 20, 0x0010_0f13, "Unit 40000050"),
+    Row(EightHarts, &PROLOGUE_OF_HARTS, &A_OF_HARTS, A_OF_HARTS_GRAPH, 23, 0x0000_0013, "End 4000005c"),
+    Row(EightHarts, &PROLOGUE_OF_HARTS, &A_OF_HARTS, A_GRAPH, 0, SAME, "Length 96 80"),
     // A bare call under a list; the closing's is none of a unit.
-    Row(2, &PROLOGUE_OF_HARTS, &A_OF_HARTS, LISTED_GRAPH, 0, SAME, "Unit 40000058"),
-    Row(2, &PROLOGUE_OF_HARTS, &A_OF_HARTS, LISTED_GRAPH, 22, 0x0000_0013, ""),
+    Row(EightHarts, &PROLOGUE_OF_HARTS, &A_OF_HARTS, LISTED_GRAPH, 0, SAME, "Unit 40000058"),
+    Row(EightHarts, &PROLOGUE_OF_HARTS, &A_OF_HARTS, LISTED_GRAPH, 22, 0x0000_0013, ""),
 ];
 
 /// Whether an image is answered as its row says.
@@ -263,7 +264,7 @@ fn is_exiting(alloc: Global, code: &[u8]) -> bool {
         return false;
     }
     match read_graph(alloc, A_OF_HARTS_GRAPH) {
-        Ok(graph) => exits_so(alloc, &Image::of_version(2, code, &[]), &graph),
+        Ok(graph) => exits_so(alloc, &Image::of_version(EightHarts, code, &[]), &graph),
         Err(_) => false,
     }
 }
@@ -274,7 +275,7 @@ fn is_sharing(alloc: Global, code: &[u8]) -> bool {
         return false;
     }
     match read_graph(alloc, SHARED_GRAPH) {
-        Ok(graph) => shares_so(alloc, &Image::of_version(2, code, &[]), &graph),
+        Ok(graph) => shares_so(alloc, &Image::of_version(EightHarts, code, &[]), &graph),
         Err(_) => false,
     }
 }

@@ -4,6 +4,7 @@ ghost use Rattle.cfi_script.specs.Script.{IsScript};
 use cfi_script::Script;
 use cfi_step::{Handler, HartWalk, Hostile, RunEnd, RunReport};
 use rv_machine::Change;
+use rv_word::ImageVersion;
 use sample_programs::{
     A_OF_HARTS, A_OF_HARTS_GRAPH, JOBS, JOBS_DATA, JOBS_GRAPH, SHARED, SHARED_GRAPH,
 };
@@ -12,7 +13,7 @@ use std::alloc::Global;
 
 /// A program of which each hart exits with 7 in its seventeenth step, the third after the opening.
 static EXITING: Program = Program {
-    version: 2,
+    version: ImageVersion::EightHarts,
     units: &A_OF_HARTS,
     graph: A_OF_HARTS_GRAPH,
     data: b"",
@@ -21,7 +22,7 @@ static EXITING: Program = Program {
 
 /// A program whose other harts store their numbers, with which hart 0 exits.
 static SHARING: Program = Program {
-    version: 2,
+    version: ImageVersion::EightHarts,
     units: &SHARED,
     graph: SHARED_GRAPH,
     data: b"",
@@ -30,7 +31,7 @@ static SHARING: Program = Program {
 
 /// A program that gives each hart a job.
 static WORKING: Program = Program {
-    version: 2,
+    version: ImageVersion::EightHarts,
     units: &JOBS,
     graph: JOBS_GRAPH,
     data: JOBS_DATA,

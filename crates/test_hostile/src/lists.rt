@@ -2,7 +2,8 @@
 //! prints this, by its model of the rules.
 
 use crate::pairs::verifies;
-use rv_word::NoMemory;
+use rv_word::ImageVersion::{EightHarts, OneHart};
+use rv_word::{ImageVersion, NoMemory};
 use sample_calls::{image_as, put};
 use sample_programs::{code, code_of_harts};
 use std::alloc::Global;
@@ -51,7 +52,7 @@ const EIGHT_OF_HARTS: [u32; 31] = [
 
 /// The version of the image, its units, the offsets of words in its code with what is put there, the graph, and what is told.
 struct Case(
-    u8,
+    ImageVersion,
     &'static [u32],
     &'static [(usize, u32)],
     &'static [u8],
@@ -61,269 +62,268 @@ struct Case(
 #[rattlefmt::skip]
 static CASES: [Case; 64] = [
     // accepted as it is
-    Case(1, &GUARDED, &[],
+    Case(OneHart, &GUARDED, &[],
         b"rvcfi-graph 1\ncode 40000000 0000008c\ncalls 64 93\nclass 00001 40000040\ncall 4000000c 40000040\nedge 40000070 40000054\nend\n",
         "accepted\n"),
     // a bare call in place of the jump
-    Case(1, &GUARDED, &[(0x64, 0x00000073)],
+    Case(OneHart, &GUARDED, &[(0x64, 0x00000073)],
         b"rvcfi-graph 1\ncode 40000000 0000008c\ncalls 64 93\nclass 00001 40000040\ncall 4000000c 40000040\nedge 40000070 40000054\nend\n",
         "rejected Unit 40000054\n"),
     // a number that is not listed
-    Case(1, &GUARDED, &[(0x54, 0x04100f93)],
+    Case(OneHart, &GUARDED, &[(0x54, 0x04100f93)],
         b"rvcfi-graph 1\ncode 40000000 0000008c\ncalls 64 93\nclass 00001 40000040\ncall 4000000c 40000040\nedge 40000070 40000054\nend\n",
         "rejected Unit 40000054\n"),
     // the number of another register
-    Case(1, &GUARDED, &[(0x54, 0x04088f93)],
+    Case(OneHart, &GUARDED, &[(0x54, 0x04088f93)],
         b"rvcfi-graph 1\ncode 40000000 0000008c\ncalls 64 93\nclass 00001 40000040\ncall 4000000c 40000040\nedge 40000070 40000054\nend\n",
         "rejected Unit 40000054\n"),
     // a negative number
-    Case(1, &GUARDED, &[(0x5c, 0xfa300f93)],
+    Case(OneHart, &GUARDED, &[(0x5c, 0xfa300f93)],
         b"rvcfi-graph 1\ncode 40000000 0000008c\ncalls 64 93\nclass 00001 40000040\ncall 4000000c 40000040\nedge 40000070 40000054\nend\n",
         "rejected Unit 40000054\n"),
     // x16 is tested
-    Case(1, &GUARDED, &[(0x58, 0x010f8863)],
+    Case(OneHart, &GUARDED, &[(0x58, 0x010f8863)],
         b"rvcfi-graph 1\ncode 40000000 0000008c\ncalls 64 93\nclass 00001 40000040\ncall 4000000c 40000040\nedge 40000070 40000054\nend\n",
         "rejected Unit 40000054\n"),
     // the other condition
-    Case(1, &GUARDED, &[(0x58, 0x011f9863)],
+    Case(OneHart, &GUARDED, &[(0x58, 0x011f9863)],
         b"rvcfi-graph 1\ncode 40000000 0000008c\ncalls 64 93\nclass 00001 40000040\ncall 4000000c 40000040\nedge 40000070 40000054\nend\n",
         "rejected Unit 40000054\n"),
     // the test goes past the call
-    Case(1, &GUARDED, &[(0x58, 0x011f8a63)],
+    Case(OneHart, &GUARDED, &[(0x58, 0x011f8a63)],
         b"rvcfi-graph 1\ncode 40000000 0000008c\ncalls 64 93\nclass 00001 40000040\ncall 4000000c 40000040\nedge 40000070 40000054\nend\n",
         "rejected Unit 40000054\n"),
     // the test goes to the jump
-    Case(1, &GUARDED, &[(0x60, 0x011f8263)],
+    Case(OneHart, &GUARDED, &[(0x60, 0x011f8263)],
         b"rvcfi-graph 1\ncode 40000000 0000008c\ncalls 64 93\nclass 00001 40000040\ncall 4000000c 40000040\nedge 40000070 40000054\nend\n",
         "rejected Unit 40000054\n"),
     // to the other handler
-    Case(1, &GUARDED, &[(0x64, 0xfa1ff06f)],
+    Case(OneHart, &GUARDED, &[(0x64, 0xfa1ff06f)],
         b"rvcfi-graph 1\ncode 40000000 0000008c\ncalls 64 93\nclass 00001 40000040\ncall 4000000c 40000040\nedge 40000070 40000054\nend\n",
         "rejected Unit 40000054\n"),
     // a jump that saves
-    Case(1, &GUARDED, &[(0x64, 0xf9dff0ef)],
+    Case(OneHart, &GUARDED, &[(0x64, 0xf9dff0ef)],
         b"rvcfi-graph 1\ncode 40000000 0000008c\ncalls 64 93\nclass 00001 40000040\ncall 4000000c 40000040\nedge 40000070 40000054\nend\n",
         "rejected Unit 40000054\n"),
     // a break in place of the call
-    Case(1, &GUARDED, &[(0x68, 0x00100073)],
+    Case(OneHart, &GUARDED, &[(0x68, 0x00100073)],
         b"rvcfi-graph 1\ncode 40000000 0000008c\ncalls 64 93\nclass 00001 40000040\ncall 4000000c 40000040\nedge 40000070 40000054\nend\n",
         "rejected Unit 40000054\n"),
     // nothing in place of the call
-    Case(1, &GUARDED, &[(0x68, 0x00000013)],
+    Case(OneHart, &GUARDED, &[(0x68, 0x00000013)],
         b"rvcfi-graph 1\ncode 40000000 0000008c\ncalls 64 93\nclass 00001 40000040\ncall 4000000c 40000040\nedge 40000070 40000054\nend\n",
         "rejected Unit 40000054\n"),
     // a second call
-    Case(1, &GUARDED, &[(0x6c, 0x00000073)],
+    Case(OneHart, &GUARDED, &[(0x6c, 0x00000073)],
         b"rvcfi-graph 1\ncode 40000000 0000008c\ncalls 64 93\nclass 00001 40000040\ncall 4000000c 40000040\nedge 40000070 40000054\nend\n",
         "rejected Unit 4000006c\n"),
     // a call before it
-    Case(1, &GUARDED, &[(0x50, 0x00000073)],
+    Case(OneHart, &GUARDED, &[(0x50, 0x00000073)],
         b"rvcfi-graph 1\ncode 40000000 0000008c\ncalls 64 93\nclass 00001 40000040\ncall 4000000c 40000040\nedge 40000070 40000054\nend\n",
         "rejected Unit 40000050\n"),
     // the other order
-    Case(1, &GUARDED, &[(0x54, 0x05d00f93), (0x5c, 0x04000f93)],
+    Case(OneHart, &GUARDED, &[(0x54, 0x05d00f93), (0x5c, 0x04000f93)],
         b"rvcfi-graph 1\ncode 40000000 0000008c\ncalls 64 93\nclass 00001 40000040\ncall 4000000c 40000040\nedge 40000070 40000054\nend\n",
         "rejected Unit 40000054\n"),
     // the graph has `calls 64`
-    Case(1, &GUARDED, &[],
+    Case(OneHart, &GUARDED, &[],
         b"rvcfi-graph 1\ncode 40000000 0000008c\ncalls 64\nclass 00001 40000040\ncall 4000000c 40000040\nedge 40000070 40000054\nend\n",
         "rejected Unit 40000054\n"),
     // the graph has `calls 93`
-    Case(1, &GUARDED, &[],
+    Case(OneHart, &GUARDED, &[],
         b"rvcfi-graph 1\ncode 40000000 0000008c\ncalls 93\nclass 00001 40000040\ncall 4000000c 40000040\nedge 40000070 40000054\nend\n",
         "rejected Unit 40000054\n"),
     // the graph has `calls 63 64 93`
-    Case(1, &GUARDED, &[],
+    Case(OneHart, &GUARDED, &[],
         b"rvcfi-graph 1\ncode 40000000 0000008c\ncalls 63 64 93\nclass 00001 40000040\ncall 4000000c 40000040\nedge 40000070 40000054\nend\n",
         "rejected Unit 40000054\n"),
     // the graph has `calls 64 94`
-    Case(1, &GUARDED, &[],
+    Case(OneHart, &GUARDED, &[],
         b"rvcfi-graph 1\ncode 40000000 0000008c\ncalls 64 94\nclass 00001 40000040\ncall 4000000c 40000040\nedge 40000070 40000054\nend\n",
         "rejected Unit 40000054\n"),
     // the graph has `calls 0 64 93`
-    Case(1, &GUARDED, &[],
+    Case(OneHart, &GUARDED, &[],
         b"rvcfi-graph 1\ncode 40000000 0000008c\ncalls 0 64 93\nclass 00001 40000040\ncall 4000000c 40000040\nedge 40000070 40000054\nend\n",
         "rejected Unit 40000054\n"),
     // the graph has `calls 64 93 2047`
-    Case(1, &GUARDED, &[],
+    Case(OneHart, &GUARDED, &[],
         b"rvcfi-graph 1\ncode 40000000 0000008c\ncalls 64 93 2047\nclass 00001 40000040\ncall 4000000c 40000040\nedge 40000070 40000054\nend\n",
         "rejected Unit 40000054\n"),
     // the graph has `calls 0 1 2 3 4 5 6 7`
-    Case(1, &GUARDED, &[],
+    Case(OneHart, &GUARDED, &[],
         b"rvcfi-graph 1\ncode 40000000 0000008c\ncalls 0 1 2 3 4 5 6 7\nclass 00001 40000040\ncall 4000000c 40000040\nedge 40000070 40000054\nend\n",
         "rejected Unit 40000054\n"),
     // the graph has no list
-    Case(1, &GUARDED, &[],
+    Case(OneHart, &GUARDED, &[],
         b"rvcfi-graph 1\ncode 40000000 0000008c\nclass 00001 40000040\ncall 4000000c 40000040\nedge 40000070 40000054\nend\n",
         "rejected Unit 40000054\n"),
     // a branch to the call
-    Case(1, &GUARDED, &[(0x70, 0xff150ce3)],
+    Case(OneHart, &GUARDED, &[(0x70, 0xff150ce3)],
         b"rvcfi-graph 1\ncode 40000000 0000008c\ncalls 64 93\nclass 00001 40000040\ncall 4000000c 40000040\nedge 40000070 40000068\nend\n",
         "rejected Target 40000070\n"),
     // a target at the call
-    Case(1, &GUARDED, &[],
+    Case(OneHart, &GUARDED, &[],
         b"rvcfi-graph 1\ncode 40000000 0000008c\ncalls 64 93\nclass 00001 40000068\ncall 4000000c 40000040\nedge 40000070 40000054\nend\n",
         "rejected Gate 40000068\n"),
     // the opening calls the call
-    Case(1, &GUARDED, &[(0x34, 0x034000ef)],
+    Case(OneHart, &GUARDED, &[(0x34, 0x034000ef)],
         b"rvcfi-graph 1\ncode 40000000 0000008c\ncalls 64 93\nclass 00001 40000040\ncall 4000000c 40000068\nedge 40000070 40000054\nend\n",
         "rejected Target 4000000c\n"),
     // an edge of a guarded call
-    Case(1, &GUARDED, &[],
+    Case(OneHart, &GUARDED, &[],
         b"rvcfi-graph 1\ncode 40000000 0000008c\ncalls 64 93\nclass 00001 40000040\ncall 4000000c 40000040\nedge 40000054 4000006c\nedge 40000070 40000054\nend\n",
         "rejected Unused 40000054\n"),
     // bare calls under a list
-    Case(1, &BARE, &[],
+    Case(OneHart, &BARE, &[],
         b"rvcfi-graph 1\ncode 40000000 00000078\ncalls 64 93\nclass 00001 40000040\ncall 4000000c 40000040\nedge 4000005c 40000054\nend\n",
         "rejected Unit 40000054\n"),
     // bare calls without a list
-    Case(1, &BARE, &[],
+    Case(OneHart, &BARE, &[],
         b"rvcfi-graph 1\ncode 40000000 00000078\nclass 00001 40000040\ncall 4000000c 40000040\nedge 4000005c 40000054\nend\n",
         "accepted\n"),
     // eight numbers
-    Case(1, &EIGHT, &[],
+    Case(OneHart, &EIGHT, &[],
         b"rvcfi-graph 1\ncode 40000000 000000bc\ncalls 0 1 62 63 64 93 94 2047\nclass 00001 40000040\ncall 4000000c 40000040\nedge 400000a0 40000054\nend\n",
         "accepted\n"),
     // eight numbers and one of the two
-    Case(1, &EIGHT, &[],
+    Case(OneHart, &EIGHT, &[],
         b"rvcfi-graph 1\ncode 40000000 000000bc\ncalls 0 1 62 63 64 93 94 2046\nclass 00001 40000040\ncall 4000000c 40000040\nedge 400000a0 40000054\nend\n",
         "rejected Unit 40000054\n"),
     // accepted as it is
-    Case(2, &GUARDED_OF_HARTS, &[],
+    Case(EightHarts, &GUARDED_OF_HARTS, &[],
         b"rvcfi-graph 1\ncode 40000000 0000009c\ncalls 64 93\nclass 00001 40000050\ncall 4000000c 40000050\nedge 40000080 40000064\nend\n",
         "accepted\n"),
     // a bare call in place of the jump
-    Case(2, &GUARDED_OF_HARTS, &[(0x74, 0x00000073)],
+    Case(EightHarts, &GUARDED_OF_HARTS, &[(0x74, 0x00000073)],
         b"rvcfi-graph 1\ncode 40000000 0000009c\ncalls 64 93\nclass 00001 40000050\ncall 4000000c 40000050\nedge 40000080 40000064\nend\n",
         "rejected Unit 40000064\n"),
     // a number that is not listed
-    Case(2, &GUARDED_OF_HARTS, &[(0x64, 0x04100f93)],
+    Case(EightHarts, &GUARDED_OF_HARTS, &[(0x64, 0x04100f93)],
         b"rvcfi-graph 1\ncode 40000000 0000009c\ncalls 64 93\nclass 00001 40000050\ncall 4000000c 40000050\nedge 40000080 40000064\nend\n",
         "rejected Unit 40000064\n"),
     // the number of another register
-    Case(2, &GUARDED_OF_HARTS, &[(0x64, 0x04088f93)],
+    Case(EightHarts, &GUARDED_OF_HARTS, &[(0x64, 0x04088f93)],
         b"rvcfi-graph 1\ncode 40000000 0000009c\ncalls 64 93\nclass 00001 40000050\ncall 4000000c 40000050\nedge 40000080 40000064\nend\n",
         "rejected Unit 40000064\n"),
     // a negative number
-    Case(2, &GUARDED_OF_HARTS, &[(0x6c, 0xfa300f93)],
+    Case(EightHarts, &GUARDED_OF_HARTS, &[(0x6c, 0xfa300f93)],
         b"rvcfi-graph 1\ncode 40000000 0000009c\ncalls 64 93\nclass 00001 40000050\ncall 4000000c 40000050\nedge 40000080 40000064\nend\n",
         "rejected Unit 40000064\n"),
     // x16 is tested
-    Case(2, &GUARDED_OF_HARTS, &[(0x68, 0x010f8863)],
+    Case(EightHarts, &GUARDED_OF_HARTS, &[(0x68, 0x010f8863)],
         b"rvcfi-graph 1\ncode 40000000 0000009c\ncalls 64 93\nclass 00001 40000050\ncall 4000000c 40000050\nedge 40000080 40000064\nend\n",
         "rejected Unit 40000064\n"),
     // the other condition
-    Case(2, &GUARDED_OF_HARTS, &[(0x68, 0x011f9863)],
+    Case(EightHarts, &GUARDED_OF_HARTS, &[(0x68, 0x011f9863)],
         b"rvcfi-graph 1\ncode 40000000 0000009c\ncalls 64 93\nclass 00001 40000050\ncall 4000000c 40000050\nedge 40000080 40000064\nend\n",
         "rejected Unit 40000064\n"),
     // the test goes past the call
-    Case(2, &GUARDED_OF_HARTS, &[(0x68, 0x011f8a63)],
+    Case(EightHarts, &GUARDED_OF_HARTS, &[(0x68, 0x011f8a63)],
         b"rvcfi-graph 1\ncode 40000000 0000009c\ncalls 64 93\nclass 00001 40000050\ncall 4000000c 40000050\nedge 40000080 40000064\nend\n",
         "rejected Unit 40000064\n"),
     // the test goes to the jump
-    Case(2, &GUARDED_OF_HARTS, &[(0x70, 0x011f8263)],
+    Case(EightHarts, &GUARDED_OF_HARTS, &[(0x70, 0x011f8263)],
         b"rvcfi-graph 1\ncode 40000000 0000009c\ncalls 64 93\nclass 00001 40000050\ncall 4000000c 40000050\nedge 40000080 40000064\nend\n",
         "rejected Unit 40000064\n"),
     // to the other handler
-    Case(2, &GUARDED_OF_HARTS, &[(0x74, 0xf91ff06f)],
+    Case(EightHarts, &GUARDED_OF_HARTS, &[(0x74, 0xf91ff06f)],
         b"rvcfi-graph 1\ncode 40000000 0000009c\ncalls 64 93\nclass 00001 40000050\ncall 4000000c 40000050\nedge 40000080 40000064\nend\n",
         "rejected Unit 40000064\n"),
     // a jump that saves
-    Case(2, &GUARDED_OF_HARTS, &[(0x74, 0xf8dff0ef)],
+    Case(EightHarts, &GUARDED_OF_HARTS, &[(0x74, 0xf8dff0ef)],
         b"rvcfi-graph 1\ncode 40000000 0000009c\ncalls 64 93\nclass 00001 40000050\ncall 4000000c 40000050\nedge 40000080 40000064\nend\n",
         "rejected Unit 40000064\n"),
     // a break in place of the call
-    Case(2, &GUARDED_OF_HARTS, &[(0x78, 0x00100073)],
+    Case(EightHarts, &GUARDED_OF_HARTS, &[(0x78, 0x00100073)],
         b"rvcfi-graph 1\ncode 40000000 0000009c\ncalls 64 93\nclass 00001 40000050\ncall 4000000c 40000050\nedge 40000080 40000064\nend\n",
         "rejected Unit 40000064\n"),
     // nothing in place of the call
-    Case(2, &GUARDED_OF_HARTS, &[(0x78, 0x00000013)],
+    Case(EightHarts, &GUARDED_OF_HARTS, &[(0x78, 0x00000013)],
         b"rvcfi-graph 1\ncode 40000000 0000009c\ncalls 64 93\nclass 00001 40000050\ncall 4000000c 40000050\nedge 40000080 40000064\nend\n",
         "rejected Unit 40000064\n"),
     // a second call
-    Case(2, &GUARDED_OF_HARTS, &[(0x7c, 0x00000073)],
+    Case(EightHarts, &GUARDED_OF_HARTS, &[(0x7c, 0x00000073)],
         b"rvcfi-graph 1\ncode 40000000 0000009c\ncalls 64 93\nclass 00001 40000050\ncall 4000000c 40000050\nedge 40000080 40000064\nend\n",
         "rejected Unit 4000007c\n"),
     // a call before it
-    Case(2, &GUARDED_OF_HARTS, &[(0x60, 0x00000073)],
+    Case(EightHarts, &GUARDED_OF_HARTS, &[(0x60, 0x00000073)],
         b"rvcfi-graph 1\ncode 40000000 0000009c\ncalls 64 93\nclass 00001 40000050\ncall 4000000c 40000050\nedge 40000080 40000064\nend\n",
         "rejected Unit 40000060\n"),
     // the other order
-    Case(2, &GUARDED_OF_HARTS, &[(0x64, 0x05d00f93), (0x6c, 0x04000f93)],
+    Case(EightHarts, &GUARDED_OF_HARTS, &[(0x64, 0x05d00f93), (0x6c, 0x04000f93)],
         b"rvcfi-graph 1\ncode 40000000 0000009c\ncalls 64 93\nclass 00001 40000050\ncall 4000000c 40000050\nedge 40000080 40000064\nend\n",
         "rejected Unit 40000064\n"),
     // the graph has `calls 64`
-    Case(2, &GUARDED_OF_HARTS, &[],
+    Case(EightHarts, &GUARDED_OF_HARTS, &[],
         b"rvcfi-graph 1\ncode 40000000 0000009c\ncalls 64\nclass 00001 40000050\ncall 4000000c 40000050\nedge 40000080 40000064\nend\n",
         "rejected Unit 40000064\n"),
     // the graph has `calls 93`
-    Case(2, &GUARDED_OF_HARTS, &[],
+    Case(EightHarts, &GUARDED_OF_HARTS, &[],
         b"rvcfi-graph 1\ncode 40000000 0000009c\ncalls 93\nclass 00001 40000050\ncall 4000000c 40000050\nedge 40000080 40000064\nend\n",
         "rejected Unit 40000064\n"),
     // the graph has `calls 63 64 93`
-    Case(2, &GUARDED_OF_HARTS, &[],
+    Case(EightHarts, &GUARDED_OF_HARTS, &[],
         b"rvcfi-graph 1\ncode 40000000 0000009c\ncalls 63 64 93\nclass 00001 40000050\ncall 4000000c 40000050\nedge 40000080 40000064\nend\n",
         "rejected Unit 40000064\n"),
     // the graph has `calls 64 94`
-    Case(2, &GUARDED_OF_HARTS, &[],
+    Case(EightHarts, &GUARDED_OF_HARTS, &[],
         b"rvcfi-graph 1\ncode 40000000 0000009c\ncalls 64 94\nclass 00001 40000050\ncall 4000000c 40000050\nedge 40000080 40000064\nend\n",
         "rejected Unit 40000064\n"),
     // the graph has `calls 0 64 93`
-    Case(2, &GUARDED_OF_HARTS, &[],
+    Case(EightHarts, &GUARDED_OF_HARTS, &[],
         b"rvcfi-graph 1\ncode 40000000 0000009c\ncalls 0 64 93\nclass 00001 40000050\ncall 4000000c 40000050\nedge 40000080 40000064\nend\n",
         "rejected Unit 40000064\n"),
     // the graph has `calls 64 93 2047`
-    Case(2, &GUARDED_OF_HARTS, &[],
+    Case(EightHarts, &GUARDED_OF_HARTS, &[],
         b"rvcfi-graph 1\ncode 40000000 0000009c\ncalls 64 93 2047\nclass 00001 40000050\ncall 4000000c 40000050\nedge 40000080 40000064\nend\n",
         "rejected Unit 40000064\n"),
     // the graph has `calls 0 1 2 3 4 5 6 7`
-    Case(2, &GUARDED_OF_HARTS, &[],
+    Case(EightHarts, &GUARDED_OF_HARTS, &[],
         b"rvcfi-graph 1\ncode 40000000 0000009c\ncalls 0 1 2 3 4 5 6 7\nclass 00001 40000050\ncall 4000000c 40000050\nedge 40000080 40000064\nend\n",
         "rejected Unit 40000064\n"),
     // the graph has no list
-    Case(2, &GUARDED_OF_HARTS, &[],
+    Case(EightHarts, &GUARDED_OF_HARTS, &[],
         b"rvcfi-graph 1\ncode 40000000 0000009c\nclass 00001 40000050\ncall 4000000c 40000050\nedge 40000080 40000064\nend\n",
         "rejected Unit 40000064\n"),
     // a branch to the call
-    Case(2, &GUARDED_OF_HARTS, &[(0x80, 0xff150ce3)],
+    Case(EightHarts, &GUARDED_OF_HARTS, &[(0x80, 0xff150ce3)],
         b"rvcfi-graph 1\ncode 40000000 0000009c\ncalls 64 93\nclass 00001 40000050\ncall 4000000c 40000050\nedge 40000080 40000078\nend\n",
         "rejected Target 40000080\n"),
     // a target at the call
-    Case(2, &GUARDED_OF_HARTS, &[],
+    Case(EightHarts, &GUARDED_OF_HARTS, &[],
         b"rvcfi-graph 1\ncode 40000000 0000009c\ncalls 64 93\nclass 00001 40000078\ncall 4000000c 40000050\nedge 40000080 40000064\nend\n",
         "rejected Gate 40000078\n"),
     // the opening calls the call
-    Case(2, &GUARDED_OF_HARTS, &[(0x44, 0x034000ef)],
+    Case(EightHarts, &GUARDED_OF_HARTS, &[(0x44, 0x034000ef)],
         b"rvcfi-graph 1\ncode 40000000 0000009c\ncalls 64 93\nclass 00001 40000050\ncall 4000000c 40000078\nedge 40000080 40000064\nend\n",
         "rejected Target 4000000c\n"),
     // an edge of a guarded call
-    Case(2, &GUARDED_OF_HARTS, &[],
+    Case(EightHarts, &GUARDED_OF_HARTS, &[],
         b"rvcfi-graph 1\ncode 40000000 0000009c\ncalls 64 93\nclass 00001 40000050\ncall 4000000c 40000050\nedge 40000064 4000007c\nedge 40000080 40000064\nend\n",
         "rejected Unused 40000064\n"),
     // bare calls under a list
-    Case(2, &BARE_OF_HARTS, &[],
+    Case(EightHarts, &BARE_OF_HARTS, &[],
         b"rvcfi-graph 1\ncode 40000000 00000088\ncalls 64 93\nclass 00001 40000050\ncall 4000000c 40000050\nedge 4000006c 40000064\nend\n",
         "rejected Unit 40000064\n"),
     // bare calls without a list
-    Case(2, &BARE_OF_HARTS, &[],
+    Case(EightHarts, &BARE_OF_HARTS, &[],
         b"rvcfi-graph 1\ncode 40000000 00000088\nclass 00001 40000050\ncall 4000000c 40000050\nedge 4000006c 40000064\nend\n",
         "accepted\n"),
     // eight numbers
-    Case(2, &EIGHT_OF_HARTS, &[],
+    Case(EightHarts, &EIGHT_OF_HARTS, &[],
         b"rvcfi-graph 1\ncode 40000000 000000cc\ncalls 0 1 62 63 64 93 94 2047\nclass 00001 40000050\ncall 4000000c 40000050\nedge 400000b0 40000064\nend\n",
         "accepted\n"),
     // eight numbers and one of the two
-    Case(2, &EIGHT_OF_HARTS, &[],
+    Case(EightHarts, &EIGHT_OF_HARTS, &[],
         b"rvcfi-graph 1\ncode 40000000 000000cc\ncalls 0 1 62 63 64 93 94 2046\nclass 00001 40000050\ncall 4000000c 40000050\nedge 400000b0 40000064\nend\n",
         "rejected Unit 40000064\n"),
 ];
 
 /// The code of a case.
 fn code_of(alloc: Global, case: &Case) -> Result<Vec<u8>, NoMemory> {
-    let mut bytes = if case.0 == 1 {
-        code(alloc, case.1)?
-    } else {
-        code_of_harts(alloc, case.1)?
+    let mut bytes = match case.0 {
+        OneHart => code(alloc, case.1)?,
+        EightHarts => code_of_harts(alloc, case.1)?,
     };
     for change in case.2 {
         put(&mut bytes, change.0, &change.1.to_le_bytes());

@@ -1,6 +1,6 @@
 //! Pairs of an image and a graph, and the line that is printed of each.
 
-use rv_word::NoMemory;
+use rv_word::{ImageVersion, NoMemory};
 use sample_calls::{answers, image_as, image_of, image_of_harts, put};
 use sample_programs::{
     A, A_CLASS_GRAPH, A_GRAPH, A_OF_HARTS, A_OF_HARTS_GRAPH, B, B_GRAPH, GROUPS, GROUPS_GRAPH,
@@ -236,7 +236,7 @@ fn code_with(mut bytes: Vec<u8>, at: usize, word: u32) -> Vec<u8> {
 fn image_with(alloc: Global, case: &Case) -> Result<Vec<u8>, NoMemory> {
     image_as(
         alloc,
-        1,
+        ImageVersion::OneHart,
         &code_with(code(alloc, case.0)?, case.1, case.2),
         b"",
     )
@@ -246,7 +246,7 @@ fn image_with(alloc: Global, case: &Case) -> Result<Vec<u8>, NoMemory> {
 fn image_of_harts_with(alloc: Global, case: &Case) -> Result<Vec<u8>, NoMemory> {
     image_as(
         alloc,
-        2,
+        ImageVersion::EightHarts,
         &code_with(code_of_harts(alloc, case.0)?, case.1, case.2),
         b"",
     )
@@ -301,7 +301,13 @@ fn pairs_of_harts(rt: HostRuntime) {
 }
 
 /// Whether a line is put of an image of a version that has some code and this graph.
-fn is_answered(alloc: Global, version: u8, code: &[u8], graph: &[u8], text: &str) -> bool {
+fn is_answered(
+    alloc: Global,
+    version: ImageVersion,
+    code: &[u8],
+    graph: &[u8],
+    text: &str,
+) -> bool {
     match image_as(alloc, version, code, b"") {
         Ok(image) => verifies(alloc, &image, graph, text),
         Err(_) => false,
@@ -314,8 +320,14 @@ fn other_version_is_rejected(alloc: Global) -> bool {
         return false;
     };
     let text = "rejected Prologue 40000010\n";
-    is_answered(alloc, 2, &lone, A_GRAPH, text)
-        && is_answered(alloc, 1, &several, A_OF_HARTS_GRAPH, text)
+    is_answered(alloc, ImageVersion::EightHarts, &lone, A_GRAPH, text)
+        && is_answered(
+            alloc,
+            ImageVersion::OneHart,
+            &several,
+            A_OF_HARTS_GRAPH,
+            text,
+        )
 }
 
 #[test]

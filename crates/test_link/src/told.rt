@@ -7,10 +7,10 @@ use cfi_rewrite::{HardenEnd, Hardened, rewrite_joined};
 use elf_bytes::u32_at;
 use elf_image::read_image;
 use obj_input::ItemKind;
-use obj_items::{Join, JoinEnd};
+use obj_items::{Join, JoinFault};
 use obj_program::Items;
 use rv_word::memory_map::CODE_START;
-use rv_word::{Form, Image};
+use rv_word::{End, Form, Image};
 use std::alloc::{AllocError, Global};
 use std::fmt::Write;
 
@@ -22,7 +22,10 @@ struct Mark {
 }
 
 /// Objects as one program.
-pub(crate) fn joined<'a>(alloc: Global, files: &'a [Vec<u8>]) -> Result<Items<'a>, JoinEnd<'a>> {
+pub(crate) fn joined<'a>(
+    alloc: Global,
+    files: &'a [Vec<u8>],
+) -> Result<Items<'a>, End<JoinFault<'a>>> {
     let mut join = Join::new(alloc);
     for file in files {
         join.add(file)?;
@@ -31,18 +34,20 @@ pub(crate) fn joined<'a>(alloc: Global, files: &'a [Vec<u8>]) -> Result<Items<'a
 }
 
 /// What is told where objects are no program.
-pub(crate) fn told_of_end(alloc: Global, end: &JoinEnd<'_>) -> Option<String> {
-    match *end {
-        JoinEnd::Object(fault) => fault.to_string(alloc).ok(),
-        JoinEnd::TooManySections(count) => format!(in alloc; "TooManySections {count}").ok(),
-        JoinEnd::Duplicate(name) => {
+pub(crate) fn told_of_end(alloc: Global, end: &End<JoinFault<'_>>) -> Option<String> {
+    let End::Fault(fault) = *end else {
+        return None;
+    };
+    match fault {
+        JoinFault::Object(fault) => fault.to_string(alloc).ok(),
+        JoinFault::TooManySections(count) => format!(in alloc; "TooManySections {count}").ok(),
+        JoinFault::Duplicate(name) => {
             format!(in alloc; "Duplicate {}", str::from_utf8(name).ok()?).ok()
         }
-        JoinEnd::Items(fault) => fault.to_string(alloc).ok(),
-        JoinEnd::Undefined(object, symbol) => {
+        JoinFault::Items(fault) => fault.to_string(alloc).ok(),
+        JoinFault::Undefined(object, symbol) => {
             format!(in alloc; "Undefined {symbol} in {}", object.saturating_add(1)).ok()
         }
-        JoinEnd::NoMemory => None,
     }
 }
 

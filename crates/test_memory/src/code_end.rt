@@ -1,6 +1,6 @@
 //! Accesses where the region of code ends: loads reach eight bytes past it, which are zero; stores do not.
-use rv_mem::{Memory, WriteRefusal, region};
-use rv_word::Image;
+use rv_mem::{Memory, StoreFault, region};
+use rv_word::{End, Image, ImageVersion};
 use sample_programs::numbers::{number, rows};
 use std::alloc::{AllocError, Global};
 
@@ -66,10 +66,7 @@ fn full_code(alloc: Global) -> Result<Vec<u8>, AllocError> {
 }
 
 /// The memory of an image of a version.
-fn memory_of(alloc: Global, version: u8, code: &[u8]) -> Option<Memory> {
-    if version != 1 && version != 2 {
-        return None;
-    }
+fn memory_of(alloc: Global, version: ImageVersion, code: &[u8]) -> Option<Memory> {
     if code.len() < 4 || code.len() > 0x10_0000 || code.len() % 4 != 0 {
         return None;
     }
@@ -95,7 +92,7 @@ fn stores_fault(memory: &mut Memory, addr: u64, n: u64) -> bool {
         4 => memory.write(addr, 4, 0x5a5a_5a5a),
         _ => memory.write(addr, 8, 0x5a5a_5a5a_5a5a_5a5a),
     };
-    matches!(end, Err(WriteRefusal::StoreFault))
+    matches!(end, Err(End::Fault(StoreFault)))
 }
 
 /// Whether a row holds: no store is taken there, and the load reads what it says.
@@ -108,7 +105,12 @@ fn row_holds(memory: &mut Memory, row: &str) -> bool {
 }
 
 /// The first row of a code that does not hold in a version.
-fn first_wrong(alloc: Global, version: u8, code: &[u8], name: &str) -> Option<&'static str> {
+fn first_wrong(
+    alloc: Global,
+    version: ImageVersion,
+    code: &[u8],
+    name: &str,
+) -> Option<&'static str> {
     let Some(mut memory) = memory_of(alloc, version, code) else {
         return Some("the memory");
     };
@@ -124,11 +126,21 @@ fn first_wrong(alloc: Global, version: u8, code: &[u8], name: &str) -> Option<&'
 fn loads_reach_eight_bytes_past_code(rt: HostRuntime) {
     let full = full_code(rt.alloc()).expect(&rt, "memory");
     assert!(rt; rows(LOADS).count() == 46);
-    for version in [1, 2] {
+    for version in [ImageVersion::OneHart, ImageVersion::EightHarts] {
         let wrong = first_wrong(rt.alloc(), version, &full, "full");
-        assert!(rt; wrong.is_none(), "{version}: {}", wrong.unwrap_or(""));
+        assert!(rt;
+            wrong.is_none(),
+            "{}: {}",
+            version.number(),
+            wrong.unwrap_or("")
+        );
         let wrong = first_wrong(rt.alloc(), version, &[0x73, 0, 0x10, 0], "short");
-        assert!(rt; wrong.is_none(), "{version}: {}", wrong.unwrap_or(""));
+        assert!(rt;
+            wrong.is_none(),
+            "{}: {}",
+            version.number(),
+            wrong.unwrap_or("")
+        );
     }
 }
 
@@ -137,7 +149,8 @@ fn loads_reach_eight_bytes_past_code(rt: HostRuntime) {
 fn no_region_is_longer(rt: HostRuntime) {
     for addr in 0x4010_0000..0x4010_0010_u64 {
         assert!(rt;
-            region(addr, 1).is_none() && region(addr, 2).is_none(),
+            region(addr, ImageVersion::OneHart).is_none()
+                && region(addr, ImageVersion::EightHarts).is_none(),
             "{addr:x}"
         );
     }

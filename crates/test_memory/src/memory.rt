@@ -1,5 +1,5 @@
-use rv_mem::{Change, LoadFault, Memory, WriteRefusal, region};
-use rv_word::{Image, Region};
+use rv_mem::{Change, LoadFault, Memory, StoreFault, region};
+use rv_word::{End, Image, ImageVersion, Region};
 use sample_programs::numbers::{name, number, rows};
 use std::alloc::{AllocError, Global};
 use std::process::Abort;
@@ -53,7 +53,7 @@ fn stores(memory: &mut Memory, row: &Access) -> bool {
     }
     match memory.write(addr, n, 0x1122_3344_5566_7788) {
         Ok(()) => store,
-        Err(end) => !store && matches!(end, WriteRefusal::StoreFault),
+        Err(end) => !store && matches!(end, End::Fault(StoreFault)),
     }
 }
 
@@ -113,8 +113,11 @@ fn regions(rt: HostRuntime) {
         (0x6008_0000, None, None),
         (u64::MAX, None, None),
     ] {
-        assert!(rt; region(addr, 1) == one, "1: {addr:x}");
-        assert!(rt; region(addr, 2) == two, "2: {addr:x}");
+        assert!(rt; region(addr, ImageVersion::OneHart) == one, "1: {addr:x}");
+        assert!(rt;
+            region(addr, ImageVersion::EightHarts) == two,
+            "2: {addr:x}"
+        );
     }
 }
 
@@ -385,7 +388,11 @@ const EDGES_OF_HARTS: &[u8] = b"\
 /// A memory of version 2 with some code and data.
 fn memory_of_harts(alloc: Global) -> Option<Memory> {
     let code = [0xa0, 0xb0, 0xc0, 0, 0xd1, 0, 0, 0];
-    Memory::load(alloc, &Image::of_version(2, &code, &[7, 8])).ok()
+    Memory::load(
+        alloc,
+        &Image::of_version(ImageVersion::EightHarts, &code, &[7, 8]),
+    )
+    .ok()
 }
 
 #[test]
@@ -432,7 +439,10 @@ fn is_filled(memory: &Memory) -> bool {
 /// of it.
 fn holds_a_shadow(alloc: Global) -> bool {
     let code = [0x73, 0, 0x10, 0];
-    let Ok(mut memory) = Memory::load(alloc, &Image::of_version(2, &code, &[])) else {
+    let Ok(mut memory) = Memory::load(
+        alloc,
+        &Image::of_version(ImageVersion::EightHarts, &code, &[]),
+    ) else {
         return false;
     };
     memory.reserve_pages(0x6000_0000, 0x8_0000).is_ok()
@@ -483,7 +493,7 @@ fn spanned(alloc: Global, bytes: &[u8], how: &str) -> Option<Memory> {
         return None;
     }
     if how == "loaded" {
-        return Memory::with_data(alloc, 1, bytes).ok();
+        return Memory::with_data(alloc, ImageVersion::OneHart, bytes).ok();
     }
     let mut memory = Memory::new(alloc).ok()?;
     memory.write_bytes(0x1ffe, bytes).ok()?;

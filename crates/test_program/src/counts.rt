@@ -2,8 +2,10 @@ use crate::by_hand::add_extent;
 use crate::kinds::KINDS;
 use elf_object::{Object, Relocs};
 use obj_input::ItemKind;
-use obj_items::{ItemEnd, items};
+use obj_items::items;
 use obj_program::Items;
+use obj_rules::ItemFault;
+use rv_word::End;
 use std::alloc::Global;
 use std::fmt::Write;
 
@@ -100,7 +102,7 @@ fn is_described(alloc: Global, object: &Object, items: &Items, words: &[u8]) -> 
 }
 
 /// Whether these words tell why there is no program.
-fn is_told(alloc: Global, end: &ItemEnd, words: &[u8]) -> bool {
+fn is_told(alloc: Global, end: &End<ItemFault>, words: &[u8]) -> bool {
     let mut text = String::new(alloc);
     writeln!(text, "refused {end}").is_ok() && text.as_bytes() == words
 }

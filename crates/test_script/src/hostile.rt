@@ -3,7 +3,7 @@
 use cfi_script::Meddler;
 use cfi_step::Hostile;
 use rv_machine::{Change, Machine, Turn};
-use rv_word::Image;
+use rv_word::{Image, ImageVersion};
 use std::alloc::{AllocError, Global};
 
 /// Code whose first three words no hart executes. A hart loads its x2 and x3 from the 16 bytes at 10000h + 16 times
@@ -261,7 +261,8 @@ fn loaded(alloc: Global, data: &[u8], harts: u8) -> Option<Machine> {
     if harts == 0 || data.len() > 0x200_0000 {
         return None;
     }
-    Machine::new(alloc, &Image::of_version(2, &CODE, data), &[], harts).ok()
+    let image = Image::of_version(ImageVersion::EightHarts, &CODE, data);
+    Machine::new(alloc, &image, &[], harts).ok()
 }
 
 /// Takes so many steps of a hart; whether all of them ran.

@@ -1,8 +1,8 @@
 use cfi_script::{Meddler, Script};
 use rv_machine::{Change, Machine};
-use rv_word::{Image, NoMemory};
+use rv_word::{End, Image, NoMemory};
 use std::alloc::{AllocError, Global};
-use text_lines::TextEnd;
+use text_lines::LineFault;
 
 /// Texts, and what each is read as, with `~` between two rows.
 const TEXTS: &str = "\
@@ -103,7 +103,7 @@ pub(crate) fn is_read_as(alloc: Global, text: &[u8], expected: &str) -> bool {
 }
 
 /// Whether a refusal is spelled so.
-fn is_spelled(alloc: Global, end: TextEnd, expected: &str) -> bool {
+fn is_spelled(alloc: Global, end: End<LineFault>, expected: &str) -> bool {
     match format!(in alloc; "{end}") {
         Ok(text) => text.as_str() == expected,
         Err(_) => false,

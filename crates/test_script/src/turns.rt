@@ -3,10 +3,10 @@
 use crate::script::{is_read_as, text_with};
 use cfi_script::{Meddler, Script};
 use rv_machine::Machine;
-use rv_word::{Image, NoMemory};
+use rv_word::{End, Image, ImageVersion, NoMemory};
 use std::alloc::{AllocError, Global};
 use std::fmt::Write;
-use text_lines::TextEnd;
+use text_lines::LineFault;
 
 /// What stands after the first line of texts that are refused, and as what, with `~` between two rows.
 const REFUSED: &str = "\
@@ -172,10 +172,10 @@ fn are_told(alloc: Global, script: &Script, expected: &str) -> bool {
 }
 
 /// The script of form 2 with these lines.
-fn script_of(alloc: Global, lines: &str) -> Result<Script, TextEnd> {
+fn script_of(alloc: Global, lines: &str) -> Result<Script, End<LineFault>> {
     match text_with(alloc, b"rvcfi-script 2\n", &[], 0, lines.as_bytes()) {
         Ok(text) => Script::read(alloc, &text),
-        Err(AllocError) => Err(TextEnd::NoMemory),
+        Err(AllocError) => Err(End::NoMemory),
     }
 }
 
@@ -280,7 +280,7 @@ static ASKED: [Asked; 9] = [
 
 /// A machine with so many harts.
 fn machine(alloc: Global, harts: u8) -> Result<Machine, NoMemory> {
-    let image = Image::of_version(2, &[0x73, 0, 0, 0], &[]);
+    let image = Image::of_version(ImageVersion::EightHarts, &[0x73, 0, 0, 0], &[]);
     Machine::new(alloc, &image, &[], harts.max(1))
 }
 

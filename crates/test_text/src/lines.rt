@@ -1,7 +1,8 @@
+use rv_word::End;
 use sample_programs::is_told_as;
 use std::alloc::Global;
 use text_lines::{
-    Address, Case, LongAddress, Reason, TextEnd, after_one_of, capped_number, decimal_of, hex_of,
+    Address, Case, LineFault, LongAddress, Reason, after_one_of, capped_number, decimal_of, hex_of,
     short_hex_of,
 };
 
@@ -110,7 +111,7 @@ fn is_begun_so(row: &(&'static [u8], Option<(usize, &'static [u8])>)) -> bool {
     let names: [&[u8]; 2] = [b"form 1", b"form 2 odd"];
     match (after_one_of(row.0, &names), row.1) {
         (Ok((which, rest)), Some((place, after))) => which == place && rest == after,
-        (Err(TextEnd::Line(1, Reason::Form)), None) => true,
+        (Err(End::Fault(LineFault(1, Reason::Form))), None) => true,
         _ => false,
     }
 }

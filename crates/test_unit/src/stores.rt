@@ -2,8 +2,8 @@
 
 use cfi_graph::{Graph, read_graph};
 use cfi_unit::{Unit, recognise};
-use cfi_verify::{Reject, Rule, VerifyEnd, verify};
-use rv_word::Image;
+use cfi_verify::{Reject, Rule, verify};
+use rv_word::{End, Image};
 use sample_programs::{STORES, code};
 use std::alloc::Global;
 
@@ -92,7 +92,7 @@ fn bytes_of(alloc: Global, row: &Code) -> Option<Vec<u8>> {
 fn wrong_at(alloc: Global, image: &Image<'_>, graph: &Graph) -> u64 {
     match verify(alloc, image, graph) {
         Ok(_) => 0,
-        Err(VerifyEnd::Reject(Reject::At(Rule::Unit, at))) => at,
+        Err(End::Fault(Reject::At(Rule::Unit, at))) => at,
         Err(_) => 1,
     }
 }

@@ -1,6 +1,6 @@
 use cfi_layout::laws::least_code;
-use cfi_layout::{PlaceEnd, Placement, Short, are_shorts, place, shorten};
-use rv_word::Form;
+use cfi_layout::{Placement, Short, are_shorts, place, shorten};
+use rv_word::{End, Form};
 use std::alloc::Global;
 
 /// Where the first unit stands.
@@ -91,7 +91,7 @@ fn is_placed(alloc: Global, form: Form, row: &([u32; 3], [u64; 4])) -> bool {
 /// Whether parts are too large as a row says.
 fn is_too_large(alloc: Global, row: &(Form, [u32; 3], u128)) -> bool {
     match place(alloc, row.0, &row.1) {
-        Err(PlaceEnd::CodeTooLarge(bytes)) => bytes == row.2,
+        Err(End::Fault(fault)) => fault.bytes == row.2,
         _ => false,
     }
 }

@@ -4,9 +4,10 @@ use Rattle.std.proofs.Common.{◌≡◌, ℕ, ◌+◌, Bool, true, false, not, i
 use Rattle.std.specs.Str.{bytes_eq}
 use Rattle.std.proofs.lemmas.Slice.Eq.{bytes_eq-Decides}
 use Rattle.std.proofs.lemmas.Bool.{cases_Bool}
+use Rattle.rv_word.specs.declared.end.End.{End}
 use Rattle.text_lines.specs.Lines.{words_of}
 use Rattle.text_lines.specs.Reading.{LineRules, Reading, at_end, judged, read, with_front, with_line}
-use Rattle.text_lines.specs.declared.end.TextEnd.{TextEnd}
+use Rattle.text_lines.specs.declared.fault.LineFault.{LineFault}
 
 pub data Accepts {L B I : Type 0} (rules : LineRules L B I) : B → List (List ℕ) → List I → Type 0 where
   end_only : {before : B} → Accepts rules before (codes "end" ∷ [] ∷ []) []
@@ -30,7 +31,7 @@ module _ {L B I : Type 0} (rules : LineRules L B I) where
       (ap Some same, ap rules.in_range (sym same) ∙ range.0, ap (rules.in_order before) (sym same) ∙ order.0)
 
   -- what a line and the others give, if nothing is refused
-  with_line_ok : (P : List I → Type 0) (first : Result L TextEnd) (others : L → Reading I) → (with_line rules first others).end ≡ Ok tt → ((l : L) → first ≡ Ok l → (others l).end ≡ Ok tt → P (rules.items l ++ (others l).items)) → P (with_line rules first others).items
+  with_line_ok : (P : List I → Type 0) (first : Result L (End LineFault)) (others : L → Reading I) → (with_line rules first others).end ≡ Ok tt → ((l : L) → first ≡ Ok l → (others l).end ≡ Ok tt → P (rules.items l ++ (others l).items)) → P (with_line rules first others).items
   with_line_ok P (Ok l) others e go = go l refl e
   with_line_ok P (Err fault) others e go = absurd cc
 

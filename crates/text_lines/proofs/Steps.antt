@@ -6,13 +6,14 @@ use Rattle.std.specs.Str.{bytes_eq}
 use Rattle.std.proofs.Math.Seq.{take-append-add, take-append_seam}
 use Rattle.std.proofs.lemmas.List.{append-nil, append_cancel_left, length-append, length-map}
 use Rattle.std.proofs.lemmas.List.Splits.{join_with_byte-slice_split}
-use Rattle.text_lines.specs.Answers.{AfterNoMemory, Answers, UnlessNoMemory}
+use Rattle.rv_word.specs.declared.end.End.{End}
+use Rattle.rv_word.specs.declared.end.End.TheVariants.{Fault, NoMemory}
+use Rattle.text_lines.specs.Answers.{AfterNoMemory, Answers, UnlessNoMemory, line_fault}
 use Rattle.text_lines.specs.Lines.{lines_of, words_of}
 use Rattle.text_lines.specs.Reading.{FirstCollected, FirstLine, LineRules, Reading, at_end, judged, one_named, read, refused, told, with_front}
 use Rattle.text_lines.specs.declared.reason.Reason.TheVariants.{Form}
-use Rattle.text_lines.specs.declared.end.TextEnd.{TextEnd}
-use Rattle.text_lines.specs.declared.end.TextEnd.TheVariants.{Line, NoMemory}
 use Rattle.text_lines.proofs.Cuts.{some_part}
+use Rattle.text_lines.specs.declared.fault.LineFault.{LineFault}
 
 -- what follows a line's newline has a first part
 pub some_line : {P : Type 0} (rest : List ℕ) → ((part : List ℕ) (parts : List (List ℕ)) → lines_of rest ≡ part ∷ parts → P) → P
@@ -54,26 +55,26 @@ later_first init front now rest all (more, e) h (n, f) =
     (length more + n, f ∙ ap (λ xs. xs ++ take n rest.items) e ∙ append_assoc init more (take n rest.items) ∙ ap (λ xs. init ++ xs) (sym (take-append-add more rest.items n) ∙ ap (take (length more + n)) whole))
 
 -- what holds anyhow holds after want of memory
-pub after_any : {A P : Type 0} (answer : Result A TextEnd) → P → AfterNoMemory answer P
+pub after_any : {A P : Type 0} (answer : Result A (End LineFault)) → P → AfterNoMemory answer P
 after_any (Ok x) p = tt
-after_any (Err (Line n reason)) p = tt
+after_any (Err (Fault fault)) p = tt
 after_any (Err NoMemory) p = p
 
-right_end : {A : Type 0} (end : TextEnd) (right : Result A TextEnd) → right ≡ Err end → Answers {A = A} (Err end) right
-right_end (Line n reason) right e = e
+right_end : {A : Type 0} (end : End LineFault) (right : Result A (End LineFault)) → right ≡ Err end → Answers {A = A} (Err end) right
+right_end (Fault fault) right e = e
 right_end NoMemory right e = tt
 
 -- the reading ends here
-pub record Ends {I : Type 0} (init front : List I) (all : Reading I) (last : Result (Unit {0}) TextEnd) : Type 0 where
+pub record Ends {I : Type 0} (init front : List I) (all : Reading I) (last : Result (Unit {0}) (End LineFault)) : Type 0 where
   pub end : all.end ≡ last
   pub items : front ≡ init ++ all.items
 
-ends : {I : Type 0} (init front : List I) (all : Reading I) (end : Result (Unit {0}) TextEnd) → with_front front (record { items = []; end = end }) ≡ with_front init all → Ends init front all end
+ends : {I : Type 0} (init front : List I) (all : Reading I) (end : Result (Unit {0}) (End LineFault)) → with_front front (record { items = []; end = end }) ≡ with_front init all → Ends init front all end
 ends {I} init front all end h =
     record { end = ap (λ (r : Reading I). r.end) (sym h); items = sym (append-nil front) ∙ ap (λ (r : Reading I). r.items) h }
 
 module _ {L B I : Type 0} (rules : LineRules L B I) (before : B) (number : ℕ) (init front : List I) (all : Reading I) where
-  pub no_newline : {parts : List (List ℕ)} {line : List ℕ} → parts ≡ line ∷ [] → with_front front (read rules before number parts) ≡ with_front init all → Ends init front all (Err (Line number Form))
+  pub no_newline : {parts : List (List ℕ)} {line : List ℕ} → parts ≡ line ∷ [] → with_front front (read rules before number parts) ≡ with_front init all → Ends init front all (Err (line_fault number Form))
   unfolding read
   no_newline p h = ends init front all _ (rw p at h)
 
@@ -81,23 +82,23 @@ module _ {L B I : Type 0} (rules : LineRules L B I) (before : B) (number : ℕ) 
   unfolding read
   the_end next p e n h = ends init front all _ (rw (p, n, e) at h)
 
-  pub text_after : (next : List ℕ) {parts : List (List ℕ)} {line : List ℕ} → parts ≡ line ∷ lines_of next → bytes_eq line (codes "end") ≡ true → (next ≡ [] → ⊥) → with_front front (read rules before number parts) ≡ with_front init all → Ends init front all (Err (Line (number + 1) Form))
+  pub text_after : (next : List ℕ) {parts : List (List ℕ)} {line : List ℕ} → parts ≡ line ∷ lines_of next → bytes_eq line (codes "end") ≡ true → (next ≡ [] → ⊥) → with_front front (read rules before number parts) ≡ with_front init all → Ends init front all (Err (line_fault (number + 1) Form))
   unfolding read
   text_after next p e n h =
       some_line next (λ part parts q. let other = at_end-other {I = I} (number + 1) (part ∷ parts) (λ r. n (nothing_after next (q ∙ r))) in ends init front all _ (rw (p, q, e, other) at h))
 
   -- a line that is refused
-  pub bad_line : (n : ℕ) (reason : _) (next : List ℕ) {parts : List (List ℕ)} {line : List ℕ} → parts ≡ line ∷ lines_of next → bytes_eq line (codes "end") ≡ false → judged rules before number (rules.spelled (words_of line)) ≡ Err (Line n reason) → with_front front (read rules before number parts) ≡ with_front init all → Ends init front all (Err (Line n reason))
+  pub bad_line : (fault : LineFault) (next : List ℕ) {parts : List (List ℕ)} {line : List ℕ} → parts ≡ line ∷ lines_of next → bytes_eq line (codes "end") ≡ false → judged rules before number (rules.spelled (words_of line)) ≡ Err (Fault fault) → with_front front (read rules before number parts) ≡ with_front init all → Ends init front all (Err (Fault fault))
   unfolding read
-  bad_line n reason next p e a h =
+  bad_line fault next p e a h =
       some_line next (λ part parts q. ends init front all _ (rw (p, q, e, a) at h))
 
-  pub bad_line_end : (end : TextEnd) (next : List ℕ) {parts : List (List ℕ)} {line : List ℕ} → parts ≡ line ∷ lines_of next → bytes_eq line (codes "end") ≡ false → Answers {A = L} (Err end) (judged rules before number (rules.spelled (words_of line))) → with_front front (read rules before number parts) ≡ with_front init all → Answers {A = Unit {0}} (Err end) all.end
-  bad_line_end (Line n reason) next p e a h = (bad_line n reason next p e a h).end
+  pub bad_line_end : (end : End LineFault) (next : List ℕ) {parts : List (List ℕ)} {line : List ℕ} → parts ≡ line ∷ lines_of next → bytes_eq line (codes "end") ≡ false → Answers {A = L} (Err end) (judged rules before number (rules.spelled (words_of line))) → with_front front (read rules before number parts) ≡ with_front init all → Answers {A = Unit {0}} (Err end) all.end
+  bad_line_end (Fault fault) next p e a h = (bad_line fault next p e a h).end
   bad_line_end NoMemory next p e a h = tt
 
-  pub bad_line_items : (end : TextEnd) (next : List ℕ) {parts : List (List ℕ)} {line : List ℕ} → parts ≡ line ∷ lines_of next → bytes_eq line (codes "end") ≡ false → Answers {A = L} (Err end) (judged rules before number (rules.spelled (words_of line))) → with_front front (read rules before number parts) ≡ with_front init all → UnlessNoMemory {A = Unit {0}} (Err end) (front ≡ init ++ all.items)
-  bad_line_items (Line n reason) next p e a h = (bad_line n reason next p e a h).items
+  pub bad_line_items : (end : End LineFault) (next : List ℕ) {parts : List (List ℕ)} {line : List ℕ} → parts ≡ line ∷ lines_of next → bytes_eq line (codes "end") ≡ false → Answers {A = L} (Err end) (judged rules before number (rules.spelled (words_of line))) → with_front front (read rules before number parts) ≡ with_front init all → UnlessNoMemory {A = Unit {0}} (Err end) (front ≡ init ++ all.items)
+  bad_line_items (Fault fault) next p e a h = (bad_line fault next p e a h).items
   bad_line_items NoMemory next p e a h = tt
 
   pub good_line : (next : List ℕ) (l : L) {parts : List (List ℕ)} {line : List ℕ} → parts ≡ line ∷ lines_of next → bytes_eq line (codes "end") ≡ false → judged rules before number (rules.spelled (words_of line)) ≡ Ok l → with_front front (read rules before number parts) ≡ with_front init all → with_front (front ++ rules.items l) (read rules (rules.after l) (number + 1) (lines_of next)) ≡ with_front init all
@@ -113,7 +114,7 @@ module _ {L B I : Type 0} (rules : LineRules L B I) (before : B) (number : ℕ) 
     pub known_line : judged rules before number (Some l) ≡ Ok l → with_front front (read rules before number (lines_of text)) ≡ with_front init all → with_front (front ++ rules.items l) (read rules (rules.after l) (number + 1) (lines_of next)) ≡ with_front init all
     known_line a h = good_line next l f.first f.goes_on (ap (judged rules before number) f.spells ∙ a) h
 
-    module _ (end : TextEnd) (a : judged rules before number (Some l) ≡ Err end) (h : with_front front (read rules before number (lines_of text)) ≡ with_front init all) where
+    module _ (end : End LineFault) (a : judged rules before number (Some l) ≡ Err end) (h : with_front front (read rules before number (lines_of text)) ≡ with_front init all) where
       answers : Answers {A = L} (Err end) (judged rules before number (rules.spelled (words_of f.bytes)))
       answers = right_end end _ (ap (judged rules before number) f.spells ∙ a)
 
@@ -141,7 +142,7 @@ position-map p f xs = rw (prefix_len-map (λ y. not (p y)) f xs, length-map xs f
 
 -- the first line, of names that are kept in some form
 module _ {Name : Type 0} (bytes : Name → List ℕ) (names : List Name) {parts : List (List ℕ)} {line : List ℕ} where
-  pub first_alone : parts ≡ line ∷ [] → one_named (map bytes names) parts ≡ Err (Line 1 Form)
+  pub first_alone : parts ≡ line ∷ [] → one_named (map bytes names) parts ≡ Err (line_fault 1 Form)
   unfolding one_named
   first_alone p = rw p refl
 

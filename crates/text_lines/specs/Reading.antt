@@ -4,11 +4,12 @@
 -- the line before it.
 use Rattle.std.specs.Prelude.{ℕ, ◌+◌, Bool, false, not, if◌then◌else◌, List, [], ◌∷◌, ◌++◌, take, ◌≡◌, codes, position, Option, Some, None, Result, Ok, Err}
 use Rattle.std.specs.Str.{bytes_eq}
+use Rattle.rv_word.specs.declared.end.End.{End}
 use Rattle.text_lines.specs.Lines.{lines_of, words_of}
-use Rattle.text_lines.specs.declared.end.TextEnd.{TextEnd}
-use Rattle.text_lines.specs.declared.end.TextEnd.TheVariants.{Line}
 use Rattle.text_lines.specs.declared.reason.Reason.{Reason}
 use Rattle.text_lines.specs.declared.reason.Reason.TheVariants.{Form, Range, Order}
+use Rattle.text_lines.specs.declared.fault.LineFault.{LineFault}
+use Rattle.text_lines.specs.Answers.{line_fault}
 
 -- A form of lines. `spelled` is the line that words spell, if they spell one; `in_range` says whether
 -- its numbers are allowed, `in_order` whether it may stand there by what is known of the line before,
@@ -23,14 +24,14 @@ pub record LineRules (Line Before Item : Type 0) : Type 0 where
 -- what is read of a text: what the lines before the first fault add, and the fault, if there is one
 pub record Reading (Item : Type 0) : Type 0 where
   pub items : List Item
-  pub end : Result (Unit {0}) TextEnd
+  pub end : Result (Unit {0}) (End LineFault)
 
 -- what was there before, and after it the first of these items
 abbrev pub FirstCollected : {Item : Type 0} → List Item → List Item → List Item → Type 0
 FirstCollected before now items = (n : ℕ) × (now ≡ before ++ take n items)
 
 abbrev pub refused : {Item : Type 0} → ℕ → Reason → Reading Item
-refused number reason = record { items = []; end = Err (Line number reason) }
+refused number reason = record { items = []; end = Err (line_fault number reason) }
 
 -- what is read with this before it
 abbrev pub with_front : {Item : Type 0} → List Item → Reading Item → Reading Item
@@ -43,14 +44,14 @@ at_end number lines = refused number Form
 
 module _ {L B I : Type 0} (rules : LineRules L B I) where
   -- the line, or the first reason why it is refused
-  abbrev pub judged : B → ℕ → Option L → Result L TextEnd
-  judged before number None = Err (Line number Form)
+  abbrev pub judged : B → ℕ → Option L → Result L (End LineFault)
+  judged before number None = Err (line_fault number Form)
   judged before number (Some line) =
-      if not (rules.in_range line) then Err (Line number Range) else
-      if not (rules.in_order before line) then Err (Line number Order) else Ok line
+      if not (rules.in_range line) then Err (line_fault number Range) else
+      if not (rules.in_order before line) then Err (line_fault number Order) else Ok line
 
   -- what a line adds, and what is read after it
-  abbrev pub with_line : Result L TextEnd → (L → Reading I) → Reading I
+  abbrev pub with_line : Result L (End LineFault) → (L → Reading I) → Reading I
   with_line (Ok line) others = with_front (rules.items line) (others line)
   with_line (Err fault) others = record { items = []; end = Err fault }
 
@@ -71,25 +72,25 @@ pub record FirstLine {L B I : Type 0} (rules : LineRules L B I) (text : List ℕ
   pub goes_on : bytes_eq bytes (codes "end") ≡ false
 
 -- what comes after a step that may be refused
-abbrev pub if_right : {A C : Type 0} → Result A TextEnd → (A → Result C TextEnd) → Result C TextEnd
+abbrev pub if_right : {A C : Type 0} → Result A (End LineFault) → (A → Result C (End LineFault)) → Result C (End LineFault)
 if_right (Ok x) next = next x
 if_right (Err fault) next = Err fault
 
 -- all that is read, if nothing is refused
-abbrev pub whole : {Item : Type 0} → Reading Item → Result (List Item) TextEnd
+abbrev pub whole : {Item : Type 0} → Reading Item → Result (List Item) (End LineFault)
 whole reading = if_right reading.end (λ done. Ok reading.items)
 
 -- what the first line tells: which of the names it is, from 0, and the lines after it
-abbrev pub told : Option ℕ → List (List ℕ) → Result (ℕ × List (List ℕ)) TextEnd
-told None lines = Err (Line 1 Form)
+abbrev pub told : Option ℕ → List (List ℕ) → Result (ℕ × List (List ℕ)) (End LineFault)
+told None lines = Err (line_fault 1 Form)
 told (Some which) lines = Ok (which, lines)
 
 -- the first line of a text is one of these names, the first that it is
-unfoldable pub one_named : List (List ℕ) → List (List ℕ) → Result (ℕ × List (List ℕ)) TextEnd
+unfoldable pub one_named : List (List ℕ) → List (List ℕ) → Result (ℕ × List (List ℕ)) (End LineFault)
 one_named names (line ∷ next ∷ rest) = told (position (bytes_eq line) names) (next ∷ rest)
-one_named names lines = Err (Line 1 Form)
+one_named names lines = Err (line_fault 1 Form)
 
 -- what is read after the heading, by what the heading tells
-abbrev pub after_heading : {Head Item : Type 0} → Result Head TextEnd → (Head → Reading Item) → Reading Item
+abbrev pub after_heading : {Head Item : Type 0} → Result Head (End LineFault) → (Head → Reading Item) → Reading Item
 after_heading (Ok head) others = others head
 after_heading (Err fault) others = record { items = []; end = Err fault }

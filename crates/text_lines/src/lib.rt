@@ -4,7 +4,7 @@
 
 pub use address::{Address, LongAddress};
 pub use decimal::{MAX_STEP, capped_number, decimal_of};
-pub use end::TextEnd;
+pub use fault::LineFault;
 pub use form::LineForm;
 pub use hexadecimal::{Case, hex_of, short_hex_of};
 pub use read::{after_one_of, read_lines};
@@ -14,7 +14,7 @@ pub use write::push_number;
 
 mod address;
 mod decimal;
-mod end;
+mod fault;
 mod form;
 mod hexadecimal;
 mod read;

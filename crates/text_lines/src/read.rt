@@ -4,10 +4,11 @@ ghost use Rattle.text_lines.specs.Answers.{AfterNoMemory, Answers, UnlessNoMemor
 ghost use Rattle.text_lines.specs.Lines.{lines_of, words_of};
 ghost use Rattle.text_lines.specs.Reading.{FirstCollected, judged, one_named, read, with_front};
 
-use crate::end::TextEnd;
+use crate::fault::LineFault;
 use crate::form::LineForm;
 use crate::reason::Reason;
 use crate::words::{cut, is_word};
+use rv_word::End;
 use std::alloc::Global;
 
 /// Which of these names a line is, from 0: the first that it is.
@@ -18,34 +19,37 @@ fn which_of(line: &[u8], names: &[&[u8]]) -> Option<usize>
 }
 
 /// Which of these names the first line of a text is, from 0, and what stands after that line.
-pub fn after_one_of<'a>(text: &'a [u8], names: &[&[u8]]) -> Result<(usize, &'a [u8]), TextEnd>
+pub fn after_one_of<'a>(
+    text: &'a [u8],
+    names: &[&[u8]],
+) -> Result<(usize, &'a [u8]), End<LineFault>>
     ensures { MatchResult result
         (λ first. one_named (map (λ name. name.now) names.now) (lines_of text.now) ≡ Ok (first.0, lines_of first.1.now))
         (λ end. one_named (map (λ name. name.now) names.now) (lines_of text.now) ≡ Err end) }
 {
     let (line, rest) = cut(text, b'\n');
     let Some(rest) = rest else {
-        return Err(TextEnd::Line(1, Reason::Form));
+        return Err(End::Fault(LineFault(1, Reason::Form)));
     };
     let Some(which) = which_of(line, names) else {
-        return Err(TextEnd::Line(1, Reason::Form));
+        return Err(End::Fault(LineFault(1, Reason::Form)));
     };
     Ok((which, rest))
 }
 
 /// Whether a line may stand in the line with this number, or the first reason why it may not.
 #[inline(always)]
-fn allowed<F: LineForm>(form: &F, number: u64, line: &F::Line) -> Result<(), TextEnd>
+fn allowed<F: LineForm>(form: &F, number: u64, line: &F::Line) -> Result<(), End<LineFault>>
     ensures told { MatchResult result
         (λ _. judged (F.rules form.now) (F.before form.now) number (Some line.now) ≡ Ok line.now)
         (λ end. judged (F.rules form.now) (F.before form.now) number (Some line.now) ≡ Err end) }
     ensures in_range { OnOk result ((F.rules form.now).in_range line.now ≡ true) }
 {
     if !form.in_range(line) {
-        return Err(TextEnd::Line(number, Reason::Range));
+        return Err(End::Fault(LineFault(number, Reason::Range)));
     }
     if !form.in_order(line) {
-        return Err(TextEnd::Line(number, Reason::Order));
+        return Err(End::Fault(LineFault(number, Reason::Order)));
     }
     Ok(())
 }
@@ -56,13 +60,13 @@ fn checked<F: LineForm>(
     form: &F,
     number: u64,
     line: &[u8],
-) -> Result<F::Line, TextEnd>
+) -> Result<F::Line, End<LineFault>>
     ensures exact { Answers result
         (judged (F.rules form.now) (F.before form.now) number ((F.rules form.now).spelled (words_of line.now))) }
     ensures allowed { IfOk result (λ l. (F.rules form.now).in_range l ≡ true) }
 {
     let Some(line) = form.line_of(alloc, line)? else {
-        return Err(TextEnd::Line(number, Reason::Form));
+        return Err(End::Fault(LineFault(number, Reason::Form)));
     };
     allowed(form, number, &line)?;
     Ok(line)
@@ -75,7 +79,7 @@ fn known_lines<'a, F: LineForm>(
     form: &mut F,
     first: u64,
     text: &'a [u8],
-) -> Result<(u64, &'a [u8]), TextEnd>
+) -> Result<(u64, &'a [u8]), End<LineFault>>
     requires { first + length text.now < 2 ^ 64 }
     ensures goes_on { IfOk result (λ left. with_front (F.items form.new)
         (read (F.rules form.old) (F.before form.new) left.0 (lines_of left.1.now))
@@ -108,7 +112,7 @@ pub fn read_lines<F: LineForm>(
     form: &mut F,
     first: u64,
     text: &[u8],
-) -> Result<(), TextEnd>
+) -> Result<(), End<LineFault>>
     // Each line has a number.
     requires { first + length text.now < 2 ^ 64 }
 
@@ -131,13 +135,13 @@ pub fn read_lines<F: LineForm>(
         let (at, left) = known_lines(form, number, rest)?;
         let (line, next) = cut(left, b'\n');
         let Some(next) = next else {
-            return Err(TextEnd::Line(at, Reason::Form));
+            return Err(End::Fault(LineFault(at, Reason::Form)));
         };
         if is_word(line, b"end") {
             if next.is_empty() {
                 return Ok(());
             }
-            return Err(TextEnd::Line(at + 1, Reason::Form));
+            return Err(End::Fault(LineFault(at + 1, Reason::Form)));
         }
         let line = checked(alloc, form, at, line)?;
         form.add(line)?;

@@ -1,9 +1,10 @@
 -- What a demonstration needs of a hardened program: its program runs at its map, and no run of that differs from the image's.
 use Rattle.std.proofs.Common.{◌≡◌, ◌∙◌, ℕ, List, [], length, None, ap, ap₂, refl, subst, sym}
+use Rattle.rv_word.specs.declared.version.ImageVersion.{ImageVersion}
 use Rattle.rv_word.specs.Form.{graph_version, image_version}
 use Rattle.rv_word.specs.declared.form.Form.{Form}
 use Rattle.elf_image.specs.Spelling.{spelling}
-use Rattle.rv_word.specs.Image.{Contents, IsImageSize, IsVersion, image_profile}
+use Rattle.rv_word.specs.Image.{Contents, IsImageSize, image_profile}
 use Rattle.rv_word.specs.MemoryMap.{profile_of}
 use Rattle.cfi_map_text.specs.Map.{MapParts}
 use Rattle.cfi_map.specs.GraphAtMap.{ProgramAtMap, program_at}
@@ -28,7 +29,6 @@ use Rattle.cfi_compare.specs.declared.answer.Compared.{Compared}
 use Rattle.tool_commands.specs.Compare.{at_map}
 use Rattle.tool_commands.specs.Demo.{IsComparedAt, STEP_LIMIT}
 use Rattle.tool_commands.specs.Demonstration.{CanRunAt, IsAnswerAt, IsDifference, IsDrawn, IsImageIn, IsSourceOn, NoneDiffers}
-use Rattle.tool_commands.proofs.FormVersions.{known_version}
 
 module _ (request : ProgramRequest) (p : PreparedParts) (prepared : IsPreparedOf request p) (h : HardenedParts) (hardened : IsWrittenOf p h) where
   -- what was placed is the program at the gates of its map
@@ -43,7 +43,7 @@ module _ (request : ProgramRequest) (p : PreparedParts) (prepared : IsPreparedOf
 
   own_image : (image : Contents) → IsImageIn h.image image → (code init : List ℕ) → IsImageSize (length code) (length init)
       → h.image ≡ spelling (image_version p.form) code init → image ≡ record { version = image_version p.form; code = code; init = init }
-  own_image image is code init size spelled = is.only (image_version p.form) code init (known_version p.form) size spelled
+  own_image image is code init size spelled = is.only (image_version p.form) code init size spelled
 
   pub can_run : CanRunAt p h.map
   can_run =
@@ -68,7 +68,7 @@ pub none_differs : (p : PreparedParts) (h : HardenedParts) → NeverDiffersOf p 
 none_differs p h never image is =
     let own = never.contents in
     let same : image ≡ own =
-    is.only own.version own.code own.init (subst IsVersion (sym never.version) (known_version p.form)) never.bytes.size never.image in
+    is.only own.version own.code own.init never.bytes.size never.image in
     let there : NoRunDiffers (at_map p h.map) own =
     subst (λ (f : Form). NoRunDiffers (program_at f p.program p.closed (gates_of h.map.lines) p.entry) own) (sym never.map_form) never.holds in
     subst (λ (x : Contents). NoRunDiffers (at_map p h.map) x) (sym same) there
@@ -98,5 +98,5 @@ module _ (p : PreparedParts) (map : MapParts) (image : Contents) where
     pub never_told : image.version ≡ image_version map.form → NoneDiffers p map image → IsDifference answer → ⊥
     never_told version never =
         let l = at_map p map in
-        let one = ap (λ (v : ℕ). runs.compared (profile_of v) l image [] STEP_LIMIT) version in
+        let one = ap (λ (v : ImageVersion). runs.compared (profile_of v) l image [] STEP_LIMIT) version in
         no_difference p.program (runs.compared l.profile l image [] STEP_LIMIT) answer (never [] STEP_LIMIT) (is ∙ ap (told_answer p.program) one)

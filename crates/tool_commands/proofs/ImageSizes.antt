@@ -9,10 +9,10 @@ use Rattle.tool_commands.specs.declared.rewrite.Sizes.{Sizes}
 
 module _ (bytes : List ℕ) (graph : GraphParts) (is : IsSpelledWith bytes graph) where
   whole : length bytes ≡ data_start graph.code + length is.2
-  whole = ap length is.5 ∙ (read_as is.0 is.1 is.2 is.3 is.4).sound.end ∙ ap (λ (n : ℕ). data_start n + length is.2) (sym is.6)
+  whole = ap length is.4 ∙ (read_as is.0 is.1 is.2 is.3).sound.end ∙ ap (λ (n : ℕ). data_start n + length is.2) (sym is.5)
 
   pub few_code : graph.code ≤ 2 ^ 20
-  few_code = subst (λ (n : ℕ). n ≤ 2 ^ 20) (sym is.6) is.4.most
+  few_code = subst (λ (n : ℕ). n ≤ 2 ^ 20) (sym is.5) is.3.most
 
   pub data_inside : data_start graph.code ≤ length bytes
   data_inside = omega (arith, whole)
@@ -23,10 +23,9 @@ module _ (bytes : List ℕ) (graph : GraphParts) (is : IsSpelledWith bytes graph
     version = is.0;
     code = is.1;
     init = is.2;
-    image_is = is.5;
-    known = is.3;
-    image_size = is.4;
-    code_size = code ∙ is.6;
+    image_is = is.4;
+    image_size = is.3;
+    code_size = code ∙ is.5;
     data_size = data_is ∙ omega (arith, whole);
     classes = classes;
     sites = sites;

@@ -1,5 +1,4 @@
 mod Giving
-mod FormVersions
 pub mod Writing
 pub mod Complete
 pub mod Sources

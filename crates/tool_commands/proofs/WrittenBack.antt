@@ -8,7 +8,6 @@ use Rattle.cfi_map.specs.LegalMap.{IsLegalMap}
 use Rattle.tool_common.specs.Writes.{OutputParts}
 use Rattle.tool_commands.specs.Compare.{form_told}
 use Rattle.tool_commands.specs.Laws.{WrittenIsRead}
-use Rattle.tool_commands.proofs.FormVersions.{known_version}
 
 pub written_is_read : WrittenIsRead
 written_is_read words request hardened written made is =
@@ -20,7 +19,6 @@ written_is_read words request hardened written made is =
       program = p;
       spelled = record {
         image_is = ap (λ (o : OutputParts). o.bytes) is.image ∙ w.image;
-        version = known_version p.form;
         size = w.bytes.size;
         graph_is = ap (λ (o : OutputParts). o.bytes) is.graph;
         parts = is.graph_right;

@@ -3,6 +3,7 @@
 use Rattle.std.specs.Prelude.{◌≡◌, ℕ, List, [], ◌∷◌, ◌++◌, length, codes, count_by, ⊤, Option, None}
 use Rattle.std.specs.Fmt.{decimal}
 use Rattle.rv_word.specs.Image.{Contents, image_profile}
+use Rattle.rv_word.specs.declared.version.ImageVersion.TheVariants.{OneHart}
 use Rattle.elf_image.specs.Spelling.{spelling}
 use Rattle.elf_writer.specs.Object.{object_bytes}
 use Rattle.cfi_graph.specs.Graph.{is_class, is_site}
@@ -48,7 +49,7 @@ STEP_LIMIT = 10000000
 -- the object of the number is hardened, and its image, which is for one hart and safe, is run without input and changes
 pub record IsDemoRun (number : ℕ) (hardened : HardenedParts) (image : Contents) (report : RunReport) : Type 0 where
   pub made : IsMade (entered (object_bytes (demo_parts number))) hardened
-  pub version : image.version ≡ 1
+  pub version : image.version ≡ OneHart
   pub image_is : hardened.image ≡ spelling image.version image.code image.init
   pub run_is : IsSafeRun image hardened.graph undisturbed_script [] STEP_LIMIT report
 
@@ -120,7 +121,7 @@ shown_text s =
     ++ codes "\ncompare same " ++ decimal s.calls
 
 abbrev pub demo_text : DemoOutcome → List ℕ
-demo_text (outcome.Ran report) = report_text 1 report
+demo_text (outcome.Ran report) = report_text OneHart report
 demo_text (outcome.Compared result) = with_newline (answer_text result)
 demo_text (outcome.Shown shown) = with_newline (shown_text shown)
 

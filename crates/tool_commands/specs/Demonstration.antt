@@ -1,7 +1,8 @@
 -- Words of private contracts: a generated object as a request, and a map at which its program runs.
 use Rattle.std.specs.Prelude.{◌≡◌, ℕ, List, [], length, ⊤, None}
+use Rattle.rv_word.specs.declared.version.ImageVersion.{ImageVersion}
 use Rattle.rv_word.specs.Form.{graph_version, image_version}
-use Rattle.rv_word.specs.Image.{Contents, IsImageSize, IsVersion, image_profile}
+use Rattle.rv_word.specs.Image.{Contents, IsImageSize, image_profile}
 use Rattle.elf_image.specs.Spelling.{spelling}
 use Rattle.elf_writer.specs.Object.{object_bytes}
 use Rattle.cfi_map_text.specs.Map.{MapParts}
@@ -45,7 +46,7 @@ IsAnswerAt p map image answer =
 -- an image is the one that a file spells
 pub record IsImageIn (bytes : List ℕ) (image : Contents) : Type 0 where
   pub image_is : bytes ≡ spelling image.version image.code image.init
-  pub only : (version : ℕ) (code init : List ℕ) → IsVersion version → IsImageSize (length code) (length init) → bytes ≡ spelling version code init
+  pub only : (version : ImageVersion) (code init : List ℕ) → IsImageSize (length code) (length init) → bytes ≡ spelling version code init
       → image ≡ record { version = version; code = code; init = init }
 
 -- no run of a program at a map differs from the image's

@@ -4,8 +4,9 @@
 use Rattle.std.specs.Prelude.{◌≡◌, ◌≢◌, ℕ, ◌||◌, if◌then◌else◌, List, [], ◌∷◌, ◌++◌, length, count_by, codes, Option, Some, None, option_and_then, option_map}
 use Rattle.std.specs.Fmt.{decimal}
 use Rattle.std.specs.Str.{bytes_eq}
+use Rattle.rv_word.specs.declared.version.ImageVersion.{ImageVersion}
 use Rattle.rv_word.specs.Form.{form_named}
-use Rattle.rv_word.specs.Image.{IsImageSize, IsVersion}
+use Rattle.rv_word.specs.Image.{IsImageSize}
 use Rattle.rv_word.specs.declared.form.Form.{Form}
 use Rattle.rv_word.specs.declared.form.Form.TheVariants.{Plain}
 use Rattle.elf_image.specs.Spelling.{spelling}
@@ -94,24 +95,23 @@ IsRefused request (Object refusal) = Refuses request refusal
 IsRefused request other = ⊥
 
 -- the bytes of a file are an image's of a version
-abbrev pub IsSpelled : ℕ → List ℕ → Type 0
+abbrev pub IsSpelled : ImageVersion → List ℕ → Type 0
 IsSpelled version bytes =
     (code : List ℕ) × (init : List ℕ) × IsImageSize (length code) (length init) × (bytes ≡ spelling version code init)
 
 -- so they are, and the code has the length that a graph tells. Only private contracts cite this
 abbrev pub IsSpelledWith : List ℕ → GraphParts → Type 0
 IsSpelledWith bytes graph =
-    (version : ℕ) × (code : List ℕ) × (init : List ℕ) × IsVersion version × IsImageSize (length code) (length init)
+    (version : ImageVersion) × (code : List ℕ) × (init : List ℕ) × IsImageSize (length code) (length init)
     × (bytes ≡ spelling version code init) × (graph.code ≡ length code)
 
 -- what is told of an image and its graph: the lengths of code and initialised data, and the numbers of lines
 pub record HasSizes (image : List ℕ) (graph : GraphParts) (sizes : Sizes) : Type 0 where
-  pub version : ℕ
+  pub version : ImageVersion
   pub code : List ℕ
   pub init : List ℕ
   pub image_is : image ≡ spelling version code init
-  -- of such a version and these lengths, so that no other code and data have this spelling
-  pub known : IsVersion version
+  -- of these lengths, so that no other version, code and data have this spelling
   pub image_size : IsImageSize (length code) (length init)
   pub code_size : sizes.code ≡ length code
   pub data_size : sizes.data ≡ length init

@@ -17,7 +17,7 @@ use cfi_harden::Prepared;
 use cfi_report::{end_status, report_text};
 use cfi_rewrite::Hardened;
 use cfi_step::{RunEnd, RunReport};
-use rv_word::{Image, NoMemory};
+use rv_word::{Image, ImageVersion, NoMemory};
 use std::alloc::Global;
 use std::fmt;
 use tool_common::{line, status, steps};
@@ -145,7 +145,7 @@ impl DemoOutcome {
         ensures { IfOk result (λ text. text.items ≡ demo_text self.now) }
     {
         match self {
-            DemoOutcome::Ran(report) => report_text(alloc, 1, report),
+            DemoOutcome::Ran(report) => report_text(alloc, ImageVersion::OneHart, report),
             DemoOutcome::Compared(compared) => line(alloc, compared),
             DemoOutcome::Shown(shown) => line(alloc, shown),
         }

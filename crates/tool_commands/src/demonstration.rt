@@ -2,6 +2,7 @@
 
 ghost use Rattle.std.specs.Prelude.{◌≡◌, ℕ, List, [], IfOk, Ok, Some, codes};
 ghost use Rattle.rv_word.specs.Image.{image_profile};
+ghost use Rattle.rv_word.specs.declared.version.ImageVersion.TheVariants.{OneHart};
 ghost use Rattle.cfi_rules.specs.Rules.{IsWellFormed};
 ghost use Rattle.cfi_flow.specs.Entry.{entry_place};
 ghost use Rattle.cfi_harden.specs.Given.{alone};
@@ -23,11 +24,11 @@ use cfi_map_text::Map;
 use cfi_rewrite::{HardenEnd, Hardened, rewrite_prepared};
 use cfi_script::Script;
 use cfi_step::{RunReport, run};
-use cfi_verify::{VerifyEnd, verify};
+use cfi_verify::verify;
 use elf_image::read_image;
 use gen_hardened::laws::demo_is_never_refused;
 use obj_program::Items;
-use rv_word::{Form, Image, NoMemory};
+use rv_word::{End, Form, Image, NoMemory};
 use src_machine::laws::wrong_is_not_legal;
 use src_machine::{SourceEnd, SourceRun};
 use std::alloc::Global;
@@ -84,9 +85,9 @@ pub(crate) fn made(alloc: Global, prepared: &Prepared<'_, '_>) -> Result<Hardene
 
 /// The image for one hart that a file spells.
 pub(crate) fn image_in(bytes: &[u8]) -> Image<'_>
-    requires { IsSpelled 1 bytes.now }
+    requires { IsSpelled OneHart bytes.now }
     ensures only { IsImageIn bytes.now result }
-    ensures version { result.version ≡ 1 }
+    ensures version { result.version ≡ OneHart }
 {
     match read_image(bytes) {
         Ok(image) => image,
@@ -112,8 +113,8 @@ pub(crate) fn run_accepted(
             &mut Script::none(alloc),
             STEP_LIMIT,
         ),
-        Err(VerifyEnd::Reject(_)) => unreachable!(),
-        Err(VerifyEnd::NoMemory) => Err(NoMemory),
+        Err(End::Fault(_)) => unreachable!(),
+        Err(End::NoMemory) => Err(NoMemory),
     }
 }
 

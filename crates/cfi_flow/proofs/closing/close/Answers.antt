@@ -5,7 +5,6 @@ use Rattle.cfi_flow.proofs.closing.close.Goals as goal
 
 pub of-requires : goal.of-requires
 of-requires c = record {
-  known = c.graph_version-version.ensures.known;
   sorts = c.in_ok-sides.ensures.sorts;
   inside = subst (λ (marks : List Bool). All (IsSideInside (length marks)) c.in_ok-sides.sides.items) (sym (c.in_ok-taken.ensures.items ∙ c.marks.ensures)) c.in_ok-sides.ensures.inside;
 }

@@ -18,7 +18,7 @@ collected c =
 pub invariant_of-result : goal.invariant_of-result
 invariant_of-result c =
     let read = collected c in
-    rw (c.of.ensures, read.are) (valid c.args.version c.args.code c.args.calls (lines_of c.args.text.now) read.items c.requires.version c.requires.length c.requires.calls read.whole_is)
+    rw (c.of.ensures, read.are) (valid c.args.version c.args.code c.args.calls (lines_of c.args.text.now) read.items c.requires.length c.requires.calls read.whole_is)
 
 pub returns : goal.returns
 returns c =

@@ -1,5 +1,5 @@
-use Rattle.std.proofs.Common.{◌∙◌, ℕ, ap, get_or-set_other, sym}
-use Rattle.std.proofs.lemmas.Bool.{ne_eqb}
+use Rattle.std.proofs.Common.{◌∙◌, ap, get_or-set_other, sym}
+use Rattle.rv_word.specs.declared.version.ImageVersion.{ImageVersion}
 use Rattle.rv_word.specs.MemoryMap.{profile_of, version_1, version_2}
 use Rattle.rv_code.specs.Encode.{code_of}
 use Rattle.cfi_rules.specs.Rules.{prologue_word_fits, prologue_words}
@@ -8,17 +8,17 @@ use Rattle.cfi_verify.proofs.AnyCall.{same_fits}
 use Rattle.cfi_verify.proofs.prologue.is_prologue_word.Goals as goal
 
 -- the table is the prologue's words but for the one at 13
-pub returns-then-version-eq1 : goal.returns-then-version-eq1
+pub returns-in-OneHart : goal.returns-in-OneHart
 unfolding code_of
-returns-then-version-eq1 c =
+returns-in-OneHart c =
     c.fits_table.ensures
     ∙ same_fits table.PROLOGUE (prologue_words version_1) 13 c.args.index c.args.word (get_or-set_other (prologue_words version_1) 13 c.args.index 0x00c000ef 0)
-    ∙ ap (λ (v : ℕ). prologue_word_fits (profile_of v) c.args.index c.args.word) (sym c.if-version-eq1.true)
+    ∙ ap (λ (v : ImageVersion). prologue_word_fits (profile_of v) c.args.index c.args.word) (sym c.in-OneHart.is)
 
 -- and here but for the one at 17
-pub returns-else-version-eq1 : goal.returns-else-version-eq1
+pub returns-in-EightHarts : goal.returns-in-EightHarts
 unfolding code_of
-returns-else-version-eq1 c =
-    rw (ne_eqb c.args.version 1 c.if-version-eq1.false)
-    (c.fits_table-else-version-eq1.ensures
-    ∙ same_fits table.PROLOGUE_OF_HARTS (prologue_words version_2) 17 c.args.index c.args.word (get_or-set_other (prologue_words version_2) 17 c.args.index 0x00c000ef 0))
+returns-in-EightHarts c =
+    c.fits_table-in-EightHarts.ensures
+    ∙ same_fits table.PROLOGUE_OF_HARTS (prologue_words version_2) 17 c.args.index c.args.word (get_or-set_other (prologue_words version_2) 17 c.args.index 0x00c000ef 0)
+    ∙ ap (λ (v : ImageVersion). prologue_word_fits (profile_of v) c.args.index c.args.word) (sym c.in-EightHarts.is)

@@ -1,4 +1,5 @@
 use Rattle.std.proofs.Common.{ℕ, List, [], ◌∷◌, ◌++◌, ◌/◌, sym, subst, ap, ◌∙◌}
+use Rattle.rv_word.specs.declared.version.ImageVersion.{ImageVersion}
 use Rattle.rv_word.specs.MemoryMap.{Profile, profile_of}
 use Rattle.cfi_scan.specs.Pieces.{HasSeen, Sight}
 use Rattle.cfi_scan.proofs.Pieces.{seen_byte, seen_word, sight}
@@ -12,8 +13,8 @@ returns-in-Some-clause-seen g c bytes seen =
     let p : Profile = profile_of k.units.front in
     let after : List ℕ = bytes ++ c.args.byte ∷ [] in
     let own = subst (λ (s : Sight). HasSeen (profile_of s.version) s bytes) (sym c.self.view_is) seen in
-    subst (λ (v : ℕ). HasSeen (profile_of v) (sight (profile_of next.units.front) next c.push.new.self) after) (ap (λ (s : Sight). s.version) c.self.view_is)
-    (subst (λ (v : ℕ). HasSeen p (sight (profile_of v) next c.push.new.self) after) (sym c.take.ensures.front)
+    subst (λ (v : ImageVersion). HasSeen (profile_of v) (sight (profile_of next.units.front) next c.push.new.self) after) (ap (λ (s : Sight). s.version) c.self.view_is)
+    (subst (λ (v : ImageVersion). HasSeen p (sight (profile_of v) next c.push.new.self) after) (sym c.take.ensures.front)
     (seen_word p k next c.self.inside.carry c.push.new.self c.args.byte c.in-Some.word
     c.in-Some.ensures.word c.push.ensures.after
     c.take.ensures.calls
@@ -25,7 +26,7 @@ returns-in_default-clause-seen g c bytes seen =
     let k = c.self.inside.kept in
     let p : Profile = profile_of k.units.front in
     let own = subst (λ (s : Sight). HasSeen (profile_of s.version) s bytes) (sym c.self.view_is) seen in
-    subst (λ (v : ℕ). HasSeen (profile_of v) (sight p k c.push.new.self) (bytes ++ c.args.byte ∷ [])) (ap (λ (s : Sight). s.version) c.self.view_is)
+    subst (λ (v : ImageVersion). HasSeen (profile_of v) (sight p k c.push.new.self) (bytes ++ c.args.byte ∷ [])) (ap (λ (s : Sight). s.version) c.self.view_is)
     (seen_byte p k c.self.inside.carry c.push.new.self c.args.byte
     c.in_default.ensures.word c.push.ensures.after
     bytes own)

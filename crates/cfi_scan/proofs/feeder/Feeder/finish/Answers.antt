@@ -1,5 +1,6 @@
 use Rattle.std.proofs.Common.{◌≡◌, ℕ, ◌/◌, min, sym, subst, length, take, drop, arith}
 use Rattle.std.proofs.lemmas.List.{length-drop}
+use Rattle.rv_word.specs.declared.version.ImageVersion.{ImageVersion}
 use Rattle.rv_word.specs.MemoryMap.{Profile, profile_of}
 use Rattle.cfi_scan.specs.Pieces.{HasSeen, IsOf, Listed, Sight, prologue_count}
 use Rattle.cfi_scan.proofs.Pieces.{ended, seen_count}
@@ -15,7 +16,7 @@ returns-clause-of c bytes seen =
     let count : length (drop (prologue_count p) own.words) ≡ c.saturating_sub.result = omega (arith, front, length-drop (prologue_count p) own.words, seen_count p k t bytes own, c.fed-fed.ensures, c.saturating_sub.ensures) in
     let shut = c.close.new.self in
     let fed : ℕ = c.fed-fed.result in
-    let left : ℕ → Listed = λ v. record {
+    let left : ImageVersion → Listed = λ v. record {
       version = v;
       prologue = take (min (fed / 4) (prologue_count (profile_of v))) k.prologue;
       entries = shut.entries.items;
@@ -24,6 +25,6 @@ returns-clause-of c bytes seen =
       fed = fed;
     } in
     subst (λ (s : Sight). IsOf (profile_of s.version) s.calls (left shut.front) bytes) c.self.view_is
-    (subst (λ (v : ℕ). IsOf p k.units.calls (left v) bytes) (sym c.close.ensures.front)
+    (subst (λ (v : ImageVersion). IsOf p k.units.calls (left v) bytes) (sym c.close.ensures.front)
     (ended p k t shut.entries.items shut.done shut.last fed bytes own c.fed-fed.ensures c.close.ensures.room
     (λ fits. c.close.ensures.splits (drop (prologue_count p) own.words) count (omega (arith, fits, count)))))

@@ -1,4 +1,5 @@
 use Rattle.std.proofs.Common.{ℕ, List, ◌++◌, ◌/◌, ◌%◌, sym, subst, ap, ◌∙◌}
+use Rattle.rv_word.specs.declared.version.ImageVersion.{ImageVersion}
 use Rattle.rv_word.specs.MemoryMap.{Profile, profile_of}
 use Rattle.cfi_scan.specs.Pieces.{HasSeen, Sight}
 use Rattle.cfi_scan.proofs.Pieces.{seen_words, sight}
@@ -11,8 +12,8 @@ returns-clause-seen g c bytes seen =
     let p : Profile = profile_of k.units.front in
     let after : List ℕ = bytes ++ c.args.piece.now in
     let own = subst (λ (s : Sight). HasSeen (profile_of s.version) s bytes) (sym c.self.view_is) seen in
-    subst (λ (v : ℕ). HasSeen (profile_of v) (sight (profile_of next.units.front) next c.pass_words.new.self) after) (ap (λ (s : Sight). s.version) c.self.view_is)
-    (subst (λ (v : ℕ). HasSeen p (sight (profile_of v) next c.pass_words.new.self) after) (sym c.take_words.ensures.front)
+    subst (λ (v : ImageVersion). HasSeen (profile_of v) (sight (profile_of next.units.front) next c.pass_words.new.self) after) (ap (λ (s : Sight). s.version) c.self.view_is)
+    (subst (λ (v : ImageVersion). HasSeen p (sight (profile_of v) next c.pass_words.new.self) after) (sym c.take_words.ensures.front)
     (seen_words p k next c.self.inside.carry c.pass_words.new.self c.args.piece.now
     (ap (λ (s : Sight). s.fed % 4) c.self.view_is ∙ c.requires.whole)
     c.requires.cut

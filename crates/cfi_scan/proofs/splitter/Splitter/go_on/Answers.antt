@@ -1,4 +1,5 @@
 use Rattle.std.proofs.Common.{◌≡◌, ◌+◌, ◌*◌, ◌<◌, ◌≤◌, ℕ, List, [], ◌∷◌, ◌++◌, length, ap, sym, ◌∙◌, subst, arith}
+use Rattle.rv_word.specs.declared.version.ImageVersion.{ImageVersion}
 use Rattle.rv_word.specs.MemoryMap.{profile_of}
 use Rattle.cfi_reader.specs.declared.reader.Step.TheVariants.{Before, Done, More}
 use Rattle.cfi_reader.specs.Reading.{LeadsOn}
@@ -42,8 +43,8 @@ returns-in-Before-clause-splits c words len s =
     (subst (λ (here : ℕ). LeadsOn c.args.self.now.calls c.args.self.now.reader c.args.word here (Before c.in-Before.entry)) place c.in-Before.ensures)
     room s) in
     let after = c.begin.new.self in
-    subst (λ (v : ℕ). Splits c.args.self.now.calls (profile_of v).units_from [] after.entries.items after.done after.last after.reader (words ++ c.args.word ∷ [])) c.end-in-Before.ensures.front
+    subst (λ (v : ImageVersion). Splits c.args.self.now.calls (profile_of v).units_from [] after.entries.items after.done after.last after.reader (words ++ c.args.word ∷ [])) c.end-in-Before.ensures.front
     (subst (λ (ns : List ℕ). Splits ns (profile_of mid.front).units_from [] after.entries.items after.done after.last after.reader (words ++ c.args.word ∷ [])) c.end-in-Before.ensures.calls
     (c.begin.ensures.splits words len
-    (subst (λ (v : ℕ). Splits mid.calls (profile_of v).units_from (c.args.word ∷ []) mid.entries.items mid.done mid.last mid.reader words) (sym c.end-in-Before.ensures.front)
+    (subst (λ (v : ImageVersion). Splits mid.calls (profile_of v).units_from (c.args.word ∷ []) mid.entries.items mid.done mid.last mid.reader words) (sym c.end-in-Before.ensures.front)
     (subst (λ (ns : List ℕ). Splits ns (profile_of c.args.self.now.front).units_from (c.args.word ∷ []) mid.entries.items mid.done mid.last mid.reader words) (sym c.end-in-Before.ensures.calls) whole))))

@@ -1,5 +1,6 @@
-use Rattle.std.proofs.Common.{◌∙◌, ℕ, ap, arith, sym}
+use Rattle.std.proofs.Common.{◌∙◌, ap, arith, sym}
 use Rattle.std.specs.Prelude.{is_some}
+use Rattle.rv_word.specs.declared.version.ImageVersion.{ImageVersion}
 use Rattle.rv_word.specs.Image.{image_profile}
 use Rattle.rv_word.specs.MemoryMap.{profile_of}
 use Rattle.rv_word.proofs.Versions.{is_profile, laid_out}
@@ -14,7 +15,7 @@ pub returns-then-address-start : goal.returns-then-address-start
 returns-then-address-start c =
     let laid = laid_out _ (is_profile c.self.inside.image.now.version) in
     let from = c.units_from-start.ensures ∙ ap (λ (q : Pair). (image_profile q.image).units_from) (sym c.self.view_is) in
-    c.is_start.ensures ∙ ap (λ (v : ℕ). starts_at (profile_of v) c.self.inside.starts.listing c.args.address) c.self.invariant.version
+    c.is_start.ensures ∙ ap (λ (v : ImageVersion). starts_at (profile_of v) c.self.inside.starts.listing c.args.address) c.self.invariant.version
     ∙ sym (start_told _ laid _ _ _ c.self.invariant.told c.args.address)
     ∙ place_told _ laid _ _ _ c.self.invariant.told c.args.address (omega (arith, from, c.if-address-start.true))
     ∙ ap (λ (q : Pair). is_some (place_at (image_profile q.image) (code_words q.image.code) c.args.address)) c.self.view_is

@@ -1,4 +1,5 @@
-use Rattle.std.proofs.Common.{◌-◌, ◌/◌, ◌∙◌, ℕ, ap, arith, drop, sym}
+use Rattle.std.proofs.Common.{◌-◌, ◌/◌, ◌∙◌, ap, arith, drop, sym}
+use Rattle.rv_word.specs.declared.version.ImageVersion.{ImageVersion}
 use Rattle.rv_word.specs.Image.{image_profile}
 use Rattle.rv_word.specs.MemoryMap.{CODE_START, profile_of}
 use Rattle.rv_word.proofs.Versions.{is_profile, laid_out}
@@ -14,14 +15,14 @@ use Rattle.cfi_verify.proofs.verifier.Checked.unit_at.Goals as goal
 pub unit_of-requires-clause-low : goal.unit_of-requires-clause-low
 unit_of-requires-clause-low c =
     let laid = laid_out _ (is_profile c.self.inside.image.now.version) in
-    let answer = ap (λ (v : ℕ). starts_at (profile_of v) c.self.inside.starts.listing c.args.address) (sym c.self.invariant.version) ∙ sym c.is_start.ensures in
+    let answer = ap (λ (v : ImageVersion). starts_at (profile_of v) c.self.inside.starts.listing c.args.address) (sym c.self.invariant.version) ∙ sym c.is_start.ensures in
     let within = start_within _ laid _ c.args.address (start_told _ laid _ _ _ c.self.invariant.told c.args.address ∙ answer ∙ c.if-is_start.true) in
     let low = within.low in omega (arith, low, laid.low)
 
 pub unit_of-requires-clause-high : goal.unit_of-requires-clause-high
 unit_of-requires-clause-high c =
     let laid = laid_out _ (is_profile c.self.inside.image.now.version) in
-    let answer = ap (λ (v : ℕ). starts_at (profile_of v) c.self.inside.starts.listing c.args.address) (sym c.self.invariant.version) ∙ sym c.is_start.ensures in
+    let answer = ap (λ (v : ImageVersion). starts_at (profile_of v) c.self.inside.starts.listing c.args.address) (sym c.self.invariant.version) ∙ sym c.is_start.ensures in
     let within = start_within _ laid _ c.args.address (start_told _ laid _ _ _ c.self.invariant.told c.args.address ∙ answer ∙ c.if-is_start.true) in
     let end = within.end in
     let words = length-code_words _ c.code.ensures.size.words in
@@ -31,7 +32,7 @@ unit_of-requires-clause-high c =
 pub returns-then-is_start : goal.returns-then-is_start
 returns-then-is_start c =
     let laid = laid_out _ (is_profile c.self.inside.image.now.version) in
-    let answer = ap (λ (v : ℕ). starts_at (profile_of v) c.self.inside.starts.listing c.args.address) (sym c.self.invariant.version) ∙ sym c.is_start.ensures in
+    let answer = ap (λ (v : ImageVersion). starts_at (profile_of v) c.self.inside.starts.listing c.args.address) (sym c.self.invariant.version) ∙ sym c.is_start.ensures in
     c.unit_of.ensures
     ∙ ap (λ bytes. recognised (drop ((c.args.address - CODE_START) / 4) (code_words bytes)) c.args.address) c.code.ensures.value
     ∙ sym (unit_told _ laid _ _ _ c.self.invariant.told c.args.address (answer ∙ c.if-is_start.true))
@@ -40,6 +41,6 @@ returns-then-is_start c =
 pub returns-else-is_start : goal.returns-else-is_start
 returns-else-is_start c =
     let laid = laid_out _ (is_profile c.self.inside.image.now.version) in
-    let answer = ap (λ (v : ℕ). starts_at (profile_of v) c.self.inside.starts.listing c.args.address) (sym c.self.invariant.version) ∙ sym c.is_start.ensures in
+    let answer = ap (λ (v : ImageVersion). starts_at (profile_of v) c.self.inside.starts.listing c.args.address) (sym c.self.invariant.version) ∙ sym c.is_start.ensures in
     sym (unit_untold _ laid _ _ _ c.self.invariant.told c.args.address (answer ∙ c.if-is_start.false))
     ∙ ap (λ (q : Pair). unit_at (image_profile q.image) (code_words q.image.code) c.args.address) c.self.view_is

@@ -1,8 +1,7 @@
 use Rattle.std.proofs.Common.{◌<◌, ◌≤◌, ◌++◌, ◌∷◌, [], ℕ, length, refl, subst, ap, ◌∙◌}
 use Rattle.std.specs.Prelude.{slice_index}
-use Rattle.cfi_graph.specs.declared.line.GraphLine.{GraphLine}
+use Rattle.cfi_graph.specs.declared.line.GraphLine.TheVariants.{Class}
 use Rattle.cfi_graph.specs.declared.line.Sort.{Sort}
-use Rattle.cfi_graph.specs.Graph.{line_of_class}
 use Rattle.cfi_map.specs.LabelOf.{all_classes}
 use Rattle.cfi_writer.proofs.LineList.{all_class_lines, next_class}
 use Rattle.cfi_writer.proofs.chosen.Chosen.push_side_lines.Goals as goal
@@ -15,7 +14,7 @@ loop-i-preserved c =
     (subst (λ (n : ℕ). c.loop-i.i < n) c.requires.many c.loop-i-test.true) (subst (λ (n : ℕ). n ≤ length c.args.labels.now) c.requires.many c.requires.enough)
     c.loop-i.invariant refl c.in_ok-gates.ensures
     (c.in_ok-push.ensures.items
-    ∙ ap (λ (line : GraphLine). c.loop-i.lines.items ++ line ∷ []) (c.of_class.ensures ∙ ap (λ (sort : Sort). line_of_class sort label c.in_ok-gates.gates) c.sort.ensures))
+    ∙ ap (λ (sort : Sort). c.loop-i.lines.items ++ Class sort label c.in_ok-gates.gates ∷ []) c.sort.ensures)
 
 pub returns : goal.returns
 returns c =
