@@ -150,8 +150,10 @@ def main(words):
             path.write_text(content, encoding="utf-8")
         elif not path.exists() or path.read_text(encoding="utf-8") != content:
             print("docs/%s is not what docs/pictures.py draws" % name)
-            wrong = 1
-    return wrong
+            wrong += 1
+    if words:
+        print("%d passed, %d failed" % (len(PICTURES) - wrong, wrong))
+    return min(wrong, 1)
 
 
 if __name__ == "__main__":
