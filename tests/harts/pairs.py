@@ -86,29 +86,29 @@ def pair(names, kind, values, second):
 
 
 def compared(path):
-    """How many rows a table has, and how many of them differ."""
+    """How many rows a table has, how many of them with graphs of version 2, and how many of them differ."""
     source = (CRATES / path).read_text()
     names = Names("\n".join((CRATES / name).read_text() for name in SHARED) + source)
     first = source.find("static ROWS_OF_HARTS")
     parts = [(source, False)] if first < 0 else [(source[:first], False), (source[first:], True)]
-    count = wrong = 0
+    count = of_version_2 = wrong = 0
     for text, second in parts:
         for kind, values in rows_of(text):
             version, words, graph, told = pair(names, kind, values, second)
             told = told.replace("\\n", "").replace("rejected ", "") or "accepted"
             got = verdict(version, words, graph.encode()).replace("rejected ", "")
-            count, wrong = count + 1, wrong + (got != told)
+            count, of_version_2, wrong = count + 1, of_version_2 + graph.startswith("rvcfi-graph 2"), wrong + (got != told)
             if got != told:
                 print("%s: %s, and by the rules %s: %s" % (path, told, got, ", ".join(values)))
-    return count, wrong
+    return count, of_version_2, wrong
 
 
 def main():
-    wrong = 0
-    for path in TABLES:
-        count, differ = compared(path)
+    found = [compared(path) for path in TABLES]
+    for path, (count, _, differ) in zip(TABLES, found):
         print("%s: %d rows, %d differ" % (path, count, differ))
-        wrong += differ
+    count, of_version_2, wrong = map(sum, zip(*found))
+    print("%d pairs, %d of them with graphs of version 2, %d differ" % (count, of_version_2, wrong))
     return 1 if wrong else 0
 
 
