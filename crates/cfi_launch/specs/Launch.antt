@@ -12,7 +12,6 @@ use Rattle.cfi_graph.specs.Graph.{GraphParts}
 use Rattle.cfi_rules.specs.Rules.{IsRejected, IsWellFormed}
 use Rattle.cfi_script.specs.Script.{ScriptParts}
 use Rattle.cfi_script.specs.ScriptText.{script_of}
-use Rattle.cfi_step.specs.declared.report.RunReport.{RunReport}
 use Rattle.cfi_pair.specs.Opening.{AreRead, IsPairFault}
 use Rattle.cfi_pair.specs.Spelled.{Spell}
 use Rattle.cfi_launch.specs.SafeRun.{IsSafeRun, undisturbed_script}

@@ -27,7 +27,11 @@ pub enum PairFault {
 }
 
 /// The image and the graph that two texts spell.
-pub fn open_pair<'a>(alloc: Global, image: &'a [u8], graph: &[u8]) -> Result<Pair<'a>, End<PairFault>>
+pub fn open_pair<'a>(
+    alloc: Global,
+    image: &'a [u8],
+    graph: &[u8],
+) -> Result<Pair<'a>, End<PairFault>>
     ensures spelled { IfOk result (λ pair. Spell image.now graph.now pair.image pair.graph) }
     ensures read { IfOk result (λ pair. AreRead image.now graph.now pair.graph) }
     ensures refused { IfErr result (IsPairEnd image.now graph.now) }

@@ -2,7 +2,7 @@ ghost use Rattle.std.specs.Prelude.{◌≡◌, ◌≤◌, ◌⊎◌, option_map}
 ghost use Rattle.rvcfi_run_c.specs.Told.{IsComplete, IsRan, IsToldOf, output_of, run_of, script_in};
 
 use crate::told::{RvcfiRun, run_of};
-use cfi_launch::{Launched, launch};
+use cfi_launch::{LaunchFault, Launched, launch};
 use rv_word::End;
 use std::alloc::Global;
 
