@@ -75,7 +75,10 @@ pub fn rewrite_joined(
 
 /// Hardens a program that `cfi_harden::prepare_program` gave: its image, its graph and its map, or the first that stands against
 /// placing it.
-pub fn rewrite_prepared(alloc: Global, prepared: &Prepared<'_, '_>) -> Result<Hardened, End<Refusal>>
+pub fn rewrite_prepared(
+    alloc: Global,
+    prepared: &Prepared<'_, '_>,
+) -> Result<Hardened, End<Refusal>>
     requires { IsOfRequest prepared.now }
     ensures placed { HardensPrepared prepared.now result }
     // For each request of which it is the prepared program, this is what `rewrite_joined` promises.
