@@ -112,7 +112,10 @@ fn is_text(text: Result<String, AllocError>, told: &str) -> bool {
 /// Whether it is told why no run begins.
 fn ends_so(alloc: Global, end: End<SourceFault>, told: &str) -> bool {
     match end {
-        End::Fault(SourceFault::BadMap(number)) => is_text(format!(in alloc; "line {number}"), told),
+        End::Fault(SourceFault::BadMap(number)) => is_text(
+            format!(in alloc; "line {number}"),
+            told,
+        ),
         End::Fault(SourceFault::RelocRange(section, offset)) => {
             is_text(format!(in alloc; "range {section} {offset}"), told)
         }
