@@ -6,7 +6,7 @@ use Rattle.rv_word.proofs.Cases.{cases_Option}
 use Rattle.rv_word.specs.MemoryMap.{DATA_END, DATA_START}
 use Rattle.rv_word.specs.declared.form.Form.{Form}
 use Rattle.text_lines.specs.declared.reason.Reason.{Reason}
-use Rattle.text_lines.specs.declared.end.TextEnd.TheVariants.{Line}
+use Rattle.text_lines.specs.Answers.{line_fault}
 use Rattle.obj_program.specs.DataAtMap.{init_size}
 use Rattle.elf_image.specs.Fault.{fault_of}
 use Rattle.cfi_map_text.specs.Map.{MapParts}
@@ -115,7 +115,7 @@ module _ (request : Request) (p : PreparedParts) (map : List ℕ) (roomy : IsRoo
         subst (λ (n : MapParts). first_out p n ≡ None) (sym same) source.in_range;
   }
 
-  pub runnable_text : (line : ℕ) (reason : Reason) → map_of map ≡ Err (Line line reason) → IsRunnable request p map
+  pub runnable_text : (line : ℕ) (reason : Reason) → map_of map ≡ Err (line_fault line reason) → IsRunnable request p map
   runnable_text line reason wrong = record { roomy = roomy; in_range = λ m is. absurd (cc (is.read, wrong)) }
 
   pub runnable_place : (m : MapParts) (line : ℕ) → WrongIsNotLegal → map_of map ≡ Ok m → IsWrongLine p.program p.closed p.entry m line
@@ -163,7 +163,7 @@ module _ (request : Request) (p : PreparedParts) (map : List ℕ) (roomy : IsRoo
           | inr (f, some) ↦ subst (λ (r : Refused). IsCompareRefused request image map r) (sym (after.wrong f some)) (p, runnable, some)
         ]
 
-    pub wrong_text : (line : ℕ) (reason : Reason) → map_of map ≡ Err (Line line reason) → IsAfterImage image (refused.Map line (Text reason)) refusal
+    pub wrong_text : (line : ℕ) (reason : Reason) → map_of map ≡ Err (line_fault line reason) → IsAfterImage image (refused.Map line (Text reason)) refusal
         → IsCompareRefused request image map refusal
     wrong_text line reason wrong after =
         let runnable = runnable_text line reason wrong in

@@ -5,8 +5,9 @@ use Rattle.std.specs.Prelude.{◌≡◌, ℕ, List, [], ◌∷◌, ◌++◌, cod
 use Rattle.rv_word.specs.Image.{Contents, image_profile}
 use Rattle.rv_word.specs.declared.form.Form.{Form}
 use Rattle.rv_word.specs.declared.form.Form.TheVariants.{Plain}
-use Rattle.text_lines.specs.declared.end.TextEnd.{TextEnd}
-use Rattle.text_lines.specs.declared.end.TextEnd.TheVariants.{Line}
+use Rattle.rv_word.specs.declared.end.End.{End}
+use Rattle.text_lines.specs.declared.fault.LineFault.{LineFault}
+use Rattle.text_lines.specs.Answers.{line_fault}
 use Rattle.elf_image.specs.Fault.{fault_of}
 use Rattle.elf_image.specs.declared.refusal.ImageRefusal.{ImageRefusal}
 use Rattle.obj_program.specs.DataAtMap.{init_size}
@@ -76,7 +77,7 @@ abbrev pub compare_asked : CompareRequest → CompareWords
 compare_asked r = record { objects = objects_asked r.objects; entry = r.entry.now; policy = option_map (λ name. name.now) r.policy; image = r.image.now; map = r.map.now; input = option_map (λ name. name.now) r.input; limit = r.limit }
 
 -- the form of the map that a text spells; where it spells none, no form is asked for
-abbrev pub form_told : Result MapParts TextEnd → Form
+abbrev pub form_told : Result MapParts (End LineFault) → Form
 form_told (Ok m) = m.form
 form_told (Err end) = Plain
 
@@ -121,7 +122,7 @@ IsCompareRefused request image map (Object (rewriter.RelocRange section offset))
 IsCompareRefused request image map (Object early) = Refuses request early
 IsCompareRefused request image map (Image refusal) = (p : PreparedParts) × IsRunnable request p map × (fault_of image ≡ Some refusal)
 IsCompareRefused request image map (Map line (Text reason)) =
-    (p : PreparedParts) × IsRunnable request p map × (fault_of image ≡ None) × (map_of map ≡ Err (Line line reason))
+    (p : PreparedParts) × IsRunnable request p map × (fault_of image ≡ None) × (map_of map ≡ Err (line_fault line reason))
 IsCompareRefused request image map (Map line Place) =
     (p : PreparedParts) × (m : MapParts) × IsRunnable request p map × (fault_of image ≡ None) × (map_of map ≡ Ok m) × IsWrongLine p.program p.closed p.entry m line
 IsCompareRefused request image map other = ⊥

@@ -1,7 +1,7 @@
 ghost use Rattle.std.specs.Prelude.{◌≡◌, ◌≤◌, ℕ, List, Ok, Some, Err, IfOk, IfErr, IfSome, IsOk, option_copied, option_map, map, ◌∷◌, []};
 ghost use Rattle.tool_common.specs.Lines.{with_newline};
 ghost use Rattle.text_lines.specs.Decimal.{MAX_STEP};
-ghost use Rattle.text_lines.specs.declared.end.TextEnd.TheVariants as TextEnd;
+ghost use Rattle.text_lines.specs.Answers.{line_fault};
 ghost use Rattle.tool_io.specs.Names.{AreRead};
 ghost use Rattle.tool_io.specs.Reading.{CountsReads, IsOnlyRead};
 ghost use Rattle.tool_common.specs.Reads.{IsFault, IsStop, IsTooLong, file_names};
@@ -21,11 +21,11 @@ use cfi_harden::Prepared;
 use cfi_map_text::{Map, read_map};
 use elf_image::read_image;
 use obj_program::Items;
-use rv_word::{Bytes, Form, NoMemory};
+use rv_word::{Bytes, End, Form, NoMemory};
 use src_machine::laws::wrong_is_not_legal;
 use src_machine::{SourceEnd, SourceRun};
 use std::alloc::Global;
-use text_lines::{Reason, TextEnd};
+use text_lines::{LineFault, Reason};
 use tool_common::{
     MapReason, Refusal, Stop, duplicate_line, file_word, line, read_all, status, steps, text_named,
 };
@@ -233,7 +233,7 @@ fn after_the_program(
     line: u64,
     reason: Reason,
 ) -> Result<CompareOutcome, NoMemory>
-    ensures { (given : Given) (text input : List ℕ) → Gives given (Ok items.now) → map_of text ≡ Err (TextEnd.Line line reason)
+    ensures { (given : Given) (text input : List ℕ) → Gives given (Ok items.now) → map_of text ≡ Err (line_fault line reason)
         → IfOk result (IsCompareOf (asked_at text given request.now.entry.now (option_copied policy.entry))
         image.now text input request.now.limit) }
 {
@@ -264,10 +264,10 @@ fn compare_spelled(
 {
     match read_map(alloc, map) {
         Ok(map) => compare_program(alloc, request, items, policy, image, &map, input),
-        Err(TextEnd::Line(line, reason)) => {
+        Err(End::Fault(LineFault(line, reason))) => {
             after_the_program(alloc, request, items, policy, image, line, reason)
         }
-        Err(TextEnd::NoMemory) => Err(NoMemory),
+        Err(End::NoMemory) => Err(NoMemory),
     }
 }
 
