@@ -14,7 +14,7 @@ ghost use Rattle.cfi_harden.specs.Request.{Request};
 ghost use Rattle.tool_commands.specs.Compare.{ExplainsCompare, IsAfterImage, IsCompareOf, IsFresh, IsImageCompared, IsRoomy, IsRoomyEnd, answer_status, asked_at, compare_asked, compare_line, compare_link_words, compare_names, compare_status, compare_words};
 ghost use Rattle.tool_commands.specs.Objects.{Gives, given_by};
 
-use crate::objects::{GivenEnd, ObjectBytes, Objects, program_given};
+use crate::objects::{GivenFault, ObjectBytes, Objects, program_given};
 use crate::source::{roomy, source_on};
 use cfi_compare::{Compared, compare};
 use cfi_harden::Prepared;
@@ -23,7 +23,7 @@ use elf_image::read_image;
 use obj_program::Items;
 use rv_word::{Bytes, End, Form, NoMemory};
 use src_machine::laws::wrong_is_not_legal;
-use src_machine::{SourceEnd, SourceRun};
+use src_machine::{SourceFault, SourceRun};
 use std::alloc::Global;
 use text_lines::{LineFault, Reason};
 use tool_common::{
@@ -177,27 +177,29 @@ fn compare_at(
     wrong_is_not_legal();
     match source_on(alloc, prepared, request.entry, map, input) {
         Ok(mut source) => compare_image(alloc, &mut source, image, input, request.limit),
-        Err(SourceEnd::RelocRange(section, offset)) => {
+        Err(End::Fault(SourceFault::RelocRange(section, offset))) => {
             let refusal = cfi_harden::Refusal::RelocRange(section, offset);
             Ok(CompareOutcome::Refused(Refusal::Object(refusal)))
         }
-        Err(SourceEnd::BadMap(line)) => {
+        Err(End::Fault(SourceFault::BadMap(line))) => {
             let refusal = after_the_image(image, Refusal::Map(line, MapReason::Place));
             Ok(CompareOutcome::Refused(refusal))
         }
-        Err(SourceEnd::NoMemory) => Err(NoMemory),
+        Err(End::NoMemory) => Err(NoMemory),
     }
 }
 
 /// What is told where there is no program that could be run at a map.
-fn not_run(end: GivenEnd) -> Result<CompareOutcome, NoMemory>
+fn not_run(end: End<GivenFault>) -> Result<CompareOutcome, NoMemory>
     ensures { (asked : Request) (image text input : List ℕ) (limit : ℕ) → IsRoomyEnd asked end
         → IfOk result (IsCompareOf asked image text input limit) }
 {
     match end {
-        GivenEnd::Refused(refusal) => Ok(CompareOutcome::Refused(Refusal::Object(refusal))),
-        GivenEnd::Duplicate(name) => Ok(CompareOutcome::Duplicate(name)),
-        GivenEnd::NoMemory => Err(NoMemory),
+        End::Fault(GivenFault::Refused(refusal)) => {
+            Ok(CompareOutcome::Refused(Refusal::Object(refusal)))
+        }
+        End::Fault(GivenFault::Duplicate(name)) => Ok(CompareOutcome::Duplicate(name)),
+        End::NoMemory => Err(NoMemory),
     }
 }
 
