@@ -3,6 +3,8 @@ use Rattle.std.proofs.Common.{◌≡◌, ℕ, ◌+◌, ◌-◌, ◌<◌, ◌≤�
 use Rattle.std.proofs.lemmas.List.{drop_all, drop_more, get_or-map, length-map, take_all, take_more}
 use Rattle.std.proofs.lemmas.List.Sums.{sum_by_push}
 use Rattle.rv_word.proofs.Cases.{mapped}
+use Rattle.rv_word.specs.declared.end.End.{End}
+use Rattle.rv_word.specs.declared.end.End.TheVariants.{Fault, NoMemory}
 use Rattle.elf_tables.specs.Header.{e_shnum}
 use Rattle.obj_join.specs.Joined.{among}
 use Rattle.obj_join.specs.Said.{Said}
@@ -12,10 +14,10 @@ use Rattle.obj_rules.specs.declared.fault.ItemFault.TheVariants as items
 use Rattle.obj_said.specs.SaidOf.{said_of}
 use Rattle.obj_items.specs.Added.{section_total}
 use Rattle.obj_items.specs.Finished.{IsFinished, input_by, told_in}
-use Rattle.obj_items.specs.declared.join_end.JoinEnd.{JoinEnd}
-use Rattle.obj_items.specs.declared.join_end.JoinEnd.TheVariants as end
-use Rattle.cfi_harden.specs.declared.joined.JoinedEnd.{JoinedEnd}
-use Rattle.cfi_harden.specs.declared.joined.JoinedEnd.TheVariants as E
+use Rattle.obj_items.specs.declared.join_fault.JoinFault.{JoinFault}
+use Rattle.obj_items.specs.declared.join_fault.JoinFault.TheVariants as join
+use Rattle.cfi_harden.specs.declared.joined.JoinedFault.{JoinedFault}
+use Rattle.cfi_harden.specs.declared.joined.JoinedFault.TheVariants as F
 use Rattle.cfi_harden.specs.declared.refusal.Refusal.{Refusal}
 use Rattle.cfi_harden.specs.Given.{first_unread, unread}
 use Rattle.cfi_harden.specs.Joining.{AddsAll, IsAdding, IsNear}
@@ -61,11 +63,11 @@ module _ {X : Type 0} (bytes : X → List ℕ) (files : List X) (join : List (Li
               ∙ sym (first_next (i + 1) (section_total join) object (drop (i + 1) (map bytes files)) none) ∙ of_all,
         )
 
-    pub unread_here : (e : JoinedEnd) (after : List (List ℕ)) → IsAdding (i + 1) join object (Err e) after → AddsAll (map bytes files) (Err e) after
-    unread_here (E.Refused refusal) after some =
+    pub unread_here : (e : End JoinedFault) (after : List (List ℕ)) → IsAdding (i + 1) join object (Err e) after → AddsAll (map bytes files) (Err e) after
+    unread_here (Fault (F.Refused refusal)) after some =
         sym of_all ∙ first_here (i + 1) (section_total join) object (drop (i + 1) (map bytes files)) refusal some
-    unread_here (E.Duplicate name) after none = absurd none
-    unread_here E.NoMemory after is = tt
+    unread_here (Fault (F.Duplicate name)) after none = absurd none
+    unread_here NoMemory after is = tt
 
   pub all_added : length files ≤ i → AddsAll (map bytes files) (Ok tt) join
   unfolding first_unread
@@ -93,11 +95,11 @@ in_near objects (items.Undefined n) few =
     omega arith
 in_near objects other few = tt
 
-near : (objects : List (List ℕ)) (e : JoinEnd) → length objects < 2 ^ 63 → option_map (told_in objects) (fault_of (input_by objects)) ≡ Some e → IsNear e
-near objects e few tells =
-    let (fault, some, is) = mapped (told_in objects) (fault_of (input_by objects)) e tells in
+near : (objects : List (List ℕ)) (told : JoinFault) → length objects < 2 ^ 63 → option_map (told_in objects) (fault_of (input_by objects)) ≡ Some told → IsNear told
+near objects told few tells =
+    let (fault, some, is) = mapped (told_in objects) (fault_of (input_by objects)) told tells in
     subst IsNear is (in_near objects fault few)
 
-pub finished_near : (objects : List (List ℕ)) (e : JoinEnd) → length objects < 2 ^ 63 → IsFinished objects (Err e) → IsNear e
-finished_near objects (end.Undefined o s) few (once, tells) = near objects (end.Undefined o s) few tells
+pub finished_near : (objects : List (List ℕ)) (told : JoinFault) → length objects < 2 ^ 63 → IsFinished objects (Err (Fault told)) → IsNear told
+finished_near objects (join.Undefined o s) few (once, tells) = near objects (join.Undefined o s) few tells
 finished_near objects other few is = tt

@@ -2,10 +2,10 @@
 -- comes to that is given.
 use Rattle.std.proofs.Common.{ℕ, inr, Result, Ok, Err, refl, subst}
 use Rattle.rv_word.specs.Form.{graph_version}
+use Rattle.rv_word.specs.declared.end.End.{End}
+use Rattle.rv_word.specs.declared.end.End.TheVariants.{Fault, NoMemory}
 use Rattle.obj_program.specs.Program.{Program}
 use Rattle.cfi_closed.specs.Closed.{ClosedGraph}
-use Rattle.cfi_harden.specs.declared.refusal.HardenEnd.{HardenEnd}
-use Rattle.cfi_harden.specs.declared.refusal.HardenEnd.TheVariants as ends
 use Rattle.cfi_harden.specs.declared.refusal.Refusal.{Refusal}
 use Rattle.cfi_harden.specs.declared.refusal.Refusal.TheVariants as R
 use Rattle.cfi_harden.specs.Given.{IsGiven}
@@ -15,12 +15,12 @@ use Rattle.cfi_harden.specs.Preparing.{Enters, Reads}
 use Rattle.cfi_harden.specs.Refused.{Hardens, HardensProgram, PreparesProgram, Refuses, RefusesProgram}
 use Rattle.cfi_harden.specs.Request.{ProgramRequest, Request, program_request}
 
-pub not_entered : (request : ProgramRequest) (end : HardenEnd) → Enters (graph_version request.form) request.program request.entry request.policy (Err end)
+pub not_entered : (request : ProgramRequest) (end : End Refusal) → Enters (graph_version request.form) request.program request.entry request.policy (Err end)
     → PreparesProgram request (Err end)
-not_entered request (ends.Refused R.NoEntry) refuses = (refuses, tt)
-not_entered request (ends.Refused (R.Policy n)) refuses = (refuses, tt)
-not_entered request (ends.Refused other) refuses = absurd refuses
-not_entered request ends.NoMemory refuses = tt
+not_entered request (Fault R.NoEntry) refuses = (refuses, tt)
+not_entered request (Fault (R.Policy n)) refuses = (refuses, tt)
+not_entered request (Fault other) refuses = absurd refuses
+not_entered request NoMemory refuses = tt
 
 pub is_prepared : (request : ProgramRequest) (entry : ℕ) (closed : ClosedGraph) →
     Enters (graph_version request.form) request.program request.entry request.policy (Ok (entry, closed))
@@ -42,8 +42,8 @@ module _ (request : Request) (program : Program) (read : Reads request.given (Ok
   refused_given refusal is = inr (read.0, moved (λ r. RefusesProgram r refusal) is)
 
 -- what hardening comes to
-pub hardens_given : (request : Request) (result : Result HardenedParts HardenEnd) → IsGiven request.given
+pub hardens_given : (request : Request) (result : Result HardenedParts (End Refusal)) → IsGiven request.given
     → HardensProgram (program_request request) result → Hardens request result
 hardens_given request (Ok h) given hardens = (given, hardens)
-hardens_given request (Err (ends.Refused refusal)) given hardens = inr (given, hardens)
-hardens_given request (Err ends.NoMemory) given hardens = tt
+hardens_given request (Err (Fault refusal)) given hardens = inr (given, hardens)
+hardens_given request (Err NoMemory) given hardens = tt

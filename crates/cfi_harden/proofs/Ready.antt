@@ -4,11 +4,11 @@ use Rattle.std.specs.Prelude.{sum}
 use Rattle.rv_word.proofs.Versions.{is_profile, laid_out}
 use Rattle.rv_word.specs.Form.{graph_version, image_version, profile_for}
 use Rattle.rv_word.specs.MemoryMap.{CODE_SIZE}
+use Rattle.rv_word.specs.declared.end.End.{End}
+use Rattle.rv_word.specs.declared.end.End.TheVariants.{Fault, NoMemory}
 use Rattle.obj_program.specs.MapFit.{FitsMaps}
 use Rattle.obj_program.specs.Program.{count, item_of}
 use Rattle.obj_program.specs.Sound.{IsSound}
-use Rattle.cfi_harden.specs.declared.refusal.HardenEnd.{HardenEnd}
-use Rattle.cfi_harden.specs.declared.refusal.HardenEnd.TheVariants as ends
 use Rattle.cfi_harden.specs.declared.refusal.Refusal.{Refusal}
 use Rattle.cfi_harden.specs.declared.refusal.Refusal.TheVariants as R
 use Rattle.cfi_harden.specs.Fitting.{IsFitting, RefusesPlaced}
@@ -79,8 +79,8 @@ late request p (R.DataTooLarge init end) prepared refuses = (p, prepared, refuse
 late request p (R.RelocRange section offset) prepared refuses = (p, prepared, refuses)
 late request p other prepared refuses = absurd refuses
 
-pub hardens : (request : ProgramRequest) (p : PreparedParts) (result : Result HardenedParts HardenEnd) → IsPreparedOf request p → HardensPrepared p result
+pub hardens : (request : ProgramRequest) (p : PreparedParts) (result : Result HardenedParts (End Refusal)) → IsPreparedOf request p → HardensPrepared p result
     → HardensProgram request result
 hardens request p (Ok h) prepared writes = (p, prepared, writes)
-hardens request p (Err (ends.Refused refusal)) prepared writes = late request p refusal prepared writes
-hardens request p (Err ends.NoMemory) prepared writes = tt
+hardens request p (Err (Fault refusal)) prepared writes = late request p refusal prepared writes
+hardens request p (Err NoMemory) prepared writes = tt

@@ -2,18 +2,17 @@
 use Rattle.std.specs.Prelude.{ℕ, List, Option, Some, None, Result, Ok, Err}
 use Rattle.rv_word.specs.declared.version.GraphVersion.{GraphVersion}
 use Rattle.rv_word.specs.declared.end.End.{End}
-use Rattle.rv_word.specs.declared.end.End.TheVariants.{Fault}
+use Rattle.rv_word.specs.declared.end.End.TheVariants.{Fault, NoMemory}
 use Rattle.text_lines.specs.declared.fault.LineFault.{LineFault}
 use Rattle.obj_program.specs.Program.{Program}
 use Rattle.cfi_closed.specs.Closed.{ClosedGraph}
-use Rattle.cfi_harden.specs.declared.refusal.HardenEnd.{HardenEnd}
-use Rattle.cfi_harden.specs.declared.refusal.HardenEnd.TheVariants.{Refused, NoMemory}
+use Rattle.cfi_harden.specs.declared.refusal.Refusal.{Refusal}
 use Rattle.cfi_harden.specs.declared.refusal.Refusal.TheVariants.{Policy}
 use Rattle.cfi_harden.specs.Prepared.{IsClosedUnder, IsWrongPolicy}
 
-abbrev pub Closes : GraphVersion → Program → Option (List ℕ) → Result ClosedGraph HardenEnd → Type 0
+abbrev pub Closes : GraphVersion → Program → Option (List ℕ) → Result ClosedGraph (End Refusal) → Type 0
 Closes version program policy (Ok closed) = IsClosedUnder version program policy closed
-Closes version program policy (Err (Refused (Policy n))) = IsWrongPolicy program policy n
+Closes version program policy (Err (Fault (Policy n))) = IsWrongPolicy program policy n
 Closes version program policy (Err NoMemory) = Unit {0}
 Closes version program policy (Err other) = ⊥
 

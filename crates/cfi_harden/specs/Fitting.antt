@@ -2,9 +2,9 @@
 -- or the first of three refusals.
 use Rattle.std.specs.Prelude.{◌≡◌, ◌<◌, ◌≤◌, Some, None, Result, Ok, Err}
 use Rattle.rv_word.specs.MemoryMap.{CODE_SIZE}
+use Rattle.rv_word.specs.declared.end.End.{End}
+use Rattle.rv_word.specs.declared.end.End.TheVariants.{Fault, NoMemory}
 use Rattle.obj_program.specs.DataAtMap.{init_size}
-use Rattle.cfi_harden.specs.declared.refusal.HardenEnd.{HardenEnd}
-use Rattle.cfi_harden.specs.declared.refusal.HardenEnd.TheVariants.{Refused, NoMemory}
 use Rattle.cfi_harden.specs.declared.refusal.Refusal.{Refusal}
 use Rattle.cfi_harden.specs.declared.refusal.Refusal.TheVariants.{CodeTooLarge, DataTooLarge, RelocRange}
 use Rattle.cfi_harden.specs.Room.{HasDataRoom}
@@ -29,7 +29,7 @@ RefusesPlaced p (RelocRange section offset) =
 RefusesPlaced p other = ⊥
 
 -- only want of memory is free
-abbrev pub FitsOr : PreparedParts → Result Spaced HardenEnd → Type 0
+abbrev pub FitsOr : PreparedParts → Result Spaced (End Refusal) → Type 0
 FitsOr p (Ok s) = IsFitting p s
-FitsOr p (Err (Refused refusal)) = RefusesPlaced p refusal
+FitsOr p (Err (Fault refusal)) = RefusesPlaced p refusal
 FitsOr p (Err NoMemory) = Unit {0}

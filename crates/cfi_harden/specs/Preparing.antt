@@ -1,34 +1,35 @@
 -- What the steps of preparing a request come to: the program that is given, then its entry and its closed graph.
 use Rattle.std.specs.Prelude.{◌≡◌, ℕ, List, Option, Some, None, IsSome, Result, Ok, Err}
 use Rattle.rv_word.specs.declared.version.GraphVersion.{GraphVersion}
+use Rattle.rv_word.specs.declared.end.End.{End}
+use Rattle.rv_word.specs.declared.end.End.TheVariants.{Fault, NoMemory}
 use Rattle.obj_program.specs.Program.{Program}
 use Rattle.cfi_closed.specs.Closed.{ClosedGraph}
 use Rattle.cfi_flow.specs.Entry.{entry_place}
-use Rattle.cfi_harden.specs.declared.joined.JoinedEnd.{JoinedEnd}
-use Rattle.cfi_harden.specs.declared.joined.JoinedEnd.TheVariants as end
-use Rattle.cfi_harden.specs.declared.refusal.HardenEnd.{HardenEnd}
-use Rattle.cfi_harden.specs.declared.refusal.HardenEnd.TheVariants.{Refused, NoMemory}
+use Rattle.cfi_harden.specs.declared.joined.JoinedFault.{JoinedFault}
+use Rattle.cfi_harden.specs.declared.joined.JoinedFault.TheVariants.{Refused, Duplicate}
+use Rattle.cfi_harden.specs.declared.refusal.Refusal.{Refusal}
 use Rattle.cfi_harden.specs.declared.refusal.Refusal.TheVariants.{NoEntry, Policy}
 use Rattle.cfi_harden.specs.Given.{Given, joined, DuplicateIn, IsGiven, RefusesGiven, program_given}
 use Rattle.cfi_harden.specs.Prepared.{IsClosedUnder, IsWrongPolicy}
 
 -- the program that is given, or the first that stands against there being one
-abbrev pub Reads : Given → Result Program HardenEnd → Type 0
+abbrev pub Reads : Given → Result Program (End Refusal) → Type 0
 Reads given (Ok program) = IsGiven given × (program ≡ program_given given)
-Reads given (Err (Refused refusal)) = RefusesGiven given refusal
+Reads given (Err (Fault refusal)) = RefusesGiven given refusal
 Reads given (Err NoMemory) = Unit {0}
 
 -- the same of several objects, of which also a name may be defined twice
-abbrev pub Joins : List (List ℕ) → Result Program JoinedEnd → Type 0
+abbrev pub Joins : List (List ℕ) → Result Program (End JoinedFault) → Type 0
 Joins objects (Ok program) = IsGiven (joined objects) × (program ≡ program_given (joined objects))
-Joins objects (Err (end.Refused refusal)) = RefusesGiven (joined objects) refusal
-Joins objects (Err (end.Duplicate name)) = DuplicateIn (joined objects) name.now
-Joins objects (Err end.NoMemory) = Unit {0}
+Joins objects (Err (Fault (Refused refusal))) = RefusesGiven (joined objects) refusal
+Joins objects (Err (Fault (Duplicate name))) = DuplicateIn (joined objects) name.now
+Joins objects (Err NoMemory) = Unit {0}
 
 -- where a program is entered, with its closed graph for a version of graphs. Only a private contract cites this
-abbrev pub Enters : GraphVersion → Program → List ℕ → Option (List ℕ) → Result (ℕ × ClosedGraph) HardenEnd → Type 0
+abbrev pub Enters : GraphVersion → Program → List ℕ → Option (List ℕ) → Result (ℕ × ClosedGraph) (End Refusal) → Type 0
 Enters version program entry policy (Ok (at, closed)) = (entry_place program entry ≡ Some at) × IsClosedUnder version program policy closed
-Enters version program entry policy (Err (Refused NoEntry)) = entry_place program entry ≡ None
-Enters version program entry policy (Err (Refused (Policy n))) = IsSome (entry_place program entry) × IsWrongPolicy program policy n
+Enters version program entry policy (Err (Fault NoEntry)) = entry_place program entry ≡ None
+Enters version program entry policy (Err (Fault (Policy n))) = IsSome (entry_place program entry) × IsWrongPolicy program policy n
 Enters version program entry policy (Err NoMemory) = Unit {0}
 Enters version program entry policy (Err other) = ⊥

@@ -1,8 +1,8 @@
 -- When a request is refused: the refusal stands, and none before it does.
 use Rattle.std.specs.Prelude.{◌≡◌, ◌⊎◌, None, IsSome, Result, Ok, Err}
+use Rattle.rv_word.specs.declared.end.End.{End}
+use Rattle.rv_word.specs.declared.end.End.TheVariants.{Fault, NoMemory}
 use Rattle.cfi_flow.specs.Entry.{entry_place}
-use Rattle.cfi_harden.specs.declared.refusal.HardenEnd.{HardenEnd}
-use Rattle.cfi_harden.specs.declared.refusal.HardenEnd.TheVariants.{Refused, NoMemory}
 use Rattle.cfi_harden.specs.declared.refusal.Refusal.{Refusal}
 use Rattle.cfi_harden.specs.declared.refusal.Refusal.TheVariants.{Object, ObjectIn, TooManySections, Items, UndefinedIn, NoEntry, Policy}
 use Rattle.cfi_harden.specs.Fitting.{RefusesPlaced}
@@ -39,24 +39,24 @@ IsEarly (Policy n) = Unit {0}
 IsEarly late = ⊥
 
 -- what hardening a request comes to; only want of memory is free
-abbrev pub HardensProgram : ProgramRequest → Result HardenedParts HardenEnd → Type 0
+abbrev pub HardensProgram : ProgramRequest → Result HardenedParts (End Refusal) → Type 0
 HardensProgram request (Ok hardened) = IsHardenedOf request hardened
-HardensProgram request (Err (Refused refusal)) = RefusesProgram request refusal
+HardensProgram request (Err (Fault refusal)) = RefusesProgram request refusal
 HardensProgram request (Err NoMemory) = Unit {0}
 
-abbrev pub Hardens : Request → Result HardenedParts HardenEnd → Type 0
+abbrev pub Hardens : Request → Result HardenedParts (End Refusal) → Type 0
 Hardens request (Ok hardened) = IsHardened request hardened
-Hardens request (Err (Refused refusal)) = Refuses request refusal
+Hardens request (Err (Fault refusal)) = Refuses request refusal
 Hardens request (Err NoMemory) = Unit {0}
 
 -- what a request comes to before anything is placed
-abbrev pub PreparesProgram : ProgramRequest → Result PreparedParts HardenEnd → Type 0
+abbrev pub PreparesProgram : ProgramRequest → Result PreparedParts (End Refusal) → Type 0
 PreparesProgram request (Ok prepared) = IsPreparedOf request prepared
-PreparesProgram request (Err (Refused refusal)) = RefusesProgram request refusal × IsEarly refusal
+PreparesProgram request (Err (Fault refusal)) = RefusesProgram request refusal × IsEarly refusal
 PreparesProgram request (Err NoMemory) = Unit {0}
 
 -- what a prepared program comes to
-abbrev pub HardensPrepared : PreparedParts → Result HardenedParts HardenEnd → Type 0
+abbrev pub HardensPrepared : PreparedParts → Result HardenedParts (End Refusal) → Type 0
 HardensPrepared p (Ok hardened) = IsWrittenOf p hardened
-HardensPrepared p (Err (Refused refusal)) = RefusesPlaced p refusal
+HardensPrepared p (Err (Fault refusal)) = RefusesPlaced p refusal
 HardensPrepared p (Err NoMemory) = Unit {0}

@@ -6,7 +6,7 @@ ghost use Rattle.text_lines.specs.Answers.{Answers, UnlessNoMemory};
 ghost use Rattle.cfi_harden.specs.Closing.{Closes, failed_line};
 ghost use Rattle.cfi_harden.specs.Request.{policy_asked, policy_end};
 
-use crate::refusal::{HardenEnd, Refusal};
+use crate::refusal::Refusal;
 use cfi_closed::Closed;
 use cfi_flow::{close, raw_graph};
 use cfi_policy::{Policy, read_policy_part};
@@ -42,16 +42,20 @@ pub(crate) fn closed_under(
     form: Form,
     items: &Items,
     policy: Option<&[u8]>,
-) -> Result<Closed, HardenEnd>
+) -> Result<Closed, End<Refusal>>
     ensures { Closes (graph_version form) items.now (option_copied policy.entry) result }
 {
     let (policy, end) = policy_part(alloc, policy);
     if let Err(End::NoMemory) = end {
-        return Err(HardenEnd::NoMemory);
+        return Err(End::NoMemory);
     }
-    let raw = raw_graph(alloc, items, &policy)?;
+    let raw = match raw_graph(alloc, items, &policy) {
+        Ok(raw) => raw,
+        Err(End::Fault(wrong)) => return Err(End::Fault(Refusal::Policy(wrong.number))),
+        Err(End::NoMemory) => return Err(End::NoMemory),
+    };
     if let Some(number) = failed_line(&end) {
-        return Err(HardenEnd::Refused(Refusal::Policy(number)));
+        return Err(End::Fault(Refusal::Policy(number)));
     }
     Ok(close(alloc, form, &raw)?)
 }

@@ -11,12 +11,12 @@ ghost use Rattle.cfi_map.specs.Sizes.{whole_sizes};
 ghost use Rattle.cfi_harden.specs.Ready.{IsReady};
 
 use crate::prepared::{Prepared, prepare_program};
-use crate::refusal::HardenEnd;
+use crate::refusal::Refusal;
 use crate::room::spaced_in_room;
 use crate::word_range::words_fit_in;
 use cfi_writer::{Hardened, class_labels, written};
 use obj_program::Items;
-use rv_word::{Form, NoMemory};
+use rv_word::{End, Form, NoMemory};
 use std::alloc::Global;
 
 /// The labels of a prepared program's classes.
@@ -30,7 +30,7 @@ fn labels_of(alloc: Global, prepared: &Prepared) -> Result<Vec<u32>, NoMemory>
 
 /// Places a prepared program, with labels, and writes it.
 #[tactic(auto, using(crate::proofs::Ready::written_of))]
-fn placed_and_written(alloc: Global, prepared: &Prepared) -> Result<Hardened, HardenEnd>
+fn placed_and_written(alloc: Global, prepared: &Prepared) -> Result<Hardened, End<Refusal>>
     requires { IsReady prepared.now }
     ensures { HardensPrepared prepared.now result }
 {
@@ -41,7 +41,7 @@ fn placed_and_written(alloc: Global, prepared: &Prepared) -> Result<Hardened, Ha
 }
 
 /// Hardens a program that `prepare_program` gave: its image, its graph and its map, or the first that stands against placing it.
-pub fn harden_prepared(alloc: Global, prepared: &Prepared) -> Result<Hardened, HardenEnd>
+pub fn harden_prepared(alloc: Global, prepared: &Prepared) -> Result<Hardened, End<Refusal>>
     requires { IsOfRequest prepared.now }
     ensures placed { HardensPrepared prepared.now result }
     // This is what each request comes to of which it is the prepared program.
@@ -59,7 +59,7 @@ pub fn harden_program(
     items: &Items,
     entry: &str,
     policy: Option<&[u8]>,
-) -> Result<Hardened, HardenEnd>
+) -> Result<Hardened, End<Refusal>>
     ensures { HardensProgram (record { form = form; program = items.now; entry = entry.now; policy = option_copied policy.entry }) result }
 {
     let prepared = prepare_program(alloc, form, items, entry, policy)?;

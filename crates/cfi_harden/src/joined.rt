@@ -5,51 +5,50 @@ ghost use Rattle.cfi_harden.specs.Joining.{AddsAll, Finishes, IsAdding, IsNear, 
 ghost use Rattle.cfi_harden.specs.Preparing.{Joins};
 
 use crate::refusal::Refusal;
-use obj_items::{Join, JoinEnd};
+use obj_items::{Join, JoinFault};
 use obj_program::Items;
+use rv_word::End;
 use std::alloc::Global;
 
 /// Why several objects are not a program.
 #[derive(Clone, Copy)]
-pub enum JoinedEnd<'a> {
+pub enum JoinedFault<'a> {
     /// This stands against it.
     Refused(Refusal),
     /// Two global symbols of this name are defined. It comes after what stands against an object, and before what stands
     /// against instructions and relocations.
     Duplicate(&'a [u8]),
-    /// There was no memory.
-    NoMemory,
 }
 
-/// What the end of a join is told as, where the last object that came to it has this number, from 1.
-fn told<'a>(end: JoinEnd<'a>, number: u64) -> JoinedEnd<'a>
-    requires { IsNear end }
-    ensures { result ≡ told number end.entry }
+/// What a fault of a join is told as, where the last object that came to it has this number, from 1.
+fn told<'a>(fault: JoinFault<'a>, number: u64) -> JoinedFault<'a>
+    requires { IsNear fault }
+    ensures { result ≡ told number fault.entry }
 {
-    match end {
-        JoinEnd::Object(fault) => JoinedEnd::Refused(Refusal::ObjectIn(fault, number)),
-        JoinEnd::TooManySections(count) => JoinedEnd::Refused(Refusal::TooManySections(count)),
-        JoinEnd::Duplicate(name) => JoinedEnd::Duplicate(name),
-        JoinEnd::Items(fault) => JoinedEnd::Refused(Refusal::Items(fault)),
-        JoinEnd::Undefined(object, symbol) => {
-            JoinedEnd::Refused(Refusal::UndefinedIn(symbol, object + 1))
+    match fault {
+        JoinFault::Object(object) => JoinedFault::Refused(Refusal::ObjectIn(object, number)),
+        JoinFault::TooManySections(count) => JoinedFault::Refused(Refusal::TooManySections(count)),
+        JoinFault::Duplicate(name) => JoinedFault::Duplicate(name),
+        JoinFault::Items(items) => JoinedFault::Refused(Refusal::Items(items)),
+        JoinFault::Undefined(object, symbol) => {
+            JoinedFault::Refused(Refusal::UndefinedIn(symbol, object + 1))
         }
-        JoinEnd::NoMemory => JoinedEnd::NoMemory,
     }
 }
 
 /// Puts the object with this number behind the others.
-fn add<'a>(join: &mut Join<'a>, object: &'a [u8], number: u64) -> Result<(), JoinedEnd<'a>>
+fn add<'a>(join: &mut Join<'a>, object: &'a [u8], number: u64) -> Result<(), End<JoinedFault<'a>>>
     ensures { IsAdding number join.old object.now result join.new }
 {
     match join.add(object) {
         Ok(()) => Ok(()),
-        Err(end) => Err(told(end, number)),
+        Err(End::Fault(fault)) => Err(End::Fault(told(fault, number))),
+        Err(End::NoMemory) => Err(End::NoMemory),
     }
 }
 
 /// Puts objects, one behind another, into a join that has none.
-fn add_all<'a>(join: &mut Join<'a>, objects: &'a [Vec<u8>]) -> Result<(), JoinedEnd<'a>>
+fn add_all<'a>(join: &mut Join<'a>, objects: &'a [Vec<u8>]) -> Result<(), End<JoinedFault<'a>>>
     requires { join.old ≡ [] }
     ensures { AddsAll (map (λ object. object.items) objects.now) result join.new }
 {
@@ -60,18 +59,22 @@ fn add_all<'a>(join: &mut Join<'a>, objects: &'a [Vec<u8>]) -> Result<(), Joined
 }
 
 /// The program that the objects of a join are.
-fn finished<'a>(join: Join<'a>, count: u64) -> Result<Items<'a>, JoinedEnd<'a>>
+fn finished<'a>(join: Join<'a>, count: u64) -> Result<Items<'a>, End<JoinedFault<'a>>>
     requires { length join < 2 ^ 63 }
     ensures { Finishes join.entry result }
 {
     match join.finish() {
         Ok(items) => Ok(items),
-        Err(end) => Err(told(end, count)),
+        Err(End::Fault(fault)) => Err(End::Fault(told(fault, count))),
+        Err(End::NoMemory) => Err(End::NoMemory),
     }
 }
 
 /// The program that several objects are, by the bytes of their files, or the first that stands against that.
-pub fn joined_program<'a>(alloc: Global, objects: &'a [Vec<u8>]) -> Result<Items<'a>, JoinedEnd<'a>>
+pub fn joined_program<'a>(
+    alloc: Global,
+    objects: &'a [Vec<u8>],
+) -> Result<Items<'a>, End<JoinedFault<'a>>>
     ensures { Joins (map (λ object. object.items) objects.now) result }
 {
     let mut join = Join::new(alloc);

@@ -4,9 +4,9 @@
 #![tactic(auto)]
 
 pub use hardening::{harden_prepared, harden_program};
-pub use joined::{JoinedEnd, joined_program};
+pub use joined::{JoinedFault, joined_program};
 pub use prepared::{Prepared, prepare_program, program_of};
-pub use refusal::{HardenEnd, Refusal};
+pub use refusal::Refusal;
 pub use room::has_data_room;
 
 mod closing;

@@ -6,13 +6,13 @@ ghost use Rattle.cfi_harden.specs.Refused.{PreparesProgram};
 ghost use Rattle.cfi_harden.specs.Request.{ProgramRequest};
 
 use crate::closing::closed_under;
-use crate::refusal::{HardenEnd, Refusal};
+use crate::refusal::Refusal;
 use cfi_closed::Closed;
 use cfi_flow::entry_place;
 use elf_object::Object;
 use obj_items::items;
 use obj_program::Items;
-use rv_word::Form;
+use rv_word::{End, Form};
 use std::alloc::Global;
 use std::marker::Model;
 
@@ -35,12 +35,19 @@ impl<'a, 'b> Model for Prepared<'a, 'b> {
 }
 
 /// The program of an object, or what is wrong with the object.
-pub fn program_of<'a>(alloc: Global, object: &'a [u8]) -> Result<Items<'a>, HardenEnd>
+pub fn program_of<'a>(alloc: Global, object: &'a [u8]) -> Result<Items<'a>, End<Refusal>>
     ensures { Reads (alone object.now) result }
 {
-    let object = Object::read(alloc, object)?;
-    let items = items(alloc, &object)?;
-    Ok(items)
+    let object = match Object::read(alloc, object) {
+        Ok(object) => object,
+        Err(End::Fault(fault)) => return Err(End::Fault(Refusal::Object(fault))),
+        Err(End::NoMemory) => return Err(End::NoMemory),
+    };
+    match items(alloc, &object) {
+        Ok(items) => Ok(items),
+        Err(End::Fault(fault)) => Err(End::Fault(Refusal::Items(fault))),
+        Err(End::NoMemory) => Err(End::NoMemory),
+    }
 }
 
 /// The place where a program is entered, at the first symbol of a name, and its closed graph under a policy, if there is
@@ -51,11 +58,11 @@ fn entered(
     items: &Items,
     entry: &str,
     policy: Option<&[u8]>,
-) -> Result<(u64, Closed), HardenEnd>
+) -> Result<(u64, Closed), End<Refusal>>
     ensures { Enters (graph_version form) items.now entry.now (option_copied policy.entry) result }
 {
     let Some(entry) = entry_place(items, entry.as_bytes()) else {
-        return Err(HardenEnd::Refused(Refusal::NoEntry));
+        return Err(End::Fault(Refusal::NoEntry));
     };
     let closed = closed_under(alloc, form, items, policy)?;
     Ok((entry, closed))
@@ -70,7 +77,7 @@ pub fn prepare_program<'a, 'b>(
     items: &'a Items<'b>,
     entry: &str,
     policy: Option<&[u8]>,
-) -> Result<Prepared<'a, 'b>, HardenEnd>
+) -> Result<Prepared<'a, 'b>, End<Refusal>>
     ensures { PreparesProgram (record { form = form; program = items.now; entry = entry.now; policy = option_copied policy.entry }) result }
 {
     let (entry, closed) = entered(alloc, form, items, entry, policy)?;

@@ -1,12 +1,8 @@
 ghost use Rattle.std.specs.Prelude.{◌≡◌};
 ghost use Rattle.cfi_harden.specs.RefusalText.{refusal_number};
 
-use cfi_flow::FlowEnd;
-use cfi_layout::PlaceEnd;
-use elf_object::{ObjectEnd, ObjectFault};
-use obj_items::ItemEnd;
+use elf_object::ObjectFault;
 use obj_rules::ItemFault;
-use rv_word::NoMemory;
 use std::fmt;
 
 /// What stands against hardening what is given: an object by itself, or several that are joined. A later one comes only where
@@ -74,78 +70,6 @@ impl fmt::Display for Refusal {
             Refusal::CodeTooLarge(bytes) => write!(f, "CodeTooLarge {bytes}"),
             Refusal::DataTooLarge(init, end) => write!(f, "DataTooLarge {init} {end}"),
             Refusal::RelocRange(section, offset) => write!(f, "RelocRange {section} {offset}"),
-        }
-    }
-}
-
-/// Why what is given is not hardened: a refusal, or want of memory.
-#[derive(Clone, Copy)]
-pub enum HardenEnd {
-    /// This stands against it.
-    Refused(Refusal),
-    /// There was no memory.
-    NoMemory,
-}
-
-impl From<NoMemory> for HardenEnd {
-    ghost use Rattle.std.specs.Prelude.{◌≡◌};
-    ghost use Rattle.cfi_harden.specs.declared.refusal.HardenEnd.TheVariants as ends;
-
-    ghost from_gives = { λ _ e. e ≡ ends.NoMemory };
-
-    fn from(_: NoMemory) -> Self {
-        HardenEnd::NoMemory
-    }
-}
-
-impl From<ObjectEnd> for HardenEnd {
-    ghost use Rattle.cfi_harden.specs.RefusalOf.{IsOfObject};
-
-    ghost from_gives = { IsOfObject };
-
-    fn from(end: ObjectEnd) -> Self {
-        match end {
-            ObjectEnd::Refused(fault) => HardenEnd::Refused(Refusal::Object(fault)),
-            ObjectEnd::NoMemory => HardenEnd::NoMemory,
-        }
-    }
-}
-
-impl From<ItemEnd> for HardenEnd {
-    ghost use Rattle.cfi_harden.specs.RefusalOf.{IsOfItems};
-
-    ghost from_gives = { IsOfItems };
-
-    fn from(end: ItemEnd) -> Self {
-        match end {
-            ItemEnd::Refused(fault) => HardenEnd::Refused(Refusal::Items(fault)),
-            ItemEnd::NoMemory => HardenEnd::NoMemory,
-        }
-    }
-}
-
-impl From<FlowEnd> for HardenEnd {
-    ghost use Rattle.cfi_harden.specs.RefusalOf.{IsOfFlow};
-
-    ghost from_gives = { IsOfFlow };
-
-    fn from(end: FlowEnd) -> Self {
-        match end {
-            FlowEnd::Policy(number) => HardenEnd::Refused(Refusal::Policy(number)),
-            FlowEnd::NoMemory => HardenEnd::NoMemory,
-        }
-    }
-}
-
-impl From<PlaceEnd> for HardenEnd {
-    ghost use Rattle.cfi_harden.specs.RefusalOf.{IsOfPlace};
-
-    ghost from_gives = { IsOfPlace };
-
-    fn from(end: PlaceEnd) -> Self {
-        match end {
-            PlaceEnd::CodeTooLarge(bytes) => HardenEnd::Refused(Refusal::CodeTooLarge(bytes)),
-            PlaceEnd::NoMemory => HardenEnd::NoMemory,
         }
     }
 }

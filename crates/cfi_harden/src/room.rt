@@ -7,9 +7,10 @@ ghost use Rattle.cfi_harden.specs.Fitting.{FitsOr};
 ghost use Rattle.cfi_harden.specs.Room.{HasDataRoom};
 
 use crate::prepared::Prepared;
-use crate::refusal::{HardenEnd, Refusal};
+use crate::refusal::Refusal;
 use cfi_map::{Spacing, place_program};
 use obj_program::Items;
+use rv_word::End;
 use std::alloc::Global;
 
 /// How many bytes of initialised data an image has room for, and the address before which data end: there the stack's room
@@ -30,25 +31,29 @@ pub fn has_data_room(items: &Items) -> bool
 pub(crate) fn spaced_in_room<'a, 'b>(
     alloc: Global,
     prepared: &'a Prepared<'a, 'b>,
-) -> Result<Spacing<'a, 'b>, HardenEnd>
+) -> Result<Spacing<'a, 'b>, End<Refusal>>
     requires version { prepared.now.closed.version ≡ graph_version prepared.now.form }
     requires entry { prepared.now.entry < count prepared.now.program }
     ensures { FitsOr prepared.now result }
 {
     let items = prepared.items;
-    let spacing = place_program(
+    let spacing = match place_program(
         alloc,
         prepared.form,
         items,
         &prepared.closed,
         prepared.entry,
-    )?;
+    ) {
+        Ok(spacing) => spacing,
+        Err(End::Fault(large)) => return Err(End::Fault(Refusal::CodeTooLarge(large.bytes))),
+        Err(End::NoMemory) => return Err(End::NoMemory),
+    };
     if !has_data_room(items) {
         let extent = items.data_extent();
-        return Err(HardenEnd::Refused(Refusal::DataTooLarge(extent.init, extent.end)));
+        return Err(End::Fault(Refusal::DataTooLarge(extent.init, extent.end)));
     }
     if let Some(place) = spacing.mapped().out_of_range() {
-        return Err(HardenEnd::Refused(Refusal::RelocRange(place.section, place.offset)));
+        return Err(End::Fault(Refusal::RelocRange(place.section, place.offset)));
     }
     Ok(spacing)
 }

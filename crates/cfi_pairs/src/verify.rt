@@ -7,7 +7,7 @@ ghost use Rattle.cfi_pair.specs.Spelled.{Spell};
 ghost use Rattle.cfi_pairs.specs.Verify.{ExplainsVerdict, IsJudgement, IsVerdictOf, verdict_status, verify_asked, verify_names};
 
 use crate::refused::pair_refusal;
-use cfi_pair::{Pair, Verdict as Judgement, judge, open_pair};
+use cfi_pair::{Pair, PairFault, Verdict as Judgement, judge, open_pair};
 use cfi_verify::Reject;
 use rv_word::{End, NoMemory};
 use std::alloc::Global;

@@ -1,6 +1,7 @@
 //! The text and the status of a run's report.
 
 ghost use Rattle.std.specs.Prelude.{◌≡◌, ◌++◌, codes, IfOk, OnOk};
+ghost use Rattle.rv_word.specs.declared.version.ImageVersion.TheVariants.{OneHart, EightHarts};
 ghost use Rattle.text_lines.specs.Hex.{hex_text};
 ghost use Rattle.cfi_report.specs.ReportText.{end_status, handler_name, hart_walk_text, hart_walks_text, report_head, report_text, steps_line, stop_lines, trail_text, walk_lines, walk_text, walks_text};
 
@@ -99,7 +100,7 @@ fn push_head(alloc: Global, text: &mut Vec<u8>, report: &RunReport) -> Result<()
 
 /// How the run of an image for one hart stopped.
 fn push_stop_of_one(alloc: Global, text: &mut Vec<u8>, report: &RunReport) -> Result<(), NoMemory>
-    ensures { OnOk result (text.new.items ≡ text.old.items ++ stop_lines 1 report.now) }
+    ensures { OnOk result (text.new.items ≡ text.old.items ++ stop_lines OneHart report.now) }
 {
     let stop = Stop(report.end);
     let lines = format!(in alloc; "\nstop {stop}")?;
@@ -113,7 +114,7 @@ fn push_stop_of_several(
     text: &mut Vec<u8>,
     report: &RunReport,
 ) -> Result<(), NoMemory>
-    ensures { OnOk result (text.new.items ≡ text.old.items ++ stop_lines 2 report.now) }
+    ensures { OnOk result (text.new.items ≡ text.old.items ++ stop_lines EightHarts report.now) }
 {
     let harts = report.walks.len();
     let stop = HartStop(report.hart, report.end);
@@ -227,7 +228,11 @@ fn push_walks(
 }
 
 /// The text of a report of a run of an image of a version.
-pub fn report_text(alloc: Global, version: ImageVersion, report: &RunReport) -> Result<Vec<u8>, NoMemory>
+pub fn report_text(
+    alloc: Global,
+    version: ImageVersion,
+    report: &RunReport,
+) -> Result<Vec<u8>, NoMemory>
     ensures { IfOk result (λ text. text.items ≡ report_text version report.now) }
 {
     let mut text = Vec::new(alloc);

@@ -6,11 +6,11 @@ ghost use Rattle.cfi_harden.specs.Refused.{Hardens, HardensPrepared, HardensProg
 ghost use Rattle.cfi_harden.specs.Request.{ProgramRequest, program_request};
 ghost use Rattle.cfi_meaning.specs.Hardened.{KeepsMeaningAtMap, KeepsMeaningOf, NeverDiffersAtMap, NeverDiffersOf};
 
-use cfi_harden::{HardenEnd, Prepared, harden_prepared, harden_program, program_of};
+use cfi_harden::{Prepared, Refusal, harden_prepared, harden_program, program_of};
 use cfi_meaning::laws::{hardened_keeps_meaning, hardened_never_differs};
 use cfi_writer::Hardened;
 use obj_program::Items;
-use rv_word::Form;
+use rv_word::{End, Form};
 use std::alloc::Global;
 
 /// Hardens an object (System V gABI, "Object Files"; RISC-V ELF psABI) in a form: its image, its graph and its map, or the first
@@ -23,7 +23,7 @@ pub fn rewrite_as(
     object: &[u8],
     entry: &str,
     policy: Option<&[u8]>,
-) -> Result<Hardened, HardenEnd>
+) -> Result<Hardened, End<Refusal>>
     // What is written meets the verifier's rules, and is that of the program at a legal map; a refusal stands, and none before it
     // does.
     ensures hardens { Hardens (record { form = form; given = alone object.now; entry = entry.now; policy = option_copied policy.entry }) result }
@@ -47,7 +47,7 @@ pub fn rewrite(
     object: &[u8],
     entry: &str,
     policy: Option<&[u8]>,
-) -> Result<Hardened, HardenEnd>
+) -> Result<Hardened, End<Refusal>>
     ensures hardens { Hardens (record { form = Form.Plain; given = alone object.now; entry = entry.now; policy = option_copied policy.entry }) result }
     ensures meaning_kept { IfOk result (λ h. KeepsMeaningAtMap (program_request (record { form = Form.Plain; given = alone object.now; entry = entry.now; policy = option_copied policy.entry })) h) }
     ensures never_differs { IfOk result (λ h. NeverDiffersAtMap (program_request (record { form = Form.Plain; given = alone object.now; entry = entry.now; policy = option_copied policy.entry })) h) }
@@ -63,7 +63,7 @@ pub fn rewrite_joined(
     items: &Items<'_>,
     entry: &str,
     policy: Option<&[u8]>,
-) -> Result<Hardened, HardenEnd>
+) -> Result<Hardened, End<Refusal>>
     ensures hardens { HardensProgram (record { form = form; program = items.now; entry = entry.now; policy = option_copied policy.entry }) result }
     ensures meaning_kept { IfOk result (λ h. KeepsMeaningAtMap (record { form = form; program = items.now; entry = entry.now; policy = option_copied policy.entry }) h) }
     ensures never_differs { IfOk result (λ h. NeverDiffersAtMap (record { form = form; program = items.now; entry = entry.now; policy = option_copied policy.entry }) h) }
@@ -75,7 +75,10 @@ pub fn rewrite_joined(
 
 /// Hardens a program that `cfi_harden::prepare_program` gave: its image, its graph and its map, or the first that stands against
 /// placing it.
-pub fn rewrite_prepared(alloc: Global, prepared: &Prepared<'_, '_>) -> Result<Hardened, HardenEnd>
+pub fn rewrite_prepared(
+    alloc: Global,
+    prepared: &Prepared<'_, '_>,
+) -> Result<Hardened, End<Refusal>>
     requires { IsOfRequest prepared.now }
     ensures placed { HardensPrepared prepared.now result }
     // For each request of which it is the prepared program, this is what `rewrite_joined` promises.

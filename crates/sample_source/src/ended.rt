@@ -10,8 +10,8 @@ use cfi_flow::{close, entry_place, raw_graph};
 use cfi_map_text::{Map, read_map};
 use cfi_policy::{Policy, read_policy};
 use obj_program::Items;
-use rv_word::Form;
-use src_machine::{Reason, SourceEnd, SourceRun, SourceTurn};
+use rv_word::{End, Form};
+use src_machine::{Reason, SourceFault, SourceRun, SourceTurn};
 use std::alloc::{AllocError, Global};
 
 /// More steps than any program of the tests takes.
@@ -110,13 +110,16 @@ fn is_text(text: Result<String, AllocError>, told: &str) -> bool {
 }
 
 /// Whether it is told why no run begins.
-fn ends_so(alloc: Global, end: SourceEnd, told: &str) -> bool {
+fn ends_so(alloc: Global, end: End<SourceFault>, told: &str) -> bool {
     match end {
-        SourceEnd::BadMap(number) => is_text(format!(in alloc; "line {number}"), told),
-        SourceEnd::RelocRange(section, offset) => {
+        End::Fault(SourceFault::BadMap(number)) => is_text(
+            format!(in alloc; "line {number}"),
+            told,
+        ),
+        End::Fault(SourceFault::RelocRange(section, offset)) => {
             is_text(format!(in alloc; "range {section} {offset}"), told)
         }
-        SourceEnd::NoMemory => false,
+        End::NoMemory => false,
     }
 }
 

@@ -3,7 +3,7 @@
 //! data in numbers of 8 bytes, and where all data end; or what stands against it.
 
 use cfi_graph::write_graph;
-use cfi_rewrite::{HardenEnd, Hardened, rewrite_joined};
+use cfi_rewrite::{Hardened, rewrite_joined};
 use elf_bytes::u32_at;
 use elf_image::read_image;
 use obj_input::ItemKind;
@@ -183,8 +183,8 @@ fn told_of_program(
     let end = items.data_extent().end;
     match rewrite_joined(alloc, Form::Plain, &items, entry, policy) {
         Ok(hardened) => told_of_hardened(alloc, &hardened, &marks, end),
-        Err(HardenEnd::Refused(refusal)) => refusal.to_string(alloc).ok(),
-        Err(HardenEnd::NoMemory) => None,
+        Err(End::Fault(refusal)) => refusal.to_string(alloc).ok(),
+        Err(End::NoMemory) => None,
     }
 }
 

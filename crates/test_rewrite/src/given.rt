@@ -1,5 +1,5 @@
-use cfi_rewrite::{HardenEnd, Hardened, rewrite, rewrite_as};
-use rv_word::Form;
+use cfi_rewrite::{Hardened, Refusal, rewrite, rewrite_as};
+use rv_word::{End, Form};
 use sample_hardened::Given;
 use std::alloc::Global;
 
@@ -12,7 +12,7 @@ pub(crate) fn answer(
     form: Form,
     file: &[u8],
     given: &Given,
-) -> Result<Hardened, HardenEnd> {
+) -> Result<Hardened, End<Refusal>> {
     match form {
         Form::Plain => rewrite(alloc, file, given.3, given.4),
         _ => rewrite_as(alloc, form, file, given.3, given.4),

@@ -1,6 +1,5 @@
 use crate::given::{FORMS, answer};
-use cfi_rewrite::HardenEnd;
-use rv_word::Form;
+use rv_word::{End, Form};
 use sample_hardened::{Given, Source, file};
 use sample_programs::is_told_as;
 use std::alloc::Global;
@@ -108,8 +107,8 @@ static TOO_MANY: [(Form, Refused); 11] = [
 /// Whether a file is refused in a form in these words.
 fn is_refused(alloc: Global, form: Form, file: &[u8], given: &Given, words: &str) -> bool {
     match answer(alloc, form, file, given) {
-        Ok(_) | Err(HardenEnd::NoMemory) => false,
-        Err(HardenEnd::Refused(refusal)) => is_told_as(alloc, &refusal, words),
+        Ok(_) | Err(End::NoMemory) => false,
+        Err(End::Fault(refusal)) => is_told_as(alloc, &refusal, words),
     }
 }
 

@@ -4,9 +4,11 @@ use Rattle.rv_word.specs.Form.{graph_version}
 use Rattle.rv_word.specs.Image.{image_profile}
 use Rattle.rv_word.proofs.Cases.{cases_Option}
 use Rattle.rv_word.specs.MemoryMap.{DATA_END, DATA_START}
+use Rattle.rv_word.specs.declared.end.End.{End}
+use Rattle.rv_word.specs.declared.end.End.TheVariants.{Fault, NoMemory}
 use Rattle.rv_word.specs.declared.form.Form.{Form}
 use Rattle.text_lines.specs.declared.reason.Reason.{Reason}
-use Rattle.text_lines.specs.declared.end.TextEnd.TheVariants.{Line}
+use Rattle.text_lines.specs.Answers.{line_fault}
 use Rattle.obj_program.specs.DataAtMap.{init_size}
 use Rattle.elf_image.specs.Fault.{fault_of}
 use Rattle.cfi_map_text.specs.Map.{MapParts}
@@ -26,15 +28,15 @@ use Rattle.tool_common.specs.declared.refusal.Refusal.{Refusal as Refused}
 use Rattle.tool_common.specs.declared.refusal.Refusal.TheVariants as refused
 use Rattle.cfi_flow.specs.Policy.{instruction_at}
 use Rattle.src_machine.specs.Beginning.{Ends, IsBegun}
-use Rattle.src_machine.specs.declared.source_end.SourceEnd.{SourceEnd}
+use Rattle.src_machine.specs.declared.source_fault.SourceFault.{SourceFault}
 use Rattle.src_machine.specs.Laws.{WrongIsNotLegal}
 use Rattle.src_machine.specs.Running.{SourceParts}
 use Rattle.cfi_meaning.specs.Compared.{compared}
 use Rattle.cfi_compare.specs.Told.{told_answer}
 use Rattle.cfi_compare.specs.declared.answer.Compared as A
 use Rattle.tool_commands.specs.Objects.{Gives}
-use Rattle.tool_commands.specs.declared.objects.GivenEnd.{GivenEnd}
-use Rattle.tool_commands.specs.declared.objects.GivenEnd.TheVariants as ends
+use Rattle.tool_commands.specs.declared.objects.GivenFault.{GivenFault}
+use Rattle.tool_commands.specs.declared.objects.GivenFault.TheVariants as faults
 use Rattle.tool_commands.specs.declared.compare.CompareOutcome.{CompareOutcome}
 use Rattle.tool_commands.specs.declared.compare.CompareOutcome.TheVariants as outcome
 use Rattle.tool_commands.specs.Compare.{IsAfterImage, IsCompareOf, IsCompareRefused, IsComparison, IsImageCompared, IsResult, IsRoomy, IsRoomyEnd, IsRunnable, IsSourceAt, asked_at, first_out, map_form}
@@ -59,10 +61,10 @@ source_on p input m run begun = record {
 }
 
 -- what a run that begins at the spot of the entry comes to
-pub begins : (p : PreparedParts) (input : List ℕ) (m : MapParts) (section offset : ℕ) (result : Result SourceParts SourceEnd) →
+pub begins : (p : PreparedParts) (input : List ℕ) (m : MapParts) (section offset : ℕ) (result : Result SourceParts (End SourceFault)) →
     instruction_at p.program (section, offset) ≡ Some p.entry →
     ((place : ℕ) → instruction_at p.program (section, offset) ≡ Some place →
-    MatchResult result (λ (run : SourceParts). IsBegun p.program p.closed place m input run) (λ (e : SourceEnd). Ends p.program p.closed place m e)) →
+    MatchResult result (λ (run : SourceParts). IsBegun p.program p.closed place m input run) (λ (e : End SourceFault). Ends p.program p.closed place m e)) →
     MatchResult result (IsSourceOn p m input) (Ends p.program p.closed p.entry m)
 begins p input m section offset (Ok run) at is = source_on p input m run (is p.entry at)
 begins p input m section offset (Err e) at is = is p.entry at
@@ -93,13 +95,13 @@ not_prepared request (hardening.DataTooLarge init last) is early = absurd early
 not_prepared request (hardening.RelocRange section offset) is early = absurd early
 
 -- what is given is no program
-pub not_given : (request : Request) (end : GivenEnd) → Gives request.given (Err end) → IsRoomyEnd request end
-not_given request (ends.Refused refusal) is = not_prepared request refusal (inl is) (given_early request.given refusal is)
-not_given request (ends.Duplicate name) is = is
-not_given request ends.NoMemory is = tt
+pub not_given : (request : Request) (end : End GivenFault) → Gives request.given (Err end) → IsRoomyEnd request end
+not_given request (Fault (faults.Refused refusal)) is = not_prepared request refusal (inl is) (given_early request.given refusal is)
+not_given request (Fault (faults.Duplicate name)) is = is
+not_given request NoMemory is = tt
 
 -- a program is given, and is not prepared
-pub not_roomy : (request : Request) (refusal : Refusal) → Refuses request refusal → IsEarly refusal → IsRoomyEnd request (ends.Refused refusal)
+pub not_roomy : (request : Request) (refusal : Refusal) → Refuses request refusal → IsEarly refusal → IsRoomyEnd request (Fault (faults.Refused refusal))
 not_roomy request refusal is early = not_prepared request refusal is early
 
 -- a prepared program is closed for graphs of the form that was asked for
@@ -115,7 +117,7 @@ module _ (request : Request) (p : PreparedParts) (map : List ℕ) (roomy : IsRoo
         subst (λ (n : MapParts). first_out p n ≡ None) (sym same) source.in_range;
   }
 
-  pub runnable_text : (line : ℕ) (reason : Reason) → map_of map ≡ Err (Line line reason) → IsRunnable request p map
+  pub runnable_text : (line : ℕ) (reason : Reason) → map_of map ≡ Err (line_fault line reason) → IsRunnable request p map
   runnable_text line reason wrong = record { roomy = roomy; in_range = λ m is. absurd (cc (is.read, wrong)) }
 
   pub runnable_place : (m : MapParts) (line : ℕ) → WrongIsNotLegal → map_of map ≡ Ok m → IsWrongLine p.program p.closed p.entry m line
@@ -163,7 +165,7 @@ module _ (request : Request) (p : PreparedParts) (map : List ℕ) (roomy : IsRoo
           | inr (f, some) ↦ subst (λ (r : Refused). IsCompareRefused request image map r) (sym (after.wrong f some)) (p, runnable, some)
         ]
 
-    pub wrong_text : (line : ℕ) (reason : Reason) → map_of map ≡ Err (Line line reason) → IsAfterImage image (refused.Map line (Text reason)) refusal
+    pub wrong_text : (line : ℕ) (reason : Reason) → map_of map ≡ Err (line_fault line reason) → IsAfterImage image (refused.Map line (Text reason)) refusal
         → IsCompareRefused request image map refusal
     wrong_text line reason wrong after =
         let runnable = runnable_text line reason wrong in

@@ -3,10 +3,12 @@
 -- STEPS OBJECT ..` compares an image with several objects, which are joined.
 use Rattle.std.specs.Prelude.{◌≡◌, ℕ, List, [], ◌∷◌, ◌++◌, codes, ⊤, Option, Some, None, option_map, Result, Ok, Err}
 use Rattle.rv_word.specs.Image.{Contents, image_profile}
+use Rattle.rv_word.specs.declared.end.End.{End}
+use Rattle.rv_word.specs.declared.end.End.TheVariants.{Fault, NoMemory}
 use Rattle.rv_word.specs.declared.form.Form.{Form}
 use Rattle.rv_word.specs.declared.form.Form.TheVariants.{Plain}
-use Rattle.text_lines.specs.declared.end.TextEnd.{TextEnd}
-use Rattle.text_lines.specs.declared.end.TextEnd.TheVariants.{Line}
+use Rattle.text_lines.specs.Answers.{line_fault}
+use Rattle.text_lines.specs.declared.fault.LineFault.{LineFault}
 use Rattle.elf_image.specs.Fault.{fault_of}
 use Rattle.elf_image.specs.declared.refusal.ImageRefusal.{ImageRefusal}
 use Rattle.obj_program.specs.DataAtMap.{init_size}
@@ -36,8 +38,8 @@ use Rattle.tool_common.specs.Refusals.{duplicate_line, refusal_line}
 use Rattle.cfi_pair.specs.Spelled.{IsImage}
 use Rattle.tool_common.specs.Words.{file_word, steps_of, text_named}
 use Rattle.tool_commands.specs.Objects.{Objects, one, several, GaveObjects, names_with, objects_asked}
-use Rattle.tool_commands.specs.declared.objects.GivenEnd.{GivenEnd}
-use Rattle.tool_commands.specs.declared.objects.GivenEnd.TheVariants as ends
+use Rattle.tool_commands.specs.declared.objects.GivenFault.{GivenFault}
+use Rattle.tool_commands.specs.declared.objects.GivenFault.TheVariants as faults
 use Rattle.tool_commands.specs.declared.compare.CompareOutcome.{CompareOutcome}
 use Rattle.tool_commands.specs.declared.compare.CompareOutcome.TheVariants as outcome
 use Rattle.tool_commands.specs.declared.compare.CompareRequest.{CompareRequest}
@@ -76,7 +78,7 @@ abbrev pub compare_asked : CompareRequest → CompareWords
 compare_asked r = record { objects = objects_asked r.objects; entry = r.entry.now; policy = option_map (λ name. name.now) r.policy; image = r.image.now; map = r.map.now; input = option_map (λ name. name.now) r.input; limit = r.limit }
 
 -- the form of the map that a text spells; where it spells none, no form is asked for
-abbrev pub form_told : Result MapParts TextEnd → Form
+abbrev pub form_told : Result MapParts (End LineFault) → Form
 form_told (Ok m) = m.form
 form_told (Err end) = Plain
 
@@ -121,16 +123,16 @@ IsCompareRefused request image map (Object (rewriter.RelocRange section offset))
 IsCompareRefused request image map (Object early) = Refuses request early
 IsCompareRefused request image map (Image refusal) = (p : PreparedParts) × IsRunnable request p map × (fault_of image ≡ Some refusal)
 IsCompareRefused request image map (Map line (Text reason)) =
-    (p : PreparedParts) × IsRunnable request p map × (fault_of image ≡ None) × (map_of map ≡ Err (Line line reason))
+    (p : PreparedParts) × IsRunnable request p map × (fault_of image ≡ None) × (map_of map ≡ Err (line_fault line reason))
 IsCompareRefused request image map (Map line Place) =
     (p : PreparedParts) × (m : MapParts) × IsRunnable request p map × (fault_of image ≡ None) × (map_of map ≡ Ok m) × IsWrongLine p.program p.closed p.entry m line
 IsCompareRefused request image map other = ⊥
 
 -- why there is no program whose data have room, where only want of memory is free. Only private contracts cite this
-abbrev pub IsRoomyEnd : asks.Request → GivenEnd → Type 0
-IsRoomyEnd request (ends.Refused refusal) = (image map : List ℕ) → IsCompareRefused request image map (Object refusal)
-IsRoomyEnd request (ends.Duplicate name) = DuplicateIn request.given name
-IsRoomyEnd request ends.NoMemory = ⊤
+abbrev pub IsRoomyEnd : asks.Request → End GivenFault → Type 0
+IsRoomyEnd request (Fault (faults.Refused refusal)) = (image map : List ℕ) → IsCompareRefused request image map (Object refusal)
+IsRoomyEnd request (Fault (faults.Duplicate name)) = DuplicateIn request.given name
+IsRoomyEnd request NoMemory = ⊤
 
 -- what is told of a map that is none, where an image's own refusal goes first. Only private contracts cite this
 pub record IsAfterImage (image : List ℕ) (map result : Refusal) : Type 0 where

@@ -1,7 +1,7 @@
 ghost use Rattle.std.specs.Prelude.{◌≡◌, ◌≤◌, ℕ, List, Ok, Some, Err, IfOk, IfErr, IfSome, IsOk, option_copied, option_map, map, ◌∷◌, []};
 ghost use Rattle.tool_common.specs.Lines.{with_newline};
 ghost use Rattle.text_lines.specs.Decimal.{MAX_STEP};
-ghost use Rattle.text_lines.specs.declared.end.TextEnd.TheVariants as TextEnd;
+ghost use Rattle.text_lines.specs.Answers.{line_fault};
 ghost use Rattle.tool_io.specs.Names.{AreRead};
 ghost use Rattle.tool_io.specs.Reading.{CountsReads, IsOnlyRead};
 ghost use Rattle.tool_common.specs.Reads.{IsFault, IsStop, IsTooLong, file_names};
@@ -14,18 +14,18 @@ ghost use Rattle.cfi_harden.specs.Request.{Request};
 ghost use Rattle.tool_commands.specs.Compare.{ExplainsCompare, IsAfterImage, IsCompareOf, IsFresh, IsImageCompared, IsRoomy, IsRoomyEnd, answer_status, asked_at, compare_asked, compare_line, compare_link_words, compare_names, compare_status, compare_words};
 ghost use Rattle.tool_commands.specs.Objects.{Gives, given_by};
 
-use crate::objects::{GivenEnd, ObjectBytes, Objects, program_given};
+use crate::objects::{GivenFault, ObjectBytes, Objects, program_given};
 use crate::source::{roomy, source_on};
 use cfi_compare::{Compared, compare};
 use cfi_harden::Prepared;
 use cfi_map_text::{Map, read_map};
 use elf_image::read_image;
 use obj_program::Items;
-use rv_word::{Bytes, Form, NoMemory};
+use rv_word::{Bytes, End, Form, NoMemory};
 use src_machine::laws::wrong_is_not_legal;
-use src_machine::{SourceEnd, SourceRun};
+use src_machine::{SourceFault, SourceRun};
 use std::alloc::Global;
-use text_lines::{Reason, TextEnd};
+use text_lines::{LineFault, Reason};
 use tool_common::{
     MapReason, Refusal, Stop, duplicate_line, file_word, line, read_all, status, steps, text_named,
 };
@@ -177,27 +177,29 @@ fn compare_at(
     wrong_is_not_legal();
     match source_on(alloc, prepared, request.entry, map, input) {
         Ok(mut source) => compare_image(alloc, &mut source, image, input, request.limit),
-        Err(SourceEnd::RelocRange(section, offset)) => {
+        Err(End::Fault(SourceFault::RelocRange(section, offset))) => {
             let refusal = cfi_harden::Refusal::RelocRange(section, offset);
             Ok(CompareOutcome::Refused(Refusal::Object(refusal)))
         }
-        Err(SourceEnd::BadMap(line)) => {
+        Err(End::Fault(SourceFault::BadMap(line))) => {
             let refusal = after_the_image(image, Refusal::Map(line, MapReason::Place));
             Ok(CompareOutcome::Refused(refusal))
         }
-        Err(SourceEnd::NoMemory) => Err(NoMemory),
+        Err(End::NoMemory) => Err(NoMemory),
     }
 }
 
 /// What is told where there is no program that could be run at a map.
-fn not_run(end: GivenEnd) -> Result<CompareOutcome, NoMemory>
+fn not_run(end: End<GivenFault>) -> Result<CompareOutcome, NoMemory>
     ensures { (asked : Request) (image text input : List ℕ) (limit : ℕ) → IsRoomyEnd asked end
         → IfOk result (IsCompareOf asked image text input limit) }
 {
     match end {
-        GivenEnd::Refused(refusal) => Ok(CompareOutcome::Refused(Refusal::Object(refusal))),
-        GivenEnd::Duplicate(name) => Ok(CompareOutcome::Duplicate(name)),
-        GivenEnd::NoMemory => Err(NoMemory),
+        End::Fault(GivenFault::Refused(refusal)) => {
+            Ok(CompareOutcome::Refused(Refusal::Object(refusal)))
+        }
+        End::Fault(GivenFault::Duplicate(name)) => Ok(CompareOutcome::Duplicate(name)),
+        End::NoMemory => Err(NoMemory),
     }
 }
 
@@ -233,7 +235,7 @@ fn after_the_program(
     line: u64,
     reason: Reason,
 ) -> Result<CompareOutcome, NoMemory>
-    ensures { (given : Given) (text input : List ℕ) → Gives given (Ok items.now) → map_of text ≡ Err (TextEnd.Line line reason)
+    ensures { (given : Given) (text input : List ℕ) → Gives given (Ok items.now) → map_of text ≡ Err (line_fault line reason)
         → IfOk result (IsCompareOf (asked_at text given request.now.entry.now (option_copied policy.entry))
         image.now text input request.now.limit) }
 {
@@ -264,10 +266,10 @@ fn compare_spelled(
 {
     match read_map(alloc, map) {
         Ok(map) => compare_program(alloc, request, items, policy, image, &map, input),
-        Err(TextEnd::Line(line, reason)) => {
+        Err(End::Fault(LineFault(line, reason))) => {
             after_the_program(alloc, request, items, policy, image, line, reason)
         }
-        Err(TextEnd::NoMemory) => Err(NoMemory),
+        Err(End::NoMemory) => Err(NoMemory),
     }
 }
 

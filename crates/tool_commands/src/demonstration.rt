@@ -21,7 +21,7 @@ use cfi_compare::{Compared, compare};
 use cfi_graph::Graph;
 use cfi_harden::{Prepared, prepare_program, program_of};
 use cfi_map_text::Map;
-use cfi_rewrite::{HardenEnd, Hardened, rewrite_prepared};
+use cfi_rewrite::{Hardened, rewrite_prepared};
 use cfi_script::Script;
 use cfi_step::{RunReport, run};
 use cfi_verify::verify;
@@ -30,7 +30,7 @@ use gen_hardened::laws::demo_is_never_refused;
 use obj_program::Items;
 use rv_word::{End, Form, Image, NoMemory};
 use src_machine::laws::wrong_is_not_legal;
-use src_machine::{SourceEnd, SourceRun};
+use src_machine::SourceRun;
 use std::alloc::Global;
 
 /// How many steps a run, and the program's in a comparison, takes at most.
@@ -47,8 +47,8 @@ pub(crate) fn program(alloc: Global, object: &[u8]) -> Result<Items<'_>, NoMemor
     demo_is_never_refused();
     match program_of(alloc, object) {
         Ok(items) => Ok(items),
-        Err(HardenEnd::NoMemory) => Err(NoMemory),
-        Err(HardenEnd::Refused(_)) => unreachable!(),
+        Err(End::NoMemory) => Err(NoMemory),
+        Err(End::Fault(_)) => unreachable!(),
     }
 }
 
@@ -63,8 +63,8 @@ pub(crate) fn prepared<'a, 'b>(
     demo_is_never_refused();
     match prepare_program(alloc, Form::Plain, items, ENTRY, None) {
         Ok(prepared) => Ok(prepared),
-        Err(HardenEnd::NoMemory) => Err(NoMemory),
-        Err(HardenEnd::Refused(_)) => unreachable!(),
+        Err(End::NoMemory) => Err(NoMemory),
+        Err(End::Fault(_)) => unreachable!(),
     }
 }
 
@@ -78,8 +78,8 @@ pub(crate) fn made(alloc: Global, prepared: &Prepared<'_, '_>) -> Result<Hardene
     demo_is_never_refused();
     match rewrite_prepared(alloc, prepared) {
         Ok(hardened) => Ok(hardened),
-        Err(HardenEnd::NoMemory) => Err(NoMemory),
-        Err(HardenEnd::Refused(_)) => unreachable!(),
+        Err(End::NoMemory) => Err(NoMemory),
+        Err(End::Fault(_)) => unreachable!(),
     }
 }
 
@@ -131,8 +131,8 @@ fn begun<'a, 'b>(
     wrong_is_not_legal();
     match source_on(alloc, prepared, ENTRY, map, &[]) {
         Ok(source) => Ok(source),
-        Err(SourceEnd::NoMemory) => Err(NoMemory),
-        Err(SourceEnd::BadMap(_) | SourceEnd::RelocRange(_, _)) => unreachable!(),
+        Err(End::NoMemory) => Err(NoMemory),
+        Err(End::Fault(_)) => unreachable!(),
     }
 }
 

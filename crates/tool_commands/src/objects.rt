@@ -6,9 +6,9 @@ ghost use Rattle.cfi_harden.specs.Given.{alone, joined};
 ghost use Rattle.tool_common.specs.Reads.{Content, GaveAll};
 ghost use Rattle.tool_commands.specs.Objects.{GaveObjects, Gives, given_by, names_with, objects_asked};
 
-use cfi_harden::{HardenEnd, JoinedEnd, Refusal, joined_program, program_of};
+use cfi_harden::{JoinedFault, Refusal, joined_program, program_of};
 use obj_program::Items;
-use rv_word::{Bytes, NoMemory};
+use rv_word::{Bytes, End, NoMemory};
 use std::alloc::Global;
 
 /// The names of files that hold objects.
@@ -29,22 +29,10 @@ pub(crate) enum ObjectBytes<'b> {
 
 /// Why what is given is no program.
 #[derive(Drop)]
-pub(crate) enum GivenEnd {
+pub(crate) enum GivenFault {
     Refused(Refusal),
     /// This name is defined twice.
     Duplicate(Bytes),
-    NoMemory,
-}
-
-impl From<NoMemory> for GivenEnd {
-    ghost use Rattle.std.specs.Prelude.{◌≡◌};
-    ghost use Rattle.tool_commands.specs.declared.objects.GivenEnd.TheVariants as ends;
-
-    ghost from_gives = { λ _ e. e ≡ ends.NoMemory };
-
-    fn from(_: NoMemory) -> Self {
-        GivenEnd::NoMemory
-    }
 }
 
 /// Puts names of files, where they are named, behind others.
@@ -119,25 +107,29 @@ fn copied(alloc: Global, name: &[u8]) -> Result<Bytes, NoMemory>
 }
 
 /// The program of several objects.
-fn joined<'b>(alloc: Global, objects: &'b [Vec<u8>]) -> Result<Items<'b>, GivenEnd>
+fn joined<'b>(alloc: Global, objects: &'b [Vec<u8>]) -> Result<Items<'b>, End<GivenFault>>
     ensures { Gives (joined (map (λ b. b.items) objects.now)) result }
 {
     match joined_program(alloc, objects) {
         Ok(items) => Ok(items),
-        Err(JoinedEnd::Refused(refusal)) => Err(GivenEnd::Refused(refusal)),
-        Err(JoinedEnd::Duplicate(name)) => Err(GivenEnd::Duplicate(copied(alloc, name)?)),
-        Err(JoinedEnd::NoMemory) => Err(GivenEnd::NoMemory),
+        Err(End::Fault(JoinedFault::Refused(refusal))) => {
+            Err(End::Fault(GivenFault::Refused(refusal)))
+        }
+        Err(End::Fault(JoinedFault::Duplicate(name))) => {
+            Err(End::Fault(GivenFault::Duplicate(copied(alloc, name)?)))
+        }
+        Err(End::NoMemory) => Err(End::NoMemory),
     }
 }
 
 /// The program of one object.
-fn alone<'b>(alloc: Global, object: &'b [u8]) -> Result<Items<'b>, GivenEnd>
+fn alone<'b>(alloc: Global, object: &'b [u8]) -> Result<Items<'b>, End<GivenFault>>
     ensures { Gives (alone object.now) result }
 {
     match program_of(alloc, object) {
         Ok(items) => Ok(items),
-        Err(HardenEnd::Refused(refusal)) => Err(GivenEnd::Refused(refusal)),
-        Err(HardenEnd::NoMemory) => Err(GivenEnd::NoMemory),
+        Err(End::Fault(refusal)) => Err(End::Fault(GivenFault::Refused(refusal))),
+        Err(End::NoMemory) => Err(End::NoMemory),
     }
 }
 
@@ -145,7 +137,7 @@ fn alone<'b>(alloc: Global, object: &'b [u8]) -> Result<Items<'b>, GivenEnd>
 pub(crate) fn program_given<'b>(
     alloc: Global,
     given: ObjectBytes<'b>,
-) -> Result<Items<'b>, GivenEnd>
+) -> Result<Items<'b>, End<GivenFault>>
     ensures { Gives (given_by given.entry) result }
 {
     match given {

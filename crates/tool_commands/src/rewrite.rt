@@ -12,12 +12,12 @@ ghost use Rattle.tool_common.specs.Writes.{AreApart, IsCut, IsTorn, KeepsReads, 
 ghost use Rattle.tool_commands.specs.Objects.{Gives, given_by, objects_asked};
 ghost use Rattle.tool_commands.specs.Rewrite.{AreNamedApart, ExplainsRewrite, HasSizes, IsRewriteOf, IsSpelledOut, IsSpelledWith, harden_words, link_words, outputs_of, rewrite_asked, rewrite_line, rewrite_names, rewrite_outputs, rewrite_status, rewrite_words, words_alone, words_in};
 
-use crate::objects::{GivenEnd, ObjectBytes, Objects, program_given};
+use crate::objects::{GivenFault, ObjectBytes, Objects, program_given};
 use cfi_graph::{Graph, write_graph};
 use cfi_map_text::{Map, write_map};
-use cfi_rewrite::{HardenEnd, Hardened, rewrite_joined};
+use cfi_rewrite::{Hardened, rewrite_joined};
 use obj_program::Items;
-use rv_word::{Bytes, Form, NoMemory};
+use rv_word::{Bytes, End, Form, NoMemory};
 use std::alloc::Global;
 use std::fmt;
 use tool_common::{
@@ -327,8 +327,8 @@ fn rewrite_items<'a>(
 {
     match rewrite_joined(alloc, request.form, items, request.entry, policy) {
         Ok(hardened) => Ok(RewriteOutcome::Rewritten(spelled_out(alloc, request, hardened)?)),
-        Err(HardenEnd::Refused(refusal)) => Ok(RewriteOutcome::Refused(Refusal::Object(refusal))),
-        Err(HardenEnd::NoMemory) => Err(NoMemory),
+        Err(End::Fault(refusal)) => Ok(RewriteOutcome::Refused(Refusal::Object(refusal))),
+        Err(End::NoMemory) => Err(NoMemory),
     }
 }
 
@@ -343,9 +343,11 @@ fn rewrite_given<'a>(
 {
     match program_given(alloc, given) {
         Ok(items) => rewrite_items(alloc, request, &items, policy),
-        Err(GivenEnd::Refused(refusal)) => Ok(RewriteOutcome::Refused(Refusal::Object(refusal))),
-        Err(GivenEnd::Duplicate(name)) => Ok(RewriteOutcome::Duplicate(name)),
-        Err(GivenEnd::NoMemory) => Err(NoMemory),
+        Err(End::Fault(GivenFault::Refused(refusal))) => {
+            Ok(RewriteOutcome::Refused(Refusal::Object(refusal)))
+        }
+        Err(End::Fault(GivenFault::Duplicate(name))) => Ok(RewriteOutcome::Duplicate(name)),
+        Err(End::NoMemory) => Err(NoMemory),
     }
 }
 

@@ -13,16 +13,16 @@ ghost use Rattle.tool_commands.specs.Compare.{IsRoomy, IsRoomyEnd};
 ghost use Rattle.tool_commands.specs.Demonstration.{IsSourceOn};
 ghost use Rattle.tool_commands.specs.Objects.{Gives};
 
-use crate::objects::GivenEnd;
-use cfi_harden::{HardenEnd, Prepared, Refusal, has_data_room, prepare_program};
+use crate::objects::GivenFault;
+use cfi_harden::{Prepared, Refusal, has_data_room, prepare_program};
 use cfi_map_text::Map;
 use obj_program::Items;
-use rv_word::Form;
-use src_machine::{SourceEnd, SourceRun};
+use rv_word::{End, Form};
+use src_machine::{SourceFault, SourceRun};
 use std::alloc::Global;
 
 /// A prepared program, if its data have room.
-fn with_room<'a, 'b>(prepared: Prepared<'a, 'b>) -> Result<Prepared<'a, 'b>, GivenEnd>
+fn with_room<'a, 'b>(prepared: Prepared<'a, 'b>) -> Result<Prepared<'a, 'b>, End<GivenFault>>
     ensures { (request : Request) → IsPrepared request prepared.entry → MatchResult result (IsRoomy request) (IsRoomyEnd request) }
 {
     if has_data_room(prepared.items) {
@@ -30,7 +30,7 @@ fn with_room<'a, 'b>(prepared: Prepared<'a, 'b>) -> Result<Prepared<'a, 'b>, Giv
     }
     let extent = prepared.items.data_extent();
     let refusal = Refusal::DataTooLarge(extent.init, extent.end);
-    Err(GivenEnd::Refused(refusal))
+    Err(End::Fault(GivenFault::Refused(refusal)))
 }
 
 /// A program, prepared as it is run at a map of a form.
@@ -40,15 +40,15 @@ fn prepared<'a, 'b>(
     items: &'a Items<'b>,
     entry: &str,
     policy: Option<&[u8]>,
-) -> Result<Prepared<'a, 'b>, GivenEnd>
+) -> Result<Prepared<'a, 'b>, End<GivenFault>>
     ensures { (given : Given) → Gives given (Ok items.now)
         → MatchResult result (IsPrepared (record { form = form; given = given; entry = entry.now; policy = option_copied policy.entry }))
         (IsRoomyEnd (record { form = form; given = given; entry = entry.now; policy = option_copied policy.entry })) }
 {
     match prepare_program(alloc, form, items, entry, policy) {
         Ok(prepared) => Ok(prepared),
-        Err(HardenEnd::Refused(refusal)) => Err(GivenEnd::Refused(refusal)),
-        Err(HardenEnd::NoMemory) => Err(GivenEnd::NoMemory),
+        Err(End::Fault(refusal)) => Err(End::Fault(GivenFault::Refused(refusal))),
+        Err(End::NoMemory) => Err(End::NoMemory),
     }
 }
 
@@ -59,7 +59,7 @@ pub(crate) fn roomy<'a, 'b>(
     items: &'a Items<'b>,
     entry: &str,
     policy: Option<&[u8]>,
-) -> Result<Prepared<'a, 'b>, GivenEnd>
+) -> Result<Prepared<'a, 'b>, End<GivenFault>>
     ensures { (given : Given) → Gives given (Ok items.now)
         → MatchResult result (IsRoomy (record { form = form; given = given; entry = entry.now; policy = option_copied policy.entry }))
         (IsRoomyEnd (record { form = form; given = given; entry = entry.now; policy = option_copied policy.entry })) }
@@ -84,7 +84,7 @@ pub(crate) fn source_on<'a, 'b>(
     entry: &str,
     map: &Map,
     input: &[u8],
-) -> Result<SourceRun<'a, 'b>, SourceEnd>
+) -> Result<SourceRun<'a, 'b>, End<SourceFault>>
     requires version { prepared.now.closed.version ≡ graph_version map.now.form }
     requires room { HasDataRoom prepared.now.program }
     requires entry { entry_place prepared.now.program entry.now ≡ Some prepared.now.entry }

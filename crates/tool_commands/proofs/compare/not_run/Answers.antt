@@ -1,9 +1,10 @@
 use Rattle.std.proofs.Common.{subst}
+use Rattle.rv_word.specs.declared.end.End.{End}
 use Rattle.tool_commands.specs.Compare.{IsRoomyEnd}
-use Rattle.tool_commands.specs.declared.objects.GivenEnd.{GivenEnd}
+use Rattle.tool_commands.specs.declared.objects.GivenFault.{GivenFault}
 use Rattle.tool_commands.proofs.compare.not_run.Goals as goal
 
-pub returns-in-Refused : goal.returns-in-Refused
-returns-in-Refused c = λ asked image text input limit end.
-    let here = subst (λ (e : GivenEnd). IsRoomyEnd asked e) c.in-Refused.is end in
+pub returns-in-Fault-Refused : goal.returns-in-Fault-Refused
+returns-in-Fault-Refused c = λ asked image text input limit end.
+    let here = subst (λ (e : End GivenFault). IsRoomyEnd asked e) c.in-Fault-Refused.is end in
     here image text

@@ -1,8 +1,9 @@
 use Rattle.std.proofs.Common.{Err, subst}
+use Rattle.rv_word.specs.declared.end.End.{End}
+use Rattle.rv_word.specs.declared.end.End.TheVariants.{Fault}
 use Rattle.cfi_harden.specs.Refused.{HardensProgram}
 use Rattle.cfi_harden.specs.Request.{program_request}
-use Rattle.cfi_harden.specs.declared.refusal.HardenEnd.{HardenEnd}
-use Rattle.cfi_harden.specs.declared.refusal.HardenEnd.TheVariants as ends
+use Rattle.cfi_harden.specs.declared.refusal.Refusal.{Refusal}
 use Rattle.cfi_harden.proofs.Preparing.{hardens_given}
 use Rattle.gen_hardened.specs.Laws.{entered}
 use Rattle.tool_commands.proofs.Demonstrated.{unrefused}
@@ -15,11 +16,11 @@ pub unreachable-requires : goal.unreachable-requires
 unreachable-requires c =
     let (object, ready) = c.requires in
     let request = entered object in
-    let refusal = c.in-Err-Refused.field-0-0 in
+    let refusal = c.in-Err-Fault.field-0-0 in
     unrefused c.demo_is_never_refused.ensures object ready.drawn refusal
-    (hardens_given request (Err (ends.Refused refusal)) ready.prepared.0
-    (subst (λ (e : HardenEnd). HardensProgram (program_request request) (Err e)) c.in-Err-Refused.field-0-is
-    (c.in-Err-Refused.ensures.hardens (program_request request) ready.prepared.1)))
+    (hardens_given request (Err (Fault refusal)) ready.prepared.0
+    (subst (λ (e : End Refusal). HardensProgram (program_request request) (Err e)) c.in-Err-Fault.field-0-is
+    (c.in-Err-Fault.ensures.hardens (program_request request) ready.prepared.1)))
 
 pub returns-in-Ok-clause-made : goal.returns-in-Ok-clause-made
 returns-in-Ok-clause-made c = λ request prepared. record {

@@ -1,6 +1,7 @@
 use Rattle.std.proofs.Common.{Err, subst}
+use Rattle.rv_word.specs.declared.end.End.{End}
 use Rattle.cfi_harden.specs.Refused.{PreparesProgram}
-use Rattle.cfi_harden.specs.declared.refusal.HardenEnd.{HardenEnd}
+use Rattle.cfi_harden.specs.declared.refusal.Refusal.{Refusal}
 use Rattle.cfi_harden.proofs.Preparing.{prepared_given, refused_given}
 use Rattle.gen_hardened.specs.Laws.{entered}
 use Rattle.tool_commands.proofs.Demonstrated.{unrefused}
@@ -10,10 +11,10 @@ pub unreachable-requires : goal.unreachable-requires
 unreachable-requires c =
     let (object, drawn, read) = c.requires in
     let request = entered object in
-    let refusal = c.in-Err-Refused.field-0-0 in
+    let refusal = c.in-Err-Fault.field-0-0 in
     let (refuses, early) =
-    subst (λ (e : HardenEnd). PreparesProgram (record { form = request.form; program = c.args.items.now; entry = request.entry; policy = request.policy }) (Err e))
-    c.in-Err-Refused.field-0-is c.in-Err-Refused.ensures in
+    subst (λ (e : End Refusal). PreparesProgram (record { form = request.form; program = c.args.items.now; entry = request.entry; policy = request.policy }) (Err e))
+    c.in-Err-Fault.field-0-is c.in-Err-Fault.ensures in
     unrefused c.demo_is_never_refused.ensures object drawn refusal (refused_given request c.args.items.now read refusal refuses)
 
 pub returns-in-Ok : goal.returns-in-Ok

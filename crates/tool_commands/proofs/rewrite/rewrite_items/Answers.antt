@@ -1,6 +1,6 @@
 use Rattle.std.proofs.Common.{Ok, Err}
 use Rattle.std.specs.Prelude.{option_copied}
-use Rattle.cfi_harden.specs.declared.refusal.HardenEnd.TheVariants as ends
+use Rattle.rv_word.specs.declared.end.End.TheVariants.{Fault}
 use Rattle.cfi_rewrite.proofs.OfHardened.{differs_read, hardens_read, keeps_read}
 use Rattle.tool_commands.specs.Rewrite.{request_of, rewrite_asked}
 use Rattle.tool_commands.proofs.rewrite.rewrite_items.Goals as goal
@@ -19,8 +19,8 @@ returns-in_ok-spelled_out-in-Ok c = λ given gives.
       c.in_ok-spelled_out-in-Ok.ensures,
     )
 
-pub returns-in-Err-Refused : goal.returns-in-Err-Refused
-returns-in-Err-Refused c = λ given gives.
+pub returns-in-Err-Fault : goal.returns-in-Err-Fault
+returns-in-Err-Fault c = λ given gives.
     let request = request_of (rewrite_asked c.args.request.now) given (option_copied c.args.policy) in
-    rw c.in-Err-Refused.field-0-is
-    (hardens_read request c.args.items.now (Err (ends.Refused c.in-Err-Refused.refusal)) gives (rw c.in-Err-Refused.field-0-is at c.in-Err-Refused.ensures.hardens))
+    rw c.in-Err-Fault.field-0-is
+    (hardens_read request c.args.items.now (Err (Fault c.in-Err-Fault.refusal)) gives (rw c.in-Err-Fault.field-0-is at c.in-Err-Fault.ensures.hardens))
