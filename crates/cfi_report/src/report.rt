@@ -228,7 +228,11 @@ fn push_walks(
 }
 
 /// The text of a report of a run of an image of a version.
-pub fn report_text(alloc: Global, version: ImageVersion, report: &RunReport) -> Result<Vec<u8>, NoMemory>
+pub fn report_text(
+    alloc: Global,
+    version: ImageVersion,
+    report: &RunReport,
+) -> Result<Vec<u8>, NoMemory>
     ensures { IfOk result (λ text. text.items ≡ report_text version report.now) }
 {
     let mut text = Vec::new(alloc);

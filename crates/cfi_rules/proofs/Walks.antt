@@ -11,20 +11,24 @@ use Rattle.rv_code.specs.declared.turn.Turn.{Turn}
 use Rattle.rv_code.specs.declared.turn.Turn.TheVariants.{Ran, Exit, Break, LoadFault, StoreFault, FetchFault, Illegal}
 use Rattle.cfi_graph.specs.declared.line.GraphLine.{GraphLine}
 use Rattle.cfi_unit.specs.Context.{IsCodeOf}
+use Rattle.cfi_unit.specs.Prologue.{OPENING}
 use Rattle.cfi_rules.specs.Along.{Walk, Walks, Arrives, OnRan, RunsAlong, with_walk}
 use Rattle.cfi_rules.specs.Laws.{SafeWalksGraph}
 use Rattle.cfi_rules.specs.Split.{code_words, place_at}
-use Rattle.cfi_rules.specs.Walks.{walk_of, AreSteps, IsGraphWalk}
+use Rattle.cfi_rules.specs.Walks.{WalkState, walk_of, AreSteps, IsGraphWalk}
 use Rattle.cfi_rules.proofs.Leading.{leads_goes}
 use Rattle.cfi_rules.proofs.Reading.{safe_as_recognised}
+
+abbrev state : ℕ → List ℕ → WalkState
+state at pending = record { at = at; pending = pending }
 
 module _ (p : Profile) (image : Contents) (words : List ℕ) (lines : List GraphLine) where
   abbrev Runs : Walks → Harts → Shared → List HartStep → Type 0
   Runs walks harts s steps = RunsAlong p image (place_at p words) lines walks harts s steps
 
   -- after an instruction that ran the walk goes on, after a stop it has ended
-  if_goes : (turn : Turn) (w : Walk) (later : List ℕ) (X Y : Type 0) → OnRan turn X Y → (X → AreSteps p words lines w.at w.pending later) →
-      AreSteps p words lines w.at w.pending (if_ran turn later)
+  if_goes : (turn : Turn) (w : Walk) (later : List ℕ) (X Y : Type 0) → OnRan turn X Y → (X → AreSteps p words lines (state w.at w.pending) later) →
+      AreSteps p words lines (state w.at w.pending) (if_ran turn later)
   if_goes Ran w later X Y on steps = steps on
   if_goes (Exit status) w later X Y on steps = tt
   if_goes (Break pc) w later X Y on steps = tt
@@ -52,7 +56,7 @@ module _ (p : Profile) (image : Contents) (words : List ℕ) (lines : List Graph
   other_walk walks j k w other = rw (ne_eqb k j (λ e. other (sym e))) refl
 
   later_steps : (k : ℕ) (steps : List HartStep) (walks : Walks) (w : Walk) (harts : Harts) (s : Shared) → walks k ≡ Some w → Runs walks harts s steps →
-      AreSteps p words lines w.at w.pending (walk_of p words k harts s steps)
+      AreSteps p words lines (state w.at w.pending) (walk_of p words k harts s steps)
   unfolding walk_of
   later_steps k [] walks w harts s going r = tt
   later_steps k (t ∷ rest) walks w harts s going r =
@@ -63,24 +67,22 @@ module _ (p : Profile) (image : Contents) (words : List ℕ) (lines : List Graph
       elim (cases_eq t.hart k) [
         | inl same ↦
             let before : walks t.hart ≡ Some w = ap walks same ∙ going in
-            let more : AreSteps p words lines r.0.at r.0.pending (if_ran after.turn later) =
+            let more : AreSteps p words lines (state r.0.at r.0.pending) (if_ran after.turn later) =
             if_goes after.turn r.0 later Next (IsCodeOf (loaded image) after.shared.memory) r.3
             (λ on. later_steps k rest (with_walk walks t.hart r.0) r.0 (with_hart harts t.hart after.hart) after.shared (own_walk walks t.hart k r.0 same) on) in
             elim (cases_Option (place_at p words h.pc)) [
               | inl none ↦
                   let goes : walks t.hart ≡ Some r.0 = rw none at r.1 in
                   let back : r.0 ≡ w = cc in
-                  rw (eq-eqb t.hart k same, none) (subst (λ (v : Walk). AreSteps p words lines v.at v.pending (if_ran after.turn later)) back more)
+                  rw (eq-eqb t.hart k same, none) (subst (λ (v : Walk). AreSteps p words lines (state v.at v.pending) (if_ran after.turn later)) back more)
               | inr (place, some) ↦
                   let goes = rw some at r.1 in
                   let arrives : Arrives p (place_at p words) lines (Some w) h.pc r.0.pending =
                   subst (λ (b : Option Walk). Arrives p (place_at p words) lines b h.pc r.0.pending) before goes.2 in
                   rw (eq-eqb t.hart k same, some) (
-                    arrives.0,
-                    r.0.pending,
-                    arrives.1,
-                    leads_goes lines p arrives.0 w.at w.pending w.regs r.0.pending h.pc arrives.2,
-                    subst (λ (a : ℕ). AreSteps p words lines a r.0.pending (if_ran after.turn later)) goes.0 more,
+                    state h.pc r.0.pending,
+                    (arrives.0, arrives.1, refl, leads_goes lines p arrives.0 w.at w.pending w.regs r.0.pending h.pc arrives.2),
+                    subst (λ (a : ℕ). AreSteps p words lines (state a r.0.pending) (if_ran after.turn later)) goes.0 more,
                   )
             ]
         | inr other ↦ rw (ne_eqb t.hart k other)
@@ -100,7 +102,7 @@ module _ (p : Profile) (image : Contents) (words : List ℕ) (lines : List Graph
       elim (cases_eq t.hart k) [
         | inl same ↦
             let before : walks t.hart ≡ None = ap walks same ∙ waiting in
-            let more : AreSteps p words lines r.0.at r.0.pending (if_ran after.turn later) =
+            let more : AreSteps p words lines (state r.0.at r.0.pending) (if_ran after.turn later) =
             if_goes after.turn r.0 later Next (IsCodeOf (loaded image) after.shared.memory) r.3
             (λ on. later_steps k rest (with_walk walks t.hart r.0) r.0 (with_hart harts t.hart after.hart) after.shared (own_walk walks t.hart k r.0 same) on) in
             elim (cases_Option (place_at p words h.pc)) [
@@ -111,8 +113,8 @@ module _ (p : Profile) (image : Contents) (words : List ℕ) (lines : List Graph
                   subst (λ (b : Option Walk). Arrives p (place_at p words) lines b h.pc r.0.pending) before goes.2 in
                   rw (eq-eqb t.hart k same, some) (
                     arrives.0,
-                    subst (λ (ps : List ℕ). AreSteps p words lines h.pc ps (if_ran after.turn later)) arrives.1
-                        (subst (λ (a : ℕ). AreSteps p words lines a r.0.pending (if_ran after.turn later)) goes.0 more),
+                    subst (λ (ps : List ℕ). AreSteps p words lines (state OPENING ps) (if_ran after.turn later)) arrives.1
+                        (subst (λ (a : ℕ). AreSteps p words lines (state a r.0.pending) (if_ran after.turn later)) (goes.0 ∙ arrives.0) more),
                   )
             ]
         | inr other ↦ rw (ne_eqb t.hart k other)

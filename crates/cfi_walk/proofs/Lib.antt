@@ -2,3 +2,4 @@ pub mod Pending
 pub mod Reach
 pub mod Sites
 pub mod Unique
+pub mod Led

@@ -20,9 +20,9 @@ use Rattle.cfi_rules.specs.Lines.{holds_of, is_among, targets_for}
 use Rattle.cfi_rules.specs.Rules.{IsWellFormed}
 use Rattle.cfi_rules.specs.Split.{code_words}
 use Rattle.cfi_rules.specs.Walk.{InClass, CallGoes, ComputedCallGoes, FlowGoes, ReturnGoes, Goes}
+use Rattle.cfi_rules.specs.Walks.{WalkState}
 use Rattle.cfi_rules.proofs.RuleFacts.{target_bears, unit_borne}
 use Rattle.cfi_walk.specs.Laws.{AreSites, StepIsUnique}
-use Rattle.cfi_walk.specs.State.{WalkState}
 use Rattle.cfi_walk.proofs.Reach.{unit_within}
 use Rattle.cfi_walk.proofs.Sites.{either_kept, exit_kept, jump_kept}
 

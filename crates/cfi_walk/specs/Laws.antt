@@ -7,8 +7,7 @@ use Rattle.cfi_graph.specs.Graph.{GraphParts}
 use Rattle.cfi_unit.specs.UnitWords.{DEEP}
 use Rattle.cfi_rules.specs.Rules.{IsWellFormed}
 use Rattle.cfi_rules.specs.Split.{code_words}
-use Rattle.cfi_walk.specs.State.{WalkState}
-use Rattle.cfi_walk.specs.Step.{IsStep}
+use Rattle.cfi_rules.specs.Walks.{IsStep, WalkState}
 
 -- sites lie above the handlers
 abbrev pub AreSites : List ℕ → Type 0

@@ -1,4 +1,3 @@
-pub mod State
-pub mod Step
 pub mod Moves
+pub mod Trail
 pub mod Laws

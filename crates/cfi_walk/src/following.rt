@@ -1,8 +1,9 @@
-ghost use Rattle.std.specs.Prelude.{◌≡◌};
+ghost use Rattle.std.specs.Prelude.{◌≡◌, false, true};
 ghost use Rattle.rv_word.specs.Image.{image_profile};
 ghost use Rattle.cfi_rules.specs.Split.{code_words};
-ghost use Rattle.cfi_walk.specs.State.{WalkState};
-ghost use Rattle.cfi_walk.specs.Step.{IsStep};
+ghost use Rattle.cfi_rules.specs.Walks.{AreSteps, IsStep, IsWalked, WalkState, walk_start};
+ghost use Rattle.cfi_walk.specs.Laws.{AreSites};
+ghost use Rattle.cfi_walk.specs.Trail.{LeadTo, StopAt};
 ghost use Rattle.cfi_walk.specs.declared.following.Followed.TheVariants.{Yes, No};
 
 use crate::step::step;
@@ -37,4 +38,30 @@ pub fn follow(checked: &Checked<'_>, walk: &mut Walk, pc: u64) -> Followed
         }
         None => Followed::No,
     }
+}
+
+/// Goes on to each of these addresses, one after another, and tells whether a step led to each. Stays where there is
+/// no step to the next. Takes no memory.
+pub fn follow_all(checked: &Checked<'_>, walk: &mut Walk, addresses: &[u64]) -> bool
+    ensures yes { result ≡ true → LeadTo (image_profile checked.now.image) (code_words checked.now.image.code) checked.now.graph.lines walk.old addresses.now walk.new }
+    ensures no { result ≡ false → StopAt (image_profile checked.now.image) (code_words checked.now.image.code) checked.now.graph.lines walk.old addresses.now walk.new }
+
+    // So the answer tells whether the addresses are steps, where an address fixes the step.
+    ensures steps { result ≡ true → AreSteps (image_profile checked.now.image) (code_words checked.now.image.code) checked.now.graph.lines walk.old addresses.now }
+    ensures only { result ≡ false → AreSites walk.old.pending →
+        AreSteps (image_profile checked.now.image) (code_words checked.now.image.code) checked.now.graph.lines walk.old addresses.now → ⊥ }
+
+    // From the opening on the walk of each hart in each run is followed.
+    ensures runs { walk.old ≡ walk_start → IsWalked (image_profile checked.now.image) checked.now.image addresses.now → result ≡ true }
+{
+    checked.is_safe();
+    // Tells the proof that the pair meets the rules.
+    let _ = checked.image();
+    for pc in addresses {
+        match follow(checked, walk, *pc) {
+            Followed::Yes => {}
+            Followed::No => return false,
+        }
+    }
+    true
 }

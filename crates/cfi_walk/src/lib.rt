@@ -2,7 +2,7 @@
 //! accepted image, the sites of its pending calls, and whether it may go on to an address.
 #![tactic(auto)]
 
-pub use following::{Followed, follow};
+pub use following::{Followed, follow, follow_all};
 pub use walk::Walk;
 
 mod class;

@@ -1,7 +1,7 @@
 ghost use Rattle.std.specs.Prelude.{◌≡◌, ◌<◌, ◌≤◌, ◌∷◌, IfOk, drop, length, slice_get};
 ghost use Rattle.cfi_unit.specs.Shadow.{MOST_PENDING};
+ghost use Rattle.cfi_rules.specs.Walks.{walk_start};
 ghost use Rattle.cfi_walk.specs.Moves.{HasRoom, after};
-ghost use Rattle.cfi_walk.specs.State.{walk_start};
 
 use rv_word::NoMemory;
 use rv_word::profile::START;
@@ -31,7 +31,7 @@ pub struct Walk {
 impl Model for Walk {
     ghost use Rattle.std.specs.Prelude.{◌≤◌, reverse, vec_capacity, vec_len};
     ghost use Rattle.cfi_unit.specs.Shadow.{MOST_PENDING};
-    ghost use Rattle.cfi_walk.specs.State.{WalkState};
+    ghost use Rattle.cfi_rules.specs.Walks.{WalkState};
 
     ghost Value = { WalkState };
 

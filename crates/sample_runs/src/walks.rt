@@ -1,7 +1,7 @@
 //! Walks along trails.
 
 use cfi_verify::Checked;
-use cfi_walk::{Followed, Walk, follow};
+use cfi_walk::{Followed, Walk, follow, follow_all};
 use std::alloc::Global;
 
 /// Where a walk goes, how many sites are pending there, and which is the newest.
@@ -52,19 +52,9 @@ pub fn walks_along(alloc: Global, checked: &Checked<'_>, trail: &[Step], nowhere
     }
 }
 
-/// Whether a walk goes on to each of these addresses.
-fn follows(checked: &Checked<'_>, walk: &mut Walk, trail: &[u64]) -> bool {
-    for pc in trail {
-        if !matches!(follow(checked, walk, *pc), Followed::Yes) {
-            return false;
-        }
-    }
-    true
-}
-
 /// Whether a walk goes on to each address of a row's trail, and then to its last address, or not, as it says.
 fn goes_so(checked: &Checked<'_>, walk: &mut Walk, row: &(&[u64], u64, bool)) -> bool {
-    if !follows(checked, walk, row.0) {
+    if !follow_all(checked, walk, row.0) {
         return false;
     }
     if row.2 {
