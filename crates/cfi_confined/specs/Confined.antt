@@ -38,7 +38,7 @@ before_call version = 28
 abbrev pub most_skip : GraphVersion → ℕ
 most_skip version = 64
 
--- the line of a class that serves one kind of computed transfers alone
+-- the sort of the classes that serve one kind of computed transfers alone, and the line of such a class
 abbrev pub sort_of : SiteKind → Sort
 sort_of K.Call = sorts.Calls
 sort_of K.Jump = sorts.Jumps

@@ -116,7 +116,7 @@ static CHANGED: [(usize, &str); 20] = [
 /// The row of `A_OF_HARTS` with a word put at an index.
 fn row_with(index: usize, word: u32, words: &'static str) -> Row {
     Row(
-        2,
+        EightHarts,
         &PROLOGUE_OF_HARTS,
         &A_OF_HARTS,
         A_OF_HARTS_GRAPH,
