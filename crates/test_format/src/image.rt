@@ -2,7 +2,7 @@ ghost use Rattle.std.specs.Prelude.{◌≡◌, length};
 
 use crate::common::put;
 use elf_image::{ImageRefusal, read_image, write_image, write_image_as};
-use rv_word::{Image, NoMemory};
+use rv_word::{Image, ImageVersion, NoMemory};
 use sample_programs::{A, code, is_told_as};
 use std::alloc::Global;
 
@@ -137,9 +137,9 @@ static FIELDS: [(usize, u64); 38] = [
 ];
 
 /// Sizes of the shadow stack, and the version whose size each is.
-static SHADOWS: [([u8; 8], Option<u8>); 16] = [
-    ([0, 0, 1, 0, 0, 0, 0, 0], Some(1)),
-    ([0, 0, 8, 0, 0, 0, 0, 0], Some(2)),
+static SHADOWS: [([u8; 8], Option<ImageVersion>); 16] = [
+    ([0, 0, 1, 0, 0, 0, 0, 0], Some(ImageVersion::OneHart)),
+    ([0, 0, 8, 0, 0, 0, 0, 0], Some(ImageVersion::EightHarts)),
     ([0, 0, 0, 0, 0, 0, 0, 0], None),
     ([1, 0, 0, 0, 0, 0, 0, 0], None),
     ([0xff, 0xff, 0, 0, 0, 0, 0, 0], None),
@@ -166,12 +166,12 @@ fn has_code_alone(alloc: Global, code: &[u8], file: &[u8]) -> bool {
 }
 
 /// Whether an image has these parts.
-fn has_parts(image: &Image, version: u8, code: &[u8], init: &[u8]) -> bool {
+fn has_parts(image: &Image, version: ImageVersion, code: &[u8], init: &[u8]) -> bool {
     image.version() == version && image.code() == code && image.init() == init
 }
 
 /// Whether a file is read as the image of these parts.
-fn is_read_back(version: u8, code: &[u8], init: &[u8], file: &[u8]) -> bool {
+fn is_read_back(version: ImageVersion, code: &[u8], init: &[u8], file: &[u8]) -> bool {
     match read_image(file) {
         Ok(image) => has_parts(&image, version, code, init),
         Err(_) => false,
@@ -183,7 +183,8 @@ fn is_file_of_1(alloc: Global, code: &[u8]) -> bool
     requires { length code.now ≡ 80 }
 {
     match write_image(alloc, code, &[]) {
-        Ok(file) => has_code_alone(alloc, code, &file) && is_read_back(1, code, &[], &file),
+        Ok(file) => has_code_alone(alloc, code, &file)
+            && is_read_back(ImageVersion::OneHart, code, &[], &file),
         Err(_) => false,
     }
 }
@@ -199,9 +200,10 @@ fn is_2_beside_1(alloc: Global, code: &[u8], file: &mut [u8]) -> bool {
 fn is_file_of_2(alloc: Global, code: &[u8]) -> bool
     requires { length code.now ≡ 80 }
 {
-    match write_image_as(alloc, 2, code, &[]) {
+    match write_image_as(alloc, ImageVersion::EightHarts, code, &[]) {
         Ok(mut file) => {
-            is_read_back(2, code, &[], &file) && is_2_beside_1(alloc, code, &mut file)
+            is_read_back(ImageVersion::EightHarts, code, &[], &file)
+                && is_2_beside_1(alloc, code, &mut file)
         }
         Err(_) => false,
     }
@@ -232,9 +234,8 @@ fn is_right_of(file: &mut [u8], row: &Change) -> bool {
 }
 
 /// Whether a row is right of the image of a version, the code and 4 bytes of data.
-fn is_right_with(alloc: Global, version: u8, code: &[u8], row: &Change) -> bool
-    requires version { IsVersion version }
-    requires size { length code.now ≡ 80 }
+fn is_right_with(alloc: Global, version: ImageVersion, code: &[u8], row: &Change) -> bool
+    requires { length code.now ≡ 80 }
 {
     match write_image_as(alloc, version, code, b"data") {
         Ok(mut file) => {
@@ -247,7 +248,8 @@ fn is_right_with(alloc: Global, version: u8, code: &[u8], row: &Change) -> bool
 /// The same of the program's code, in each version.
 fn is_right(alloc: Global, row: &Change) -> bool {
     match code(alloc, &A) {
-        Ok(code) => is_right_with(alloc, 1, &code, row) && is_right_with(alloc, 2, &code, row),
+        Ok(code) => is_right_with(alloc, ImageVersion::OneHart, &code, row)
+            && is_right_with(alloc, ImageVersion::EightHarts, &code, row),
         Err(_) => false,
     }
 }
@@ -260,9 +262,7 @@ fn takes_one_spelling(rt: HostRuntime) {
 }
 
 /// The image of a version, the program's code and 4 bytes of data.
-fn image_of(alloc: Global, version: u8) -> Result<Vec<u8>, NoMemory>
-    requires { IsVersion version }
-{
+fn image_of(alloc: Global, version: ImageVersion) -> Result<Vec<u8>, NoMemory> {
     let code = code(alloc, &A)?;
     write_image_as(alloc, version, &code, b"data")
 }
@@ -277,9 +277,7 @@ fn is_refused_for(file: &mut [u8], place: usize, told: u64) -> bool {
 }
 
 /// Whether a row of the fields is right of the image of a version.
-fn is_right_field(alloc: Global, version: u8, row: &(usize, u64)) -> bool
-    requires { IsVersion version }
-{
+fn is_right_field(alloc: Global, version: ImageVersion, row: &(usize, u64)) -> bool {
     match image_of(alloc, version) {
         Ok(mut file) => is_refused_for(&mut file, row.0, row.1),
         Err(_) => false,
@@ -290,12 +288,12 @@ fn is_right_field(alloc: Global, version: u8, row: &(usize, u64)) -> bool
 fn compares_each_field(rt: HostRuntime) {
     for row in &FIELDS {
         assert!(rt;
-            is_right_field(rt.alloc(), 1, row),
+            is_right_field(rt.alloc(), ImageVersion::OneHart, row),
             "version 1, byte {}",
             row.0
         );
         assert!(rt;
-            is_right_field(rt.alloc(), 2, row),
+            is_right_field(rt.alloc(), ImageVersion::EightHarts, row),
             "version 2, byte {}",
             row.0
         );
@@ -303,7 +301,7 @@ fn compares_each_field(rt: HostRuntime) {
 }
 
 /// Whether a file is read as an image of this version, or refused for the size of its shadow stack.
-fn has_version(file: &[u8], version: Option<u8>) -> bool {
+fn has_version(file: &[u8], version: Option<ImageVersion>) -> bool {
     match read_image(file) {
         Ok(image) => Some(image.version()) == version,
         Err(refusal) => version.is_none() && refusal == ImageRefusal::Byte(216),
@@ -311,9 +309,11 @@ fn has_version(file: &[u8], version: Option<u8>) -> bool {
 }
 
 /// Whether a row of the sizes is right of the image that was written in a version.
-fn is_right_shadow(alloc: Global, version: u8, row: &([u8; 8], Option<u8>)) -> bool
-    requires { IsVersion version }
-{
+fn is_right_shadow(
+    alloc: Global,
+    version: ImageVersion,
+    row: &([u8; 8], Option<ImageVersion>),
+) -> bool {
     match image_of(alloc, version) {
         Ok(mut file) => {
             put(&mut file, SHADOW_LENGTH, &row.0) != (row.1 == Some(version))
@@ -327,12 +327,12 @@ fn is_right_shadow(alloc: Global, version: u8, row: &([u8; 8], Option<u8>)) -> b
 fn tells_the_version(rt: HostRuntime) {
     for row in &SHADOWS {
         assert!(rt;
-            is_right_shadow(rt.alloc(), 1, row),
+            is_right_shadow(rt.alloc(), ImageVersion::OneHart, row),
             "version 1, {:?}",
             row.0
         );
         assert!(rt;
-            is_right_shadow(rt.alloc(), 2, row),
+            is_right_shadow(rt.alloc(), ImageVersion::EightHarts, row),
             "version 2, {:?}",
             row.0
         );
@@ -341,9 +341,22 @@ fn tells_the_version(rt: HostRuntime) {
 
 /// Whether images that are made of these bytes have them, and the version that was asked.
 fn are_made_so() -> bool {
-    has_parts(&Image::of(b"code", b"data"), 1, b"code", b"data")
-        && has_parts(&Image::of_version(1, b"code", b"data"), 1, b"code", b"data")
-        && has_parts(&Image::of_version(2, b"code", b"data"), 2, b"code", b"data")
+    has_parts(
+        &Image::of(b"code", b"data"),
+        ImageVersion::OneHart,
+        b"code",
+        b"data",
+    ) && has_parts(
+        &Image::of_version(ImageVersion::OneHart, b"code", b"data"),
+        ImageVersion::OneHart,
+        b"code",
+        b"data",
+    ) && has_parts(
+        &Image::of_version(ImageVersion::EightHarts, b"code", b"data"),
+        ImageVersion::EightHarts,
+        b"code",
+        b"data",
+    )
 }
 
 #[test]

@@ -4,30 +4,35 @@ use crate::steps::{LOADS, STEPS, TESTED, code, numbers};
 use rv_instr::Reg;
 use rv_machine::{Change, Machine, Turn};
 use rv_sys::{Event, System};
-use rv_word::Image;
+use rv_word::{Image, ImageVersion};
 use sample_programs::numbers::{number, rows, word};
 use std::alloc::Global;
 
 /// What runs read.
 const INPUT: &[u8] = b"ABCDEF";
 
-/// The machine with so many harts at the start of some code over some data, in an image of version 1 or
-/// 2; none of code that no image may have.
-fn machine(alloc: Global, version: u8, code: &[u8], data: &[u8], harts: u8) -> Option<Machine> {
+/// The machine with so many harts at the start of some code over some data, in an image of a version; none
+/// of code that no image may have.
+fn machine(
+    alloc: Global,
+    version: ImageVersion,
+    code: &[u8],
+    data: &[u8],
+    harts: u8,
+) -> Option<Machine> {
     let (len, init) = (code.len(), data.len());
     if len < 4 || len > 0x10_0000 || len % 4 != 0 || init > 0x200_0000 || harts == 0 {
         return None;
     }
-    let image = if version == 1 {
-        Image::of(code, data)
-    } else {
-        Image::of_version(2, code, data)
+    let image = match version {
+        ImageVersion::OneHart => Image::of(code, data),
+        ImageVersion::EightHarts => Image::of_version(version, code, data),
     };
     Machine::new(alloc, &image, INPUT, harts).ok()
 }
 
 /// The machine with so many harts that start with these words.
-fn started(alloc: Global, version: u8, words: &[u32], harts: u8) -> Option<Machine> {
+fn started(alloc: Global, version: ImageVersion, words: &[u32], harts: u8) -> Option<Machine> {
     match code(alloc, &[0; 3], words) {
         Ok(code) => machine(alloc, version, &code, &[], harts),
         Err(_) => None,
@@ -92,7 +97,7 @@ fn all_start(machine: &Machine, harts: u8) -> bool {
     machine.harts() == harts
 }
 
-fn starts(alloc: Global, version: u8, harts: u8) -> bool {
+fn starts(alloc: Global, version: ImageVersion, harts: u8) -> bool {
     match started(alloc, version, &SHARE, harts) {
         Some(machine) => all_start(&machine, harts) && machine.system().events().len() == 0,
         None => false,
@@ -101,8 +106,19 @@ fn starts(alloc: Global, version: u8, harts: u8) -> bool {
 
 #[test]
 fn each_hart_starts_with_its_number(rt: HostRuntime) {
-    for (version, harts) in [(1, 1), (1, 2), (2, 1), (2, 2), (2, 8), (2, 255)] {
-        assert!(rt; starts(rt.alloc(), version, harts), "{version} {harts}");
+    for (version, harts) in [
+        (ImageVersion::OneHart, 1),
+        (ImageVersion::OneHart, 2),
+        (ImageVersion::EightHarts, 1),
+        (ImageVersion::EightHarts, 2),
+        (ImageVersion::EightHarts, 8),
+        (ImageVersion::EightHarts, 255),
+    ] {
+        assert!(rt;
+            starts(rt.alloc(), version, harts),
+            "{} {harts}",
+            version.number()
+        );
     }
 }
 
@@ -185,7 +201,7 @@ fn are_as_told(machine: &Machine, row: &str) -> bool {
 
 /// Whether the harts of a row leave the sum and are as it says.
 fn shares(alloc: Global, row: &str) -> bool {
-    let Some(mut machine) = started(alloc, 2, &SHARE, small(row, 1)) else {
+    let Some(mut machine) = started(alloc, ImageVersion::EightHarts, &SHARE, small(row, 1)) else {
         return false;
     };
     steps(&mut machine, text(row, 2))
@@ -307,7 +323,7 @@ fn ends(machine: &mut Machine, row: &str) -> bool {
 
 /// Whether the harts of a row make its calls.
 fn tells(alloc: Global, row: &str) -> bool {
-    let Some(mut machine) = started(alloc, 2, &TELL, small(row, 1)) else {
+    let Some(mut machine) = started(alloc, ImageVersion::EightHarts, &TELL, small(row, 1)) else {
         return false;
     };
     steps(&mut machine, text(row, 2))
@@ -331,7 +347,7 @@ fn harts_share_calls_and_an_exit(rt: HostRuntime) {
 }
 
 /// The machine of eight harts whose loads put these numbers into x10 and x11 before a word.
-fn eight(alloc: Global, version: u8, word: u32, a: u64, b: u64) -> Option<Machine> {
+fn eight(alloc: Global, version: ImageVersion, word: u32, a: u64, b: u64) -> Option<Machine> {
     let Ok(code) = code(alloc, &LOADS, &[word]) else {
         return None;
     };
@@ -355,7 +371,7 @@ fn step_does(alloc: Global, hart: u8, row: &str) -> bool {
     let (Some(word), Some(a), Some(b)) = (word(row, 1), number(row, 2), number(row, 3)) else {
         return false;
     };
-    match eight(alloc, 2, word, a, b) {
+    match eight(alloc, ImageVersion::EightHarts, word, a, b) {
         Some(mut machine) => runs(&mut machine, hart, 6) && is_after(&machine, hart, row),
         None => false,
     }
@@ -405,7 +421,7 @@ fn wanted(word: u32, addr: u64, fits: bool) -> Turn {
 }
 
 /// Whether a word ends so for the last hart of eight, after its five loads.
-fn step_ends(alloc: Global, version: u8, word: u32, addr: u64, fits: bool) -> bool {
+fn step_ends(alloc: Global, version: ImageVersion, word: u32, addr: u64, fits: bool) -> bool {
     match eight(alloc, version, word, addr, 0) {
         Some(mut machine) => {
             runs(&mut machine, 7, 5) && turn(&mut machine, 7) == Some(wanted(word, addr, fits))
@@ -418,11 +434,11 @@ fn step_ends(alloc: Global, version: u8, word: u32, addr: u64, fits: bool) -> bo
 fn the_shadow_is_as_large_as_its_version_has_it(rt: HostRuntime) {
     for (word, addr, lone, several) in &STOPS {
         assert!(rt;
-            step_ends(rt.alloc(), 1, *word, *addr, *lone),
+            step_ends(rt.alloc(), ImageVersion::OneHart, *word, *addr, *lone),
             "1: {word:x} of {addr:x}"
         );
         assert!(rt;
-            step_ends(rt.alloc(), 2, *word, *addr, *several),
+            step_ends(rt.alloc(), ImageVersion::EightHarts, *word, *addr, *several),
             "2: {word:x} of {addr:x}"
         );
     }
@@ -431,7 +447,12 @@ fn the_shadow_is_as_large_as_its_version_has_it(rt: HostRuntime) {
 /// Whether room for the last hart's part changes nothing that is seen.
 fn reserves(alloc: Global) -> bool {
     let code = [0x23, 0x30, 0xb5, 0];
-    let Ok(mut machine) = Machine::new(alloc, &Image::of_version(2, &code, &[]), INPUT, 8) else {
+    let Ok(mut machine) = Machine::new(
+        alloc,
+        &Image::of_version(ImageVersion::EightHarts, &code, &[]),
+        INPUT,
+        8,
+    ) else {
         return false;
     };
     machine.reserve_pages(0x6007_0000, 0x1_0000).is_ok()

@@ -2,7 +2,7 @@ use crate::steps::{LOADS, STEPS, TESTED, X12, code, numbers};
 use rv_code::decode;
 use rv_instr::{BranchOp, Instr, Reg};
 use rv_machine::{Change, Processor, Turn, branches};
-use rv_word::Image;
+use rv_word::{Image, ImageVersion};
 use sample_programs::numbers::{number, rows, word};
 use sample_programs::{A, PROLOGUE, STATUS};
 use std::alloc::{AllocError, Global};
@@ -181,7 +181,7 @@ fn without_code(alloc: Global, a: u64, b: u64) -> Option<Processor> {
     if data.len() > 48 {
         return None;
     }
-    let mut processor = Processor::with_data(alloc, 1, &data, &[]).ok()?;
+    let mut processor = Processor::with_data(alloc, ImageVersion::OneHart, &data, &[]).ok()?;
     processor.set_reg(Reg::of(10), a);
     processor.set_reg(Reg::of(11), b);
     processor.set_reg(Reg::of(12), X12);

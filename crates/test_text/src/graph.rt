@@ -1,7 +1,5 @@
-ghost use Rattle.std.specs.Prelude.{◌==◌, ◌||◌, IsTrue};
-
-use cfi_graph::{Graph, GraphLine, GraphLines, SiteKind, read_graph, write_graph};
-use rv_word::{NoMemory, Numbers, Places};
+use cfi_graph::{Graph, GraphLine, GraphLines, SiteKind, Sort, read_graph, write_graph};
+use rv_word::{GraphVersion, NoMemory, Numbers, Places};
 use sample_programs::{P_GRAPH, Q_GRAPH, is_told_as, rows};
 use std::alloc::{AllocError, Global};
 
@@ -462,7 +460,7 @@ fn wrong_bytes(rt: HostRuntime) {
 
 /// Whether a graph has the counts of the worked one of version 1, and the opening's call as its second line.
 fn has_parts(graph: &Graph) -> bool {
-    graph.version() == 1
+    graph.version() == GraphVersion::OneLabel
         && graph.code() == 0x104
         && graph.classes() == 1
         && graph.sites() == 1
@@ -473,10 +471,10 @@ fn has_parts(graph: &Graph) -> bool {
 /// Whether a line is a class of this sort, label and targets.
 fn is_class_line(line: &GraphLine, is_for_calls: bool, label: u32, targets: &[u64]) -> bool {
     match line {
-        GraphLine::CallClass(found, places) => {
+        GraphLine::Class(Sort::Calls, found, places) => {
             is_for_calls && *found == label && places.as_slice() == targets
         }
-        GraphLine::JumpClass(found, places) => {
+        GraphLine::Class(Sort::Jumps, found, places) => {
             !is_for_calls && *found == label && places.as_slice() == targets
         }
         _ => false,
@@ -485,7 +483,7 @@ fn is_class_line(line: &GraphLine, is_for_calls: bool, label: u32, targets: &[u6
 
 /// Whether a graph has the counts of the worked one of version 2, its two classes, and its sites.
 fn has_parts_of_two_sorts(graph: &Graph) -> bool {
-    graph.version() == 2
+    graph.version() == GraphVersion::TwoLabels
         && graph.code() == 0x124
         && graph.classes() == 2
         && graph.sites() == 2
@@ -525,9 +523,7 @@ fn parts(rt: HostRuntime) {
 }
 
 /// A graph of one edge that is made of its parts.
-fn made(alloc: Global, version: u8) -> Result<Graph, NoMemory>
-    requires { IsTrue (version == 1 || version == 2) }
-{
+fn made(alloc: Global, version: GraphVersion) -> Result<Graph, NoMemory> {
     let mut lines = Vec::new(alloc);
     lines.push(GraphLine::Edge(0x4000_0040, 0x4000_0050))?;
     Graph::of(alloc, version, 0x104, GraphLines::of(lines))
@@ -538,8 +534,8 @@ fn made_of_a_class(alloc: Global) -> Result<Graph, NoMemory> {
     let mut targets = Vec::new(alloc);
     targets.push(0x4000_00c8)?;
     let mut lines = Vec::new(alloc);
-    lines.push(GraphLine::JumpClass(1, Places::of(targets)))?;
-    Graph::of(alloc, 2, 0x104, GraphLines::of(lines))
+    lines.push(GraphLine::Class(Sort::Jumps, 1, Places::of(targets)))?;
+    Graph::of(alloc, GraphVersion::TwoLabels, 0x104, GraphLines::of(lines))
 }
 
 /// Whether the graph that is made of its parts is written as its text.
@@ -553,7 +549,7 @@ fn is_made_and_written(alloc: Global, graph: Result<Graph, NoMemory>, text: &[u8
 #[test]
 fn made_of_parts(rt: HostRuntime) {
     let alloc = rt.alloc();
-    assert!(rt; is_made_and_written(alloc, made(alloc, 1), MADE));
-    assert!(rt; is_made_and_written(alloc, made(alloc, 2), MADE_OF_2));
+    assert!(rt; is_made_and_written(alloc, made(alloc, GraphVersion::OneLabel), MADE));
+    assert!(rt; is_made_and_written(alloc, made(alloc, GraphVersion::TwoLabels), MADE_OF_2));
     assert!(rt; is_made_and_written(alloc, made_of_a_class(alloc), MADE_OF_A_CLASS));
 }
