@@ -5,13 +5,17 @@ ghost use Rattle.text_lines.specs.Answers.{line_fault};
 ghost use Rattle.tool_io.specs.Names.{AreRead};
 ghost use Rattle.tool_io.specs.Reading.{CountsReads, IsOnlyRead};
 ghost use Rattle.tool_common.specs.Reads.{IsFault, IsStop, IsTooLong, file_names};
+ghost use Rattle.cfi_map_text.specs.Map.{MapParts};
 ghost use Rattle.cfi_map_text.specs.MapText.{map_of};
 ghost use Rattle.rv_word.specs.Form.{graph_version};
+ghost use Rattle.rv_word.specs.declared.end.End.TheVariants.{Fault};
 ghost use Rattle.cfi_flow.specs.Entry.{entry_place};
 ghost use Rattle.cfi_harden.specs.Given.{Given};
 ghost use Rattle.cfi_harden.specs.Room.{HasDataRoom};
+ghost use Rattle.cfi_harden.specs.Prepared.{PreparedParts};
 ghost use Rattle.cfi_harden.specs.Request.{Request};
-ghost use Rattle.tool_commands.specs.Compare.{ExplainsCompare, IsAfterImage, IsCompareOf, IsFresh, IsImageCompared, IsRoomy, IsRoomyEnd, answer_status, asked_at, compare_asked, compare_line, compare_link_words, compare_names, compare_status, compare_words};
+ghost use Rattle.src_machine.specs.Beginning.{Ends};
+ghost use Rattle.tool_commands.specs.Compare.{ExplainsCompare, IsAfterImage, IsCompareOf, IsCompareRefused, IsFresh, IsImageCompared, IsRoomy, IsRoomyEnd, answer_status, asked_at, compare_asked, compare_line, compare_link_words, compare_names, compare_status, compare_words};
 ghost use Rattle.tool_commands.specs.Objects.{Gives, given_by};
 
 use crate::objects::{GivenFault, ObjectBytes, Objects, program_given};
@@ -158,6 +162,22 @@ fn compare_image(
     Ok(CompareOutcome::Compared(compared))
 }
 
+/// What is told where no run of a program begins at a map.
+fn not_at_the_map(image: &[u8], fault: SourceFault) -> Refusal
+    ensures { (asked : Request) (p : PreparedParts) (text : List ℕ) (m : MapParts) → IsRoomy asked p → map_of text ≡ Ok m
+        → Ends p.program p.closed p.entry m (Fault fault) → IsCompareRefused asked image.now text result }
+{
+    wrong_is_not_legal();
+    match fault {
+        SourceFault::RelocRange(section, offset) => {
+            Refusal::Object(cfi_harden::Refusal::RelocRange(section, offset))
+        }
+        SourceFault::BadMap(line) => {
+            after_the_image(image, Refusal::Map(line, MapReason::Place))
+        }
+    }
+}
+
 /// Compares a prepared program at a map with a file that should be an image.
 fn compare_at(
     alloc: Global,
@@ -174,17 +194,9 @@ fn compare_at(
     ensures { (asked : Request) (text : List ℕ) → IsRoomy asked prepared.now → map_of text ≡ Ok map.now
         → IfOk result (IsCompareOf asked image.now text input.now request.now.limit) }
 {
-    wrong_is_not_legal();
     match source_on(alloc, prepared, request.entry, map, input) {
         Ok(mut source) => compare_image(alloc, &mut source, image, input, request.limit),
-        Err(End::Fault(SourceFault::RelocRange(section, offset))) => {
-            let refusal = cfi_harden::Refusal::RelocRange(section, offset);
-            Ok(CompareOutcome::Refused(Refusal::Object(refusal)))
-        }
-        Err(End::Fault(SourceFault::BadMap(line))) => {
-            let refusal = after_the_image(image, Refusal::Map(line, MapReason::Place));
-            Ok(CompareOutcome::Refused(refusal))
-        }
+        Err(End::Fault(fault)) => Ok(CompareOutcome::Refused(not_at_the_map(image, fault))),
         Err(End::NoMemory) => Err(NoMemory),
     }
 }

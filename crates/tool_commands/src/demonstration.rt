@@ -29,8 +29,8 @@ use elf_image::read_image;
 use gen_hardened::laws::demo_is_never_refused;
 use obj_program::Items;
 use rv_word::{End, Form, Image, NoMemory};
-use src_machine::laws::wrong_is_not_legal;
 use src_machine::SourceRun;
+use src_machine::laws::wrong_is_not_legal;
 use std::alloc::Global;
 
 /// How many steps a run, and the program's in a comparison, takes at most.

@@ -4,7 +4,7 @@ use Rattle.rv_word.specs.declared.end.End.{End}
 use Rattle.src_machine.specs.Beginning.{Ends}
 use Rattle.src_machine.specs.declared.source_fault.SourceFault.{SourceFault}
 use Rattle.tool_commands.specs.Compare.{IsCompareOf, IsImageCompared}
-use Rattle.tool_commands.proofs.Sources.{compared_with, source_is, wrong_place}
+use Rattle.tool_commands.proofs.Sources.{compared_with, source_is}
 use Rattle.tool_commands.proofs.compare.compare_at.Goals as goal
 
 pub returns-in-Ok : goal.returns-in-Ok
@@ -19,17 +19,10 @@ returns-in-Ok c = λ asked text roomy read.
     (λ result is. compared_with asked p text roomy image input limit run result source is)
     c.compare_image.ensures
 
-pub returns-in-Err-Fault-RelocRange : goal.returns-in-Err-Fault-RelocRange
-returns-in-Err-Fault-RelocRange c = λ asked text roomy read.
+pub returns-in-Err-Fault : goal.returns-in-Err-Fault
+returns-in-Err-Fault c = λ asked text roomy read.
     let p = c.args.prepared.now in
-    let lines = c.args.map.now in
-    let (legal, out) = subst (λ (e : End SourceFault). Ends p.program p.closed p.entry lines e) c.in-Err-Fault-RelocRange.field-0-is c.in-Err-Fault-RelocRange.ensures in
-    rw c.in-Err-Fault-RelocRange.field-0-is (p, lines, roomy, record { read = read; legal = legal }, out)
-
-pub returns-in-Err-Fault-BadMap : goal.returns-in-Err-Fault-BadMap
-returns-in-Err-Fault-BadMap c = λ asked text roomy read.
-    let p = c.args.prepared.now in
-    let lines = c.args.map.now in
-    wrong_place asked p text roomy c.args.image.now c.after_the_image-refusal.result lines c.in-Err-Fault-BadMap.line c.wrong_is_not_legal.ensures read
-    (subst (λ (e : End SourceFault). Ends p.program p.closed p.entry lines e) c.in-Err-Fault-BadMap.field-0-is c.in-Err-Fault-BadMap.ensures)
-    (rw c.in-Err-Fault-BadMap.field-0-is at c.after_the_image-refusal.ensures)
+    let m = c.args.map.now in
+    c.not_at_the_map.ensures asked p text m roomy read
+    (rw c.in-Err-Fault.field-0-is
+    (subst (λ (e : End SourceFault). Ends p.program p.closed p.entry m e) c.in-Err-Fault.field-0-is c.in-Err-Fault.ensures))
