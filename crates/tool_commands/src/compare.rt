@@ -172,9 +172,7 @@ fn not_at_the_map(image: &[u8], fault: SourceFault) -> Refusal
         SourceFault::RelocRange(section, offset) => {
             Refusal::Object(cfi_harden::Refusal::RelocRange(section, offset))
         }
-        SourceFault::BadMap(line) => {
-            after_the_image(image, Refusal::Map(line, MapReason::Place))
-        }
+        SourceFault::BadMap(line) => after_the_image(image, Refusal::Map(line, MapReason::Place)),
     }
 }
 
