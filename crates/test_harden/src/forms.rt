@@ -181,7 +181,13 @@ fn are_written(alloc: Global, files: &mut MemFiles, program: &Program) -> bool {
 }
 
 /// Whether an object becomes its program in a form, whose images are of a version.
-fn is_hardened(alloc: Global, form: &str, version: ImageVersion, program: &Program, told: &str) -> bool {
+fn is_hardened(
+    alloc: Global,
+    form: &str,
+    version: ImageVersion,
+    program: &Program,
+    told: &str,
+) -> bool {
     let mut files = MemFiles::new(alloc, Vec::new(alloc));
     add_all(alloc, &mut files, version, program).is_ok()
         && is_put(alloc, &mut files, form, program, told)
@@ -228,7 +234,14 @@ fn joined_stores(rt: HostRuntime) {
     check(&rt, rt.alloc(), "plain", OneHart, &STORES, plain);
     check(&rt, rt.alloc(), "harts", EightHarts, &STORES_HARTS, harts);
     check(&rt, rt.alloc(), "split", OneHart, &STORES_SPLIT, split);
-    check(&rt, rt.alloc(), "harts-split", EightHarts, &STORES_HARTS_SPLIT, both);
+    check(
+        &rt,
+        rt.alloc(),
+        "harts-split",
+        EightHarts,
+        &STORES_HARTS_SPLIT,
+        both,
+    );
 }
 
 #[test]
@@ -237,5 +250,12 @@ fn guarded_calls(rt: HostRuntime) {
     check(&rt, rt.alloc(), "plain", OneHart, &CALLS, plain);
     check(&rt, rt.alloc(), "harts", EightHarts, &CALLS_HARTS, harts);
     check(&rt, rt.alloc(), "split", OneHart, &CALLS_SPLIT, split);
-    check(&rt, rt.alloc(), "harts-split", EightHarts, &CALLS_HARTS_SPLIT, both);
+    check(
+        &rt,
+        rt.alloc(),
+        "harts-split",
+        EightHarts,
+        &CALLS_HARTS_SPLIT,
+        both,
+    );
 }
