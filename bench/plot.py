@@ -21,7 +21,7 @@ from pictures import GREY, INK, Drawing
 STEPS, BYTES = "Steps, for rv64im:", "Bytes of code, for rv64im:"
 ALL = "Over all 50 programs of a processor, from where to where and in the mean:"
 PLAIN_BAR, ADDED_BARS, LINES = "#d5d9de", ("#0a58a8", "#3f8f3a"), "#9aa2ab"
-WIDTH, MARGIN, TOP, PANELS = 920, 18, 88, (156, 546)
+WIDTH, MARGIN, TOP, PANELS = 920, 18, 108, (156, 546)
 UNIT, MOST = 138, 2.4  # how long "once as much" is drawn; more than the most does not fit
 ROW, BAR, GROUP, AFTER, BETWEEN = 15, 10, 24, 6, 40
 
@@ -113,6 +113,7 @@ def draw_head(plot):
         plot.box(x, 38, 12, 12, ADDED_BARS[panel], None)
     plot.text(308, 48, "what hardening adds", GREY, 12)
     plot.text(WIDTH - MARGIN, 48, "five programs, by gcc at -O2 for rv64im", GREY, 12, anchor="end")
+    plot.text(MARGIN, 68, "each store alone: with a mask of its own; a list: of so many system calls (both in form plain); the other rows are forms", GREY, 12)
     for panel, what in enumerate(("steps of a run", "bytes of code")):
         plot.text(PANELS[panel], TOP - 14, what, ADDED_BARS[panel], 13, True)
         for ratio, told in ((1, "1"), (2, "2 times")):
@@ -164,7 +165,7 @@ def drawn(text):
     for name in steps:
         y = draw_program(plot, y, name, choices, (steps[name], sizes[name]))
     plot.line(MARGIN, y + 6, WIDTH - MARGIN, y + 6)
-    plot.text(MARGIN, y + 28, "All 50 programs of a processor, by two compilers at five levels: the least, the greatest, and the mean (black)",
+    plot.text(MARGIN, y + 28, "All 50 programs of a processor, the five by two compilers at five levels: the least, the greatest, and the mean (black)",
               GREY, 12)
     y += BETWEEN
     for processor, forms in spans.items():

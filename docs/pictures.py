@@ -55,7 +55,7 @@ UNITS = [
                (None, "024f9f93", "slli x31,x31,36", "its upper 36 bits go,"),
                (None, "024fdf93", "srli x31,x31,36", "so it is below 2^28: in data"),
                ("00b53023  sd   x11,0(x10)", "00bfb023", "sd   x11,0(x31)", "the program's store")]),
-    ("return", [(None, "ff81bf83", "ld   x31,-8(x3)", "the newest site on the shadow stack,"),
+    ("return", [(None, "ff81bf83", "ld   x31,-8(x3)", "the shadow stack's newest address"),
                 (None, "ff818193", "addi x3,x3,-8", "is taken off it"),
                 (None, "001f8463", "beq  x31,x1,8", "is it the one that x1 has?"),
                 (None, "fa9ff06f", "jal  x0,40000004", "if not, halt in __cfi_bad_return"),
@@ -72,6 +72,7 @@ def hardened():
     for number, line in enumerate(SOURCE):
         drawing.code(left, 30 + 18 * number, line)
     drawing.text(left, top - 12, "what gcc makes of it", GREY)
+    drawing.text(unit_at + 8, top - 12, "unit", GREY)
     drawing.text(right, top - 12, "what rvcfi makes of that", GREY)
     y, address = top, 0x40000040
     for name, unit in UNITS:
@@ -106,7 +107,7 @@ MEMORY = [
     ("40100000", "40100007", ["eight zeros"], ["load"], "#ffffff"),
     ("40000000", "400fffff", ["code", "handlers, opening, closing, units, then zeros"], ["load, fetch"], CODE_BACK),
     NOTHING,
-    ("00000000", "10000fff", ["data", "the harts' stacks, from 10000000 - k * 100000 down", "the image's data, from 00010000 on"],
+    ("00000000", "10000fff", ["data", "the stack of hart k, from 10000000 - k * 100000 down", "the image's data, from 00010000 on"],
      ["load, store", "by program and attacker"], DATA_BACK),
 ]
 REACHED = 0x10000805
@@ -132,7 +133,7 @@ def memory():
         for number, use in enumerate(uses):
             drawing.text(x + width + 14, y + 19 + 20 * number, use, size=12)
         y += height
-    drawing.text(x, y + 22, "A store behind a mask goes to an address below 2^28, and at most 2,047 on: to %08x and no further." % REACHED, GREY, 12)
+    drawing.text(x, y + 22, "A store behind a mask begins at most 2,047 past an address below 2^28: the last byte it reaches is %08x." % REACHED, GREY, 12)
     drawing.text(x, y + 40, "The attacker writes any data before any instruction, and nothing else.", GREY, 12)
     return drawing.svg()
 
