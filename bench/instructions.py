@@ -3,7 +3,8 @@
 
 Printed are those of `verify` of bench/verify.py's images of 1,024 KiB, with one store behind a mask and with several; of `rewrite` and
 `verify` of bench/rewrite.py's 950 functions; and those of a step of `run`, of `loop` and of the compiled programs of bench/run.py, as the
-difference of two runs of other lengths, in which the start falls out. The same program, files and machine give the same counts.
+difference of two runs of other lengths, in which the start falls out; and of bench/run.py's `loop` and `worker` for several harts, by
+its scripts of turns. The same program, files and machine give the same counts.
 """
 
 import argparse
@@ -46,6 +47,14 @@ def print_files(program, folder):
     print("verify of them: %d" % instructions([program, "verify", *made[:2]]))
 
 
+def print_harts(program, folder):
+    """A step of the programs for several harts: the commands are in pairs, all steps and none."""
+    for name, build in (("loop", run.looping), ("worker", run.working)):
+        counts = [instructions(command) for command in run.hart_commands(program, folder, name, build)]
+        for (turns, *_), long, short in zip(run.turn_scripts(), counts[::2], counts[1::2]):
+            print("run, a step of %s, %s: %.0f" % (name, turns, (long - short) / run.HART_STEPS))
+
+
 def main():
     asked = argparse.ArgumentParser(description="Counts instructions of rvcfi.")
     asked.add_argument("--program", default=run.PROGRAM)
@@ -56,6 +65,7 @@ def main():
         print("run, a step of loop: %.1f" % of_a_step(asked.program, loop, "none"))
         for case, _ in run.compiled_cases(asked.program, folder):
             print("run, a step of %s: %.1f" % (case.name, of_a_step(asked.program, case.paths, case.given)))
+        print_harts(asked.program, folder)
 
 
 if __name__ == "__main__":
