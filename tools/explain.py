@@ -6,6 +6,7 @@
     python3 tools/explain.py graph program.o program.graph program.map
     python3 tools/explain.py image program.o program.img program.graph program.map
     rvcfi run program.img .. | python3 tools/explain.py report program.o program.graph program.map
+    python3 tools/explain.py words rewrite program.o ..    (the words that rvcfi answered with its usage)
 
 Where objects are joined by `rvcfi link`, all of them stand in the place of program.o, in the order in which they were linked.
 It needs Python 3.9 and pyelftools (`apt-get install python3-pyelftools`), and prints instructions where objdump for RISC-V
@@ -38,6 +39,9 @@ FAULTS = (ELFError, ValueError, KeyError, IndexError, TypeError, AttributeError,
 
 
 def words_of_command():
+    if sys.argv[1:2] == ["words"]:
+        from explain import words as command_line
+        sys.exit(command_line.main(sys.argv[2:]))
     words = argparse.ArgumentParser(description=__doc__, formatter_class=argparse.RawDescriptionHelpFormatter)
     commands = words.add_subparsers(dest="command", required=True, metavar="refusal|object|graph|image|report")
     command(commands, "refusal", "reads a refusal on standard input", []).add_argument("--policy")
