@@ -92,6 +92,16 @@ def with_picolibc(compiler, source, folder):
     options = ["-D%s=%s" % pair for pair in OPTIONS.items()]
     asked(["meson", "setup", "made", source, "--cross-file", cross, "-Dbuildtype=plain", "-Doptimization=2", "-Ddebug=false", "-Dprefix=" + os.path.abspath(folder)] + options, build)
     asked(["meson", "install", "-C", "made"], build)
+    in_place_of_assembly(compiler, source, folder)
+
+
+def in_place_of_assembly(compiler, source, folder):
+    """The memset of assembly jumps into the middle of a row of stores, where no computed jump may go: picolibc has one in C too."""
+    path, archived = os.path.abspath(os.path.join(folder, "build", "memset.o")), os.path.join("lib", "libc.a")
+    libc = os.path.join(source, "newlib", "libc")
+    programs.must(compiler.words(folder) + ["-O2", "-w", "-I", os.path.join(libc, "locale"), "-c", os.path.join(libc, "string", "memset.c"), "-o", path])
+    asked([compiler.ar, "d", archived, "memset.S.o"], folder)
+    asked([compiler.ar, "rs", archived, path], folder)
 
 
 def builtins(source):
@@ -114,7 +124,7 @@ def with_builtins(compiler, source, folder):
 
     with ThreadPoolExecutor(os.cpu_count()) as pool:
         made = list(pool.map(compiled, builtins(source)))
-    asked([compiler.ar, "rs", os.path.join(folder, "lib", "libc.a")] + made, folder)
+    asked([compiler.ar, "rs", os.path.join("lib", "libc.a")] + [os.path.abspath(path) for path in made], folder)
 
 
 def with_start(compiler, heap, folder):
