@@ -44,6 +44,11 @@ CMARK = {
     "cmark_export.h": "#define CMARK_EXPORT\n#define CMARK_NO_EXPORT\n#define CMARK_DEPRECATED\n",
     "config.h": "#include <stdbool.h>\n#define CMARK_ATTRIBUTE(list) __attribute__ (list)\n#define CMARK_INLINE inline\n",
     "cmark_version.h": '#define CMARK_VERSION 7682\n#define CMARK_VERSION_STRING "0.30.2"\n'}
+LUA = b"""local words = {}
+for word in ("a hardened program, with a hardened library"):gmatch("%a+") do words[#words + 1] = word end
+table.sort(words, function(a, b) return a < b end)
+print(table.concat(words, " "), 7 // 2, 10 / 4, 2 ^ 0.5, #words, string.format("%5.2f|%x", 3.14159, 255))
+"""
 EXPAT = {"expat_config.h": "#define BYTEORDER 1234\n#define XML_CONTEXT_BYTES 1024\n#define XML_DTD 1\n#define XML_NS 1\n#define XML_POOR_ENTROPY 1\n"}
 PACKAGES = [
     Package("sums", "", ["./sums.c"], [], {}, [], NUMBERS),
@@ -55,6 +60,7 @@ PACKAGES = [
     Package("xxhash", "xxhash", ["xxhash.c", "cli/*.c"], ["."], {}, [], "README.md"),
     Package("bzip2", "bzip2", ["bzip2.c", "bzlib.c", "blocksort.c", "huffman.c", "crctable.c", "randtable.c", "compress.c", "decompress.c"], [], {},
             ["-Wno-implicit-function-declaration"], "README.XML.STUFF"),
+    Package("lua", "lua5.4", ["src/l[!u]*.c", "src/lu[!a]*.c", "src/lua.c"], ["src"], {}, ["-Dlua_stdin_is_tty()=0"], LUA),
 ]
 
 

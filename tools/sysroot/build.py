@@ -25,7 +25,7 @@ SMALLER = ["-fno-jump-tables", "-ffunction-sections", "-fdata-sections"]
 LINUX = ["-U" + name for name in ("__linux__", "__linux", "linux", "__gnu_linux__", "__unix__", "__unix", "unix")]
 OPTIONS = {
     "multilib": "false", "picocrt": "false", "semihost": "false", "thread-local-storage": "false", "newlib-global-errno": "true",
-    "single-thread": "true", "atomic-ungetc": "false", "initfini-array": "false", "io-long-long": "true", "specsdir": "none",
+    "single-thread": "true", "atomic-ungetc": "false", "initfini-array": "false", "io-long-long": "true", "io-long-double": "true", "specsdir": "none",
     "includedir": "include", "libdir": "lib"}
 CROSS = """[binaries]
 c = {command}

@@ -108,6 +108,7 @@ static int absent(void)
 }
 
 int open(const char *path, int how, ...) { return (void)path, (void)how, absent(); }
+int rename(const char *from, const char *to) { return (void)from, (void)to, absent(); }
 int unlink(const char *path) { return (void)path, absent(); }
 int stat(const char *restrict path, struct stat *restrict to) { return (void)path, (void)to, absent(); }
 int fstat(int file, struct stat *to) { return (void)file, (void)to, absent(); }
