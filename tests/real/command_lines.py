@@ -67,6 +67,9 @@ def main():
     words.add_argument("--lines", type=int, default=1000)
     words.add_argument("--seed", type=int, default=1)
     options = words.parse_args()
+    if not os.access(options.program, os.X_OK):
+        print("%s is not there: cd crates/rvcfi && rt run -- verify data/a.img data/a.graph" % options.program)
+        return 1
     with tempfile.TemporaryDirectory() as folder:
         failed = list(faults(options, folder))
     asked = len(commands()) + 2 * len(KNOWN) + len(SHORT) + options.lines

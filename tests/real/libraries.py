@@ -151,6 +151,9 @@ def main():
     words.add_argument("--sources", metavar="FOLDER", help="where the packages are, or go to")
     words.add_argument("--compiler", choices=["gcc", "clang"], default="gcc")
     options = words.parse_args()
+    if not os.access(options.program, os.X_OK):
+        print("%s is not there: cd crates/rvcfi && rt run -- verify data/a.img data/a.graph" % options.program)
+        return 1
     with tempfile.TemporaryDirectory() as folder:
         try:
             programs.tool("qemu-riscv64", "qemu-riscv64-static")

@@ -6,6 +6,7 @@ import tarfile
 
 MIRROR = "http://deb.debian.org/debian"
 KEYRING = "/usr/share/keyrings/debian-archive-keyring.gpg"
+UPDATE, DOWNLOAD = 60, 900  # seconds
 CONFIGURATION = """Dir::Etc::sourcelist "{0}/sources.list";
 Dir::Etc::sourceparts "-";
 Dir::State::lists "{0}/lists";
@@ -26,6 +27,8 @@ def asked(command, folder, **options):
         done = subprocess.run(command, cwd=folder, stdin=subprocess.DEVNULL, stdout=subprocess.PIPE, stderr=subprocess.STDOUT, **options)
     except FileNotFoundError as fault:
         raise Absent("there is no %s" % command[0]) from fault
+    except subprocess.TimeoutExpired as fault:
+        raise Absent("%s took too long" % " ".join(command)) from fault
     if done.returncode:
         raise Absent("%s: status %d\n%s" % (" ".join(command), done.returncode, done.stdout.decode(errors="replace")[-2000:]))
     return done.stdout.decode(errors="replace")
@@ -55,8 +58,8 @@ def archive(name, folder, suite="bookworm"):
     os.makedirs(folder, exist_ok=True)
     if not kept(name, folder):
         environment = configured(suite, folder)
-        asked(["apt-get", "update"], folder, env=environment)
-        asked(["apt-get", "source", "--download-only", "--tar-only", name], folder, env=environment)
+        asked(["apt-get", "update"], folder, env=environment, timeout=UPDATE)
+        asked(["apt-get", "source", "--download-only", "--tar-only", name], folder, env=environment, timeout=DOWNLOAD)
     if not kept(name, folder):
         raise Absent("apt left no archive of %s in %s" % (name, folder))
     return kept(name, folder)
