@@ -22,7 +22,8 @@ sys.path.append(os.path.join(programs.HERE, "..", "..", "tools"))
 from explain.words import RIGHT, commands, told
 
 SHORT = ["", "-h", "--help", "-V", "--version", "--", "-", "-x", "--steps=5", "--vers", "-hx", "-Vh"]
-LIKE = {"FORM": ["plain", "harts", "split", "harts-split", "Plain", "both"], "STEPS": ["1", "0000000001", "1000000000", "1000000001", "00000000001", "1k", "+1", "-1"],
+LIKE = {"FORM": ["plain", "harts", "split", "harts-split", "Plain", "both"],
+        "STEPS": ["1", "0000000001", "1000000000", "1000000001", "00000000001", "1k", "+1", "-1"],
         "NUMBER": ["1000000001", "00000000007", "x", "1 "]}
 KNOWN = [
     ("", "No command is named"), ("verfy a b", "`verify` is meant"), ("link none main", "POLICY IMAGE GRAPH MAP OBJECT .. is missing"),

@@ -49,7 +49,9 @@ for word in ("a hardened program, with a hardened library"):gmatch("%a+") do wor
 table.sort(words, function(a, b) return a < b end)
 print(table.concat(words, " "), 7 // 2, 10 / 4, 2 ^ 0.5, #words, string.format("%5.2f|%x", 3.14159, 255))
 """
-EXPAT = {"expat_config.h": "#define BYTEORDER 1234\n#define XML_CONTEXT_BYTES 1024\n#define XML_DTD 1\n#define XML_NS 1\n#define XML_POOR_ENTROPY 1\n"}
+EXPAT = {"expat_config.h": "".join("#define %s\n" % each for each in (
+    "BYTEORDER 1234", "XML_CONTEXT_BYTES 1024", "XML_DTD 1", "XML_NS 1", "XML_POOR_ENTROPY 1"))}
+BZIP2 = "bzip2.c bzlib.c blocksort.c huffman.c crctable.c randtable.c compress.c decompress.c"
 PACKAGES = [
     Package("sums", "", ["./sums.c"], [], {}, [], NUMBERS),
     Package("cmark", "cmark", ["src/*.c"], ["src"], CMARK, [], "README.md"),
@@ -58,8 +60,7 @@ PACKAGES = [
     Package("jsmn", "jsmn", ["example/jsondump.c"], [], {}, [], "library.json"),
     Package("lz4", "lz4", ["lib/lz4.c", "examples/simple_buffer.c"], ["lib"], {}, [], b""),
     Package("xxhash", "xxhash", ["xxhash.c", "cli/*.c"], ["."], {}, [], "README.md"),
-    Package("bzip2", "bzip2", ["bzip2.c", "bzlib.c", "blocksort.c", "huffman.c", "crctable.c", "randtable.c", "compress.c", "decompress.c"], [], {},
-            ["-Wno-implicit-function-declaration"], "README.XML.STUFF"),
+    Package("bzip2", "bzip2", BZIP2.split(), [], {}, ["-Wno-implicit-function-declaration"], "README.XML.STUFF"),
     Package("lua", "lua5.4", ["src/l[!u]*.c", "src/lu[!a]*.c", "src/lua.c"], ["src"], {}, ["-Dlua_stdin_is_tty()=0"], LUA),
 ]
 
@@ -86,7 +87,8 @@ class Built:
     def words(self):
         """What a compiler is given: options, and files by name."""
         own = [programs.source(each[2:]) for each in self.package.files if each.startswith("./")]
-        found = [path for each in self.package.files if not each.startswith("./") for path in sorted(glob.glob(os.path.join(self.place, each)))]
+        patterns = [os.path.join(self.place, each) for each in self.package.files if not each.startswith("./")]
+        found = [path for pattern in patterns for path in sorted(glob.glob(pattern))]
         include = [self.written] + [os.path.join(self.place, each) for each in self.package.include]
         return ["-w", *self.package.options, *("-I" + each for each in include), *found, *own]
 

@@ -18,15 +18,14 @@ from .debian import archive, asked, unpacked
 SUITES = {"picolibc": "trixie", "llvm-toolchain-16": "bookworm"}
 BUILTINS = "compiler-rt/lib/builtins"
 LISTS = "GENERIC_SOURCES", "GENERIC_TF_SOURCES"
-# what a program with a C library needs no more, and what would call the system, or change registers that the processor has not
-FREESTANDING = {"-ffreestanding", "-Wall", "-Wextra"}
-NOT_BUILT = {"apple_versioning.c", "os_version_check.c", "trampoline_setup.c", "muldi3.c"}
+FREESTANDING = {"-ffreestanding", "-Wall", "-Wextra"}  # what a program with a C library needs no more
+NOT_BUILT = {"apple_versioning.c", "os_version_check.c", "trampoline_setup.c", "muldi3.c"}  # of other systems; an instruction
 SMALLER = ["-fno-jump-tables", "-ffunction-sections", "-fdata-sections"]
 LINUX = ["-U" + name for name in ("__linux__", "__linux", "linux", "__gnu_linux__", "__unix__", "__unix", "unix")]
 OPTIONS = {
     "multilib": "false", "picocrt": "false", "semihost": "false", "thread-local-storage": "false", "newlib-global-errno": "true",
-    "single-thread": "true", "atomic-ungetc": "false", "initfini-array": "false", "io-long-long": "true", "io-long-double": "true", "specsdir": "none",
-    "includedir": "include", "libdir": "lib"}
+    "single-thread": "true", "atomic-ungetc": "false", "initfini-array": "false", "io-long-long": "true", "io-long-double": "true",
+    "specsdir": "none", "includedir": "include", "libdir": "lib", "buildtype": "plain", "optimization": "2", "debug": "false"}
 CROSS = """[binaries]
 c = {command}
 ar = '{ar}'
@@ -58,11 +57,6 @@ class Compiler:
         return self.command + self.options + ["-isystem", os.path.join(folder, "include")] + self.headers
 
 
-def first_of(*names):
-    """The first of these tools that is there."""
-    return next((name for name in names if shutil.which(name)), None)
-
-
 def gcc():
     """gcc, with its own headers behind the library's."""
     found = programs.gcc()
@@ -77,9 +71,12 @@ def clang():
     found = programs.clang()
     name = found.command[0]
     options = [each for each in found.options if each not in FREESTANDING] + SMALLER + ["-ftrap-function=abort", "-nostdlibinc"]
-    linker, tools = first_of("riscv64-linux-gnu-ld", "riscv64-unknown-elf-ld"), [name.replace("clang", "llvm-" + each) for each in ("ar", "nm")]
-    join = ["-Wl,--gc-sections,-e,_start", "--ld-path=" + shutil.which(linker)] if linker else ["--ld-path=" + shutil.which(found.join[0])]
-    return Compiler(found.command, options, join, [], *(first_of(each, "riscv64-linux-gnu-" + each.split("-")[1]) for each in tools))
+    tools = [programs.tool(name.replace("clang", "llvm-" + each), "riscv64-linux-gnu-" + each) for each in ("ar", "nm")]
+    try:
+        join = ["-Wl,--gc-sections,-e,_start", "--ld-path=" + shutil.which(programs.binutils("ld"))]
+    except programs.Missing:
+        join = ["--ld-path=" + shutil.which(found.join[0])]
+    return Compiler(found.command, options, join, [], *tools)
 
 
 def with_picolibc(compiler, source, folder):
@@ -87,10 +84,11 @@ def with_picolibc(compiler, source, folder):
     build = os.path.join(folder, "build")
     os.makedirs(build)
     cross = os.path.join(build, "cross.txt")
+    command = compiler.command + ["-nostdlib"] + compiler.headers
     with open(cross, "w") as file:
-        file.write(CROSS.format(command=compiler.command + ["-nostdlib"] + compiler.headers, ar=compiler.ar, nm=compiler.nm, options=compiler.options))
-    options = ["-D%s=%s" % pair for pair in OPTIONS.items()]
-    asked(["meson", "setup", "made", source, "--cross-file", cross, "-Dbuildtype=plain", "-Doptimization=2", "-Ddebug=false", "-Dprefix=" + os.path.abspath(folder)] + options, build)
+        file.write(CROSS.format(command=command, ar=compiler.ar, nm=compiler.nm, options=compiler.options))
+    options = ["-D%s=%s" % pair for pair in OPTIONS.items()] + ["-Dprefix=" + os.path.abspath(folder)]
+    asked(["meson", "setup", "made", source, "--cross-file", cross] + options, build)
     asked(["meson", "install", "-C", "made"], build)
     in_place_of_assembly(compiler, source, folder)
 
@@ -99,7 +97,8 @@ def in_place_of_assembly(compiler, source, folder):
     """The memset of assembly jumps into the middle of a row of stores, where no computed jump may go: picolibc has one in C too."""
     path, archived = os.path.abspath(os.path.join(folder, "build", "memset.o")), os.path.join("lib", "libc.a")
     libc = os.path.join(source, "newlib", "libc")
-    programs.must(compiler.words(folder) + ["-O2", "-w", "-I", os.path.join(libc, "locale"), "-c", os.path.join(libc, "string", "memset.c"), "-o", path])
+    words = compiler.words(folder) + ["-O2", "-w", "-I", os.path.join(libc, "locale")]
+    programs.must(words + ["-c", os.path.join(libc, "string", "memset.c"), "-o", path])
     asked([compiler.ar, "d", archived, "memset.S.o"], folder)
     asked([compiler.ar, "rs", archived, path], folder)
 
