@@ -5,8 +5,8 @@
 
 The library is built by tools/sysroot.py, once in FOLDER where one is named. Each program is joined with it to one object, which in each of
 the four forms must be hardened and accepted; its output and status in the machine, with those of the plain program under qemu-riscv64,
-must be those of the same files built for the host. Without names it is `sums` (of this folder) and `cmark`. What is missing, as a
-network, is told as not run. The last line counts what was asked, and the status is 1 where one failed.
+must be those of the same files built for the host. Without names it is `sums` (of this folder) and `cmark`. Each member of the
+library by itself must be refused for nothing but names that it does not define. What is missing, as a network, is told as not run. The last line counts what was asked, and the status is 1 where one failed.
 """
 
 import argparse
@@ -26,6 +26,7 @@ from sysroot.build import built
 from sysroot.debian import Absent, archive, unpacked
 
 SMALL = ["sums", "cmark"]
+REFUSED = ["libc_ssp_stack_protector.c.o"]  # runs before `main`; nothing names it without -fstack-protector
 
 
 class Package(NamedTuple):
@@ -125,6 +126,20 @@ def tried(tool, made, compiler):
     return failed, asked
 
 
+def members(tool, compiler, folder):
+    """The members of the library that are refused for more than what they name and do not have, and how many it has."""
+    place = os.path.join(folder, "members")
+    os.makedirs(place)
+    programs.must([programs.binutils("ar"), "x", os.path.join(os.path.dirname(compiler), "lib", "libc.a"), "--output", place])
+    names, wrong = sorted(os.listdir(place)), []
+    for name in names:
+        path = os.path.join(place, name)
+        told = Hardened(tool, path).told[1].decode()
+        if told.split()[:2] not in (["refused", "15"], ["refused", "17"]) and name not in REFUSED:
+            wrong.append("FAILED the library's %s: %s" % (name, told.strip()))
+    return wrong, len(names)
+
+
 def compiler_of(options, folder):
     """The compiler of a library that is there, or is built now."""
     path = os.path.join(options.sysroot or os.path.join(folder, "sysroot"), "cc")
@@ -137,7 +152,7 @@ def try_all(options, folder):
     """The lines to print, and how much was asked."""
     options.sources = options.sources or os.path.join(folder, "sources")
     compiler = compiler_of(options, folder)
-    lines, asked = [], 0
+    lines, asked = members(os.path.abspath(options.program), compiler, folder)
     for package in PACKAGES:
         if package.name in (options.names or SMALL):
             failed, count = tried(os.path.abspath(options.program), Built(package, options.sources, folder), compiler)

@@ -20,6 +20,7 @@ BUILTINS = "compiler-rt/lib/builtins"
 LISTS = "GENERIC_SOURCES", "GENERIC_TF_SOURCES"
 FREESTANDING = {"-ffreestanding", "-Wall", "-Wextra"}  # what a program with a C library needs no more
 NOT_BUILT = {"apple_versioning.c", "os_version_check.c", "trampoline_setup.c", "muldi3.c"}  # of other systems; an instruction
+IN_C = "memset", "strcmp"
 SMALLER = ["-fno-jump-tables", "-ffunction-sections", "-fdata-sections"]
 LINUX = ["-U" + name for name in ("__linux__", "__linux", "linux", "__gnu_linux__", "__unix__", "__unix", "unix")]
 OPTIONS = {
@@ -94,13 +95,14 @@ def with_picolibc(compiler, source, folder):
 
 
 def in_place_of_assembly(compiler, source, folder):
-    """The memset of assembly jumps into the middle of a row of stores, where no computed jump may go: picolibc has one in C too."""
-    path, archived = os.path.abspath(os.path.join(folder, "build", "memset.o")), os.path.join("lib", "libc.a")
-    libc = os.path.join(source, "newlib", "libc")
+    """The assembly of memset jumps into the middle of a row of stores, that of strcmp has data among its code: picolibc has both in C."""
+    libc, archived = os.path.join(source, "newlib", "libc"), os.path.join("lib", "libc.a")
     words = compiler.words(folder) + ["-O2", "-w", "-I", os.path.join(libc, "locale")]
-    programs.must(words + ["-c", os.path.join(libc, "string", "memset.c"), "-o", path])
-    asked([compiler.ar, "d", archived, "memset.S.o"], folder)
-    asked([compiler.ar, "rs", archived, path], folder)
+    for name in IN_C:
+        path = os.path.abspath(os.path.join(folder, "build", name + ".o"))
+        programs.must(words + ["-c", os.path.join(libc, "string", name + ".c"), "-o", path])
+        asked([compiler.ar, "d", archived, name + ".S.o"], folder)
+        asked([compiler.ar, "rs", archived, path], folder)
 
 
 def builtins(source):

@@ -1,7 +1,7 @@
 #!/usr/bin/env python3
 """What the recommended options give and cost, on programs of Debian's packages that are joined with a C library.
 
-    python3 bench/libraries.py [--program PATH] [--sysroot FOLDER] [--sources FOLDER] [--compiler gcc|clang] [NAME ..]
+    python3 bench/packages.py [--program PATH] [--sysroot FOLDER] [--sources FOLDER] [--compiler gcc|clang] [NAME ..]
 
 The programs are those of tests/real/libraries.py, the library that of tools/sysroot.py. Each is compiled with the options of the library, with
 tables of labels for each `switch` (-fjump-tables), and with gcc's -fsection-anchors, and hardened in the form `plain`; it must print what
@@ -21,7 +21,7 @@ import libraries
 import programs
 
 CHOICES = {
-    "gcc": [[], ["-fjump-tables"], ["-fsection-anchors"], ["-fjump-tables", "-fsection-anchors"]],
+    "gcc": [[], ["-fjump-tables"], ["-fno-data-sections", "-fsection-anchors"]],
     "clang": [[], ["-fjump-tables"]]}
 HEADS = "program", "and also", "sites", "classes", "largest", "code", "hardened", "times", "steps", "hardened", "times"
 
