@@ -21,6 +21,7 @@ LISTS = "GENERIC_SOURCES", "GENERIC_TF_SOURCES"
 FREESTANDING = {"-ffreestanding", "-Wall", "-Wextra"}  # what a program with a C library needs no more
 NOT_BUILT = {"apple_versioning.c", "os_version_check.c", "trampoline_setup.c", "muldi3.c"}  # of other systems; an instruction
 IN_C = "memset", "strcmp"
+UNUSED = ["-Wno-unused-command-line-argument"]  # a linker where nothing is linked
 SMALLER = ["-fno-jump-tables", "-ffunction-sections", "-fdata-sections"]
 LINUX = ["-U" + name for name in ("__linux__", "__linux", "linux", "__gnu_linux__", "__unix__", "__unix", "unix")]
 OPTIONS = {
@@ -74,10 +75,11 @@ def clang():
     options = [each for each in found.options if each not in FREESTANDING] + SMALLER + ["-ftrap-function=abort", "-nostdlibinc"]
     tools = [programs.tool(name.replace("clang", "llvm-" + each), "riscv64-linux-gnu-" + each) for each in ("ar", "nm")]
     try:
-        join = ["-Wl,--gc-sections,-e,_start", "--ld-path=" + shutil.which(programs.binutils("ld"))]
+        linker, join = programs.binutils("ld"), ["-Wl,--gc-sections,-e,_start"]
     except programs.Missing:
-        join = ["--ld-path=" + shutil.which(found.join[0])]
-    return Compiler(found.command, options, join, [], *tools)
+        linker, join = programs.tool(name.replace("clang", "ld.lld"), "ld.lld"), []
+    # picolibc turns relaxation off for a linker below 15, and calls of static functions would have no relocation
+    return Compiler(found.command + ["--ld-path=" + shutil.which(linker)], options + UNUSED, join, [], *tools)
 
 
 def with_picolibc(compiler, source, folder):
