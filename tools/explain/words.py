@@ -70,7 +70,7 @@ def unknown(word, known):
 def operands(words):
     """The words of a command, without the `--` before which none begins with `-`, and the one that does."""
     at = words.index("--") if "--" in words else len(words)
-    wrong = next((word for word in words[:at] if word.startswith("-")), None)
+    wrong = next((word for word in words[:at] if word.startswith("-") and word != "-"), None)
     return words[:at] + words[at + 1:], wrong and "`%s` begins with `-`: such a word stands behind `--`, as in `rvcfi COMMAND -- %s`." % (wrong, wrong)
 
 
