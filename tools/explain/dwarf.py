@@ -6,6 +6,7 @@ An address of code or data in it is a place: its section's number times 2^32, an
 import bisect
 import io
 import os
+import struct
 
 from elftools.common.exceptions import DWARFError, ELFError
 from elftools.construct import Array
@@ -42,12 +43,11 @@ def patch(content, at, kind, value):
         content[at:at + width] = (whole & ~mask | changed(whole & mask, value) & mask).to_bytes(width, "little")
 
 
-def values_of(elf, table):
+def values_of(headers, table):
     """What each symbol of a table stands for in debugging information."""
-    for symbol in table.iter_symbols():
-        section = symbol["st_shndx"]
-        is_placed = isinstance(section, int) and elf.get_section(section)["sh_flags"] & ALLOC
-        yield symbol["st_value"] + (section << SECTION if is_placed else 0)
+    for _, _, _, section, value, _ in struct.iter_unpack("<IBBHQQ", table.data()):
+        is_placed = section < len(headers) and headers[section]["sh_flags"] & ALLOC
+        yield value + (section << SECTION if is_placed else 0)
 
 
 def relocated(path):
@@ -57,20 +57,21 @@ def relocated(path):
     elf = ELFFile(io.BytesIO(bytes(content)))
     if not elf.get_section_by_name(".debug_info"):
         return None
-    values = {}
-    for section in elf.iter_sections():
-        target = elf.get_section(section["sh_info"]) if isinstance(section, RelocationSection) else None
+    sections = list(elf.iter_sections())
+    headers, values = [section.header for section in sections], {}
+    for section in sections:
+        target = sections[section["sh_info"]] if isinstance(section, RelocationSection) else None
         if target and target.name.startswith(".debug_") and not target["sh_flags"] & COMPRESSED:
             number = section["sh_link"]
-            values[number] = values.get(number) or list(values_of(elf, elf.get_section(number)))
-            relocate(content, target["sh_offset"], section, values[number])
+            values[number] = values.get(number) or list(values_of(headers, sections[number]))
+            relocate(content, target["sh_offset"], section.data(), values[number])
     return bytes(content)
 
 
 def relocate(content, start, rows, values):
     """Does the relocations of a section, in their order."""
-    for row in rows.iter_relocations():
-        patch(content, start + row["r_offset"], row["r_info_type"], values[row["r_info_sym"]] + row["r_addend"])
+    for offset, named, addend in struct.iter_unpack("<QQq", rows):
+        patch(content, start + offset, named & 0xFFFFFFFF, values[named >> 32] + addend)
 
 
 def info_of(path):
