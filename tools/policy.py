@@ -6,9 +6,9 @@
 
 The objects, compiled with `-g`, stand in the order in which they will be linked. Neither compiler says of what type a computed call is,
 so it is worked out along the instructions where its pointer comes from: from variables, members, parameters and results, whose types
-debugging information has, or from a table that is not written to (`const`), whose functions are then all that it reaches. Types are
-told apart without qualifiers and names, numbers by size and sign. A transfer of which this is not known gets no line, and joins what
-it reaches by itself; a function without a known type may be called by each type.
+debugging information has, or from a table that is `const`, whose functions are then all that it reaches. Types are told apart without
+qualifiers and names, numbers by size and sign. A transfer of which this is not known gets no line, and joins what it reaches by itself
+(gcc's `-fno-section-anchors` leaves fewer of these); a function without a known type may be called by each.
 
 What is written is not trusted, only checked as any policy: the graph still holds of every run. Where a program calls a function by
 another type than its own, it halts in __cfi_bad_target: `rvcfi compare` tells where. `--calls` lists the only system calls. It needs

@@ -123,14 +123,13 @@ def found_at(die, offset, complete):
     return [found for inner, at in rows if 0 <= at < (size_of(inner) or 1) for found in found_at(inner, at, complete)]
 
 
-def arrays_at(die, offset, complete):
-    """The arrays within a type that an offset lies in, with how far."""
-    whole = complete.get(key(die), die) if die is not None else None
-    if whole is None or whole.tag not in STRUCTURES:
+def arrays_in(die, complete, at=0):
+    """The arrays that a type is or has within, each with where it begins."""
+    if die is None:
         return
-    for each in members(whole):
-        inner, at = type_of(each), offset - (attribute(each, "DW_AT_data_member_location") or 0)
-        if inner is not None and 0 <= at < size_of(inner):
-            if inner.tag == "DW_TAG_array_type":
-                yield inner, at
-            yield from arrays_at(inner, at, complete)
+    if die.tag == "DW_TAG_array_type":
+        yield die, at
+        yield from arrays_in(type_of(die), complete, at)
+    elif die.tag in STRUCTURES:
+        for each in members(complete.get(key(die), die)):
+            yield from arrays_in(type_of(each), complete, at + (attribute(each, "DW_AT_data_member_location") or 0))

@@ -6,6 +6,7 @@ Of each register, and of each slot of the stack, one of these is known, or nothi
     codes   one of some places of code
     ptr     an address within an object of a type: the type, how far, and whether that is all, or a number of elements may be added
     data    an address of data: the section, where its variable begins, how far, and whether that is all
+    near    the same, where the compiler counts it from another variable, so that with elements added nothing is known (gcc's anchors)
     frame   an address on the stack, from the stack pointer at the function's start on
     int     a number
     short   what was loaded from less than 8 bytes, as of a table of labels, and what was added to that: the labels, if it was one
@@ -25,6 +26,7 @@ from explain.texts import Wrong
 from explain.units import BRANCH, JAL, branch_offset, jal_target
 
 LOAD, REGISTERS, WRITE = 0x03, 0x33, 1
+ANCHOR, RELOCATED = ".LANCHOR", ".data.rel.ro"  # from where gcc counts; constants with addresses, by -fpic
 LO12_I, PCREL_LO12_I, DIRECT = 27, 24, (16, 17)
 CALLER_SAVED = [1, *range(5, 8), *range(10, 18), *range(28, 32)]
 STACK, FRAME_POINTER, RESULT = 2, 8, 10
@@ -67,16 +69,27 @@ class Types:
         return (start[1], kind) if place[1] < start[1] + max(c_types.size_of(kind), 1) else None
 
     def loaded(self, kind, offset, is_all):
-        """What is known of the eight bytes at an offset of a type; with elements added of each way in which it may be meant."""
+        """What is known of the eight bytes at an offset of a type, or of one of as many objects of it as one likes."""
         if is_all:
             ways = c_types.found_at(kind, offset, self.complete) if 0 <= offset < c_types.size_of(kind) else []
+            values = {self.of_type(way) for way in ways}
         else:
-            stride = c_types.size_of(kind)
-            ways = c_types.found_at(kind, offset % stride, self.complete) if stride else []
-            for inner, at in c_types.arrays_at(kind, offset, self.complete):
-                ways += c_types.found_at(inner, at, self.complete)
-        values = {self.of_type(way) for way in ways}
+            values = self.element(kind, offset) | (self.stepped(kind, offset) if kind is not None else set())
+            values.discard(None)
         return values.pop() if len(values) == 1 else None
+
+    def stepped(self, kind, offset):
+        """What may stand at an offset in objects of a type that lie one behind another."""
+        size = c_types.size_of(kind)
+        return {self.of_type(way) for way in (c_types.found_at(kind, offset % size, self.complete) if size else [])}
+
+    def element(self, kind, offset):
+        """What may stand at an offset and a number of elements of one of the arrays in a type: compilers put part of the offset into
+        that number, so each array of the type may be meant. What is no pointer is left out, since it is called or followed."""
+        found = set()
+        for inner, at in c_types.arrays_in(kind, self.complete):
+            found |= self.stepped(c_types.type_of(inner), offset - at)
+        return found - {None}
 
 
 class Kind:
@@ -244,7 +257,7 @@ class Walk:
         address = base if is_lower else added(base, immediate(word))
         if funct3 != 3:
             return ("short", self.tables.labels(address)) if funct3 in (2, 6) else None
-        return self.loaded(state, address)
+        return self.loaded(state, address, place[1])
 
     def address(self, row):
         """What the upper part of an address is taken for: the whole."""
@@ -254,34 +267,40 @@ class Walk:
         if self.read.is_code(target[0]):
             value = "codes", frozenset([target])
         else:
-            own = target if symbol.name.startswith((".LANCHOR",)) or not symbol.name else (symbol.section, symbol.value)
-            variable = self.types.variable(own)
-            start = variable[0] if variable else own[1]
-            value = "data", own[0], start, target[1] - start, True
+            is_near = symbol.name.startswith(ANCHOR) or not symbol.name
+            variable = self.types.variable(target) if is_near else None
+            start = variable[0] if variable else symbol.value
+            value = "near" if is_near else "data", target[0], start, target[1] - start, True
         return ("slot", value) if row.kind == GOT_HI20 else value
 
-    def loaded(self, state, address):
-        """What is known of the eight bytes at an address."""
+    def loaded(self, state, address, here):
+        """What is known of the eight bytes at an address, by an instruction at an offset."""
         if address is None:
             return None
         if address[0] == "slot":
             return address[1]
         if address[0] == "ptr":
             return self.types.loaded(address[1].die, *address[2:])
+        if address[0] == "near" and address[4]:
+            start = self.types.variable((address[1], address[2] + address[3]))
+            address = ("data", address[1], start[0], address[2] + address[3] - start[0], True) if start else address
         if address[0] == "data":
             _, section, start, offset, is_all = address
             kind = self.types.variables.get((section, start))
-            return self.tables.codes(section, start, kind, offset, is_all) or self.types.loaded(kind, offset, is_all)
-        return self.of_stack(state, address) if address[0] == "frame" else None
+            return self.tables.codes(section, start, kind, offset, is_all, self.types.complete) or self.types.loaded(kind, offset, is_all)
+        return self.of_stack(state, address, here) if address[0] == "frame" else None
 
-    def of_stack(self, state, address):
-        """What is known of a slot of the stack, or of a variable there."""
+    def of_stack(self, state, address, here):
+        """What is known of a slot of the stack, or of a variable there; with elements added of any array there."""
         _, at, is_all = address
         if is_all and ("slot", at) in state:
             return state["slot", at]
-        rows = [row for row in self.ranges if row.register is None and self.frame is not None
-                and 0 <= at - self.frame - row.offset < max(c_types.size_of(row.type), 1)]
-        values = {self.types.loaded(row.type, at - self.frame - row.offset, is_all) for row in rows}
+        rows = [row for row in self.ranges if row.register is None and row.first <= here < row.end] if self.frame is not None else []
+        if not is_all:
+            values = {value for row in rows for value in self.types.element(row.type, at - self.frame - row.offset)}
+        else:
+            rows = [row for row in rows if 0 <= at - self.frame - row.offset < max(c_types.size_of(row.type), 1)]
+            values = {self.types.loaded(row.type, at - self.frame - row.offset, True) for row in rows}
         return values.pop() if len(values) == 1 else None
 
 
@@ -291,7 +310,7 @@ class Tables:
     def __init__(self, read):
         self.read, self.rows, self.words, self.sizes = read, {}, {}, {}
         for row in read.relocations:
-            target = None if read.is_code(row.section) or read.headers[row.section]["sh_flags"] & WRITE else read.target(row)
+            target = read.target(row) if self.is_const(row.section) else None
             if target and read.is_code(target[0]) and row.kind == ABS64:
                 self.rows.setdefault(row.section, []).append((row.offset, target))
             elif target and read.is_code(target[0]) and row.kind in (ABS32, ADD32):
@@ -300,6 +319,11 @@ class Tables:
         for symbol in read.symbols:
             if symbol.size and isinstance(symbol.section, int) and not symbol.name.startswith(OWN):
                 self.sizes[symbol.section, symbol.value] = symbol.size
+
+    def is_const(self, section):
+        """Whether a section is of data that the program does not write, also where a linker would."""
+        is_written = self.read.headers[section]["sh_flags"] & WRITE and not self.read.names[section].startswith(RELOCATED)
+        return not is_written and not self.read.is_code(section)
 
     def labels(self, address):
         """The labels of the table of words that begins at an address, up to where the next one begins, or None."""
@@ -311,10 +335,11 @@ class Tables:
             at = at[0], at[1] + 4
         return frozenset(found) or None
 
-    def codes(self, section, start, kind, offset, is_all):
+    def codes(self, section, start, kind, offset, is_all, complete):
         """The places of code that a load from a variable may give; with elements added those of all."""
         size = c_types.size_of(kind) or self.sizes.get((section, start), 0)
-        stride = c_types.stride_of(kind) if kind is not None else 0
+        arrays = list(c_types.arrays_in(kind, complete))
+        stride = c_types.stride_of(kind) if len(arrays) == 1 and arrays[0][0] is kind else 0
         is_meant = lambda at: at == offset if is_all else not stride or (at - offset) % stride == 0
         found = {target for at, target in self.rows.get(section, []) if start <= at < start + size and is_meant(at - start)}
         return ("codes", frozenset(found)) if found else None
@@ -337,7 +362,7 @@ def added(value, number):
         return "int", value[1] + number
     if value[0] == "frame":
         return "frame", value[1] + number, value[2]
-    if value[0] in ("ptr", "data"):
+    if value[0] in ("ptr", "data", "near"):
         return (*value[:-2], value[-2] + number, value[-1])
     return value if value[0] == "short" else None
 
@@ -349,7 +374,7 @@ def summed(one, other):
             return first
         if second is not None and second[0] == "int":
             return added(first, second[1])
-        if second is None and first is not None and first[0] in ("ptr", "data", "frame"):
+        if second is None and first is not None and first[0] in ("ptr", "data", "near", "frame"):
             return (*first[:-1], False)
     return None
 
