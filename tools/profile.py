@@ -38,9 +38,9 @@ from explain.texts import CODE, ONE, Wrong, image_code
 from runs import Refused, Run, Script, script_of, stop_words
 
 COLUMNS = ["program", "masks", "calls", "returns", "checks", "gates", "branches", "lists", "rest"]
+CALLED, CHECKED = ["calls"] * 7, ["checks"] * 12
 ADDED = {  # what stands before the program's own word or words, by the kind of a unit
-    "store": ["masks"] * 3, "call": ["calls"] * 7, "return": ["returns"] * 4, "computed jump": ["checks"] * 12,
-    "computed call": ["checks"] * 12 + ["calls"] * 7,
+    "store": ["masks"] * 3, "call": CALLED, "return": ["returns"] * 4, "computed jump": CHECKED, "computed call": CHECKED + CALLED,
 }
 STEP = re.compile(r"^Trace .*\[[0-9a-f]+/([0-9a-f]+)/|^(?:0x)?([0-9a-f]{8,16})$")
 NUMBER = 17  # a7
@@ -50,13 +50,13 @@ class Counting(Run):
     """A run that counts how often each address is stepped from."""
 
     def __init__(self, built, script, given, limit):
-        self.counts, self.last = Counter(), []
+        self.counts, self.last, self.is_several = Counter(), {}, built.version == 2
         super().__init__(built, script, given, limit)
 
     def take(self, built, hart):
         pc = self.machine.pcs[hart]
         self.counts[pc] += 1
-        self.last = [*self.last[-1:], pc]
+        self.last[hart] = [*self.last.get(hart, [])[-1:], pc]
         super().take(built, hart)
 
 
@@ -84,8 +84,9 @@ def columns_of(words, placed):
 
 
 def owner_of(read, placed, address):
+    """The name of the function that an address is of, and where it begins: there may be two of a name."""
     place = placed.place(address)
-    return read.owner(place)[0] if place else "the prologue"
+    return (*read.owner(place), place[0]) if place else ("the prologue", 0, 0)
 
 
 def record_of(path):
@@ -114,16 +115,16 @@ def run_of(options, image, words, placed):
 def table(rows, total):
     """A line a function, those with the most steps first, and one of all."""
     yield "%-28s %9s" % ("function", "steps") + "".join(" %9s" % column for column in COLUMNS)
-    for name, counts in sorted(rows.items(), key=lambda row: (-sum(row[1].values()), row[0])) + [("all", total)]:
-        yield "%-28s %9d" % (name, sum(counts.values())) + "".join(" %9d" % counts[column] for column in COLUMNS)
+    for name, counts in sorted(rows.items(), key=lambda row: (-sum(row[1].values()), row[0])) + [(("all",), total)]:
+        yield "%-28s %9d" % (name[0], sum(counts.values())) + "".join(" %9d" % counts[column] for column in COLUMNS)
 
 
 def told_end(run, columns):
     """How a run ended, and in a handler what a7 was."""
-    yield "stop " + stop_words(run.stop)[0]
-    if run.stop and run.stop[0] == "break" and len(run.last) == 2:
+    yield "stop %s%s" % ("hart %d " % run.hart if run.is_several and run.stop else "", stop_words(run.stop)[0])
+    if run.stop and run.stop[0] == "break":
         number = run.machine.registers[run.hart][NUMBER]
-        is_list = columns.get(run.last[0]) == "lists"
+        is_list = columns.get(run.last[run.hart][0]) == "lists"
         yield "a7 %d%s" % (number, ", the number of the system call that its list refused" if is_list else "")
 
 

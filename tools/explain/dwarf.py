@@ -16,7 +16,7 @@ from elftools.elf.relocation import RelocationSection
 ALLOC, COMPRESSED = 2, 0x800
 ADD, SUB, SUB6, SET = 33, 37, 52, {53: 6, 54: 8, 55: 16, 56: 32, 1: 32, 2: 64}
 SECTION = 32  # how far left a section's number stands
-FAULTS = (ELFError, DWARFError, ValueError, KeyError, IndexError, TypeError, AttributeError, OverflowError)
+FAULTS = (ELFError, DWARFError, struct.error, ValueError, KeyError, IndexError, TypeError, AttributeError, OverflowError, RecursionError)
 
 
 def place_of(address):
