@@ -1,5 +1,5 @@
 #!/usr/bin/env python3
-"""Writes an image as a file with symbols, for gdb, objdump and perf: functions at their gates, data at their addresses.
+"""Writes an image as a file with symbols, for gdb, objdump and the like: functions at their gates, data at their addresses.
 
     python3 tools/symbols.py program.img program.map FILE.o .. program.elf
     python3 tools/symbols.py program.img program.map FILE.o .. program.elf --address counter
