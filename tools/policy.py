@@ -92,23 +92,35 @@ def largest(flow, lines, is_split):
 
 
 def told_of(read, flow, types, reached):
-    """How many sites go by what, which go by nothing known, and how large classes are with the policy and without."""
-    by, known = {}, {site: reach for site, reach in reached.items() if reach.targets is not None}
-    for reach in known.values():
-        by.setdefault(reach.told, []).append(len(reach.targets))
-    for told, counts in sorted(by.items(), key=lambda row: (-len(row[1]), row[0])):
-        yield "%6d sites by %s, of at most %d targets" % (len(counts), told, max(counts))
-    for site in sorted(reached.keys() - known.keys())[:SHOWN]:
-        yield "no line for %s%s: where its pointer comes from is not known" % (read.name(site), read.at_line(site))
-    for site in [site for site, reach in sorted(known.items()) if not reach.targets][:SHOWN]:
-        yield "nowhere may go %s%s: no function of its type has its address taken" % (read.name(site), read.at_line(site))
+    """How many sites go by what, which have no line, and how large classes are with the policy and without."""
+    known = {site: reach for site, reach in reached.items() if reach.targets is not None}
+    yield from counted(known)
+    yield from doubts(read, reached)
     for place in sorted(flow.taken & flow.starts):
         if place not in types.functions or not types.functions[place].signature:
             yield "of each type is %s: its own is not known" % read.name(place)
     lines = [Line(0, site, sorted(reach.targets)) for site, reach in known.items()]
     for form, is_split in (("plain", False), ("split", True)):
-        yield "the largest class in the form %s: %d targets, without this policy %d" % (
-            form, largest(flow, lines, is_split), largest(flow, [], is_split))
+        sizes = largest(flow, lines, is_split), largest(flow, [], is_split)
+        yield "the largest class in the form %s: %d targets, without this policy %d" % (form, *sizes)
+
+
+def counted(known):
+    """How many sites go by each type, and by tables."""
+    by = {}
+    for reach in known.values():
+        by.setdefault(reach.told, []).append(len(reach.targets))
+    for told, counts in sorted(by.items(), key=lambda row: (-len(row[1]), row[0])):
+        yield "%6d sites by %s, of at most %d targets" % (len(counts), told, max(counts))
+
+
+def doubts(read, reached):
+    """The first sites without a line, and those that may go nowhere."""
+    where = lambda site: read.name(site) + read.at_line(site)
+    lost = [site for site, reach in sorted(reached.items()) if reach.targets is None]
+    idle = [site for site, reach in sorted(reached.items()) if reach.targets is not None and not reach.targets]
+    yield from ("no line for %s: where its pointer comes from is not known" % where(site) for site in lost[:SHOWN])
+    yield from ("nowhere may go %s: no function of its type has its address taken" % where(site) for site in idle[:SHOWN])
 
 
 def words_of_command():

@@ -34,7 +34,7 @@ sys.path.append(str(Path(__file__).resolve().parents[1] / "tests" / "harts"))
 
 from explain import units
 from explain.files import ended, image_of, map_of, objects_of
-from explain.texts import CODE, ONE, Wrong, image_code
+from explain.texts import ONE, Wrong, image_code
 from runs import Refused, Run, Script, script_of, stop_words
 
 COLUMNS = ["program", "masks", "calls", "returns", "checks", "gates", "branches", "lists", "rest"]

@@ -17,13 +17,18 @@ WORDS = {  # the words of docs/MACHINE.md that begin what each column counts, an
     "masks": (0x024F9F93, 3), "calls": (0x03019F13, 6), "returns": (0xFF81BF83, 3), "checks": (0xFFCFFF93, 10),
 }
 ONE, TWO, ACT, TEST = {"next", "opposite"}, {"sum", "difference", "product"}, {"twice", "three"}, {"odd", "even"}
-TABLE = {"sum", "difference"}
+TABLE, NEAR, MORE = {"sum", "difference"}, {"next", "before"}, {"rising", "falling"}
 REACHED = {  # of cases/typed.c: by the function that a computed call or jump is in what it may reach
     "by_parameter": ONE, "by_tail": ONE, "by_union": ONE, "by_result": ONE, "by_stack": ONE,
     "by_member": TWO, "by_inner": TWO, "by_variable": TWO, "by_loop": TWO, "by_element": ACT, "by_row": ACT,
     "by_table": TABLE, "by_rows": TEST, "by_choice": TEST,
 }
+EMBEDDED = {  # of cases/embedded.c
+    "by_base": NEAR, "by_holder": NEAR, "by_pointers": NEAR, "by_value": NEAR, "by_made": NEAR, "by_list": NEAR, "by_stack": NEAR,
+    "by_whole": TABLE, "by_anything": TABLE, "by_order": MORE,
+}
 UNTOLD = {"by_number", "by_old"}
+LOST = {"by_holder"}  # which clang's debugging information does not tell above -O0
 TYPED = ["-fno-section-anchors"]  # gcc's alone
 AT = re.compile(r" at (\S+:\d+)$", re.M)
 
@@ -255,35 +260,37 @@ def counted(asked, made, addresses):
 
 
 def of_typed(asked):
-    """A policy by types: each site of cases/typed.c reaches what its type or its table has, at each level."""
-    host = asked.bench.host(os.path.join("typed.c"))
+    """A policy by types: each site reaches what its type or its table has, at each level."""
     for compiler in compilers():
         for level in ("-O0", "-O2", "-Os"):
-            name = "%s %s" % (compiler.name, level)
-            path, told, sites = typed(asked, compiler, level, [])
-            asked.has(name, told, "lines for %d of %d computed" % (len(sites), len(sites)))
-            asked.same(name + ", functions", {owner for owner, _ in sites}, set(REACHED), told)
-            by_choice = set().union(*(targets for owner, targets in sites if owner == "by_choice"))
-            asked.same(name + ", by_choice", by_choice, REACHED["by_choice"])
-            rows = [(owner, targets) for owner, targets in sites if owner != "by_choice" and targets != REACHED[owner]]
-            asked.same(name + ", targets", rows, [], told)
-            asked.same(name + ", run", asked.bench.ends(path, "main", path + ".policy"), host)
-            asked.same(name + ", classes", class_sizes(path + ".graph"), [2, 2, 2, 3])
-            path, told, sites = typed(asked, compiler, level, ["-DUNTOLD"])
-            asked.same(name + ", not told", {owner for owner, _ in sites}, set(REACHED), told)
-            asked.has(name + ", not told", told, *("no line for %s+" % each for each in UNTOLD))
-            asked.same(name + ", not told, run", asked.bench.ends(path, "main", path + ".policy"), host)
+            typed(asked, compiler, level, "typed.c", REACHED)
+            typed(asked, compiler, level, "typed.c", REACHED, UNTOLD, ["-DUNTOLD"])
+            typed(asked, compiler, level, "embedded.c", EMBEDDED, LOST if compiler.name == "clang" and level != "-O0" else ())
     asked.same("no types", asked.ended(POLICY, asked.bench.case("chances.c"), asked.bench.new(".policy")), 1)
 
 
-def typed(asked, compiler, level, more):
-    """The object of the case with functions that compilers call, what is told of its policy, and the sites with what they reach."""
+def typed(asked, compiler, level, case, reached, untold=(), more=()):
+    """Asks for the policy of a case: what its sites reach, for which there is no line, and how the program ends under it."""
+    name = " ".join([compiler.name, level, case, *more])
+    path, told, sites = policy_by_types(asked, compiler, level, case, list(more))
+    owners = {owner for owner, _ in sites}
+    asked.same(name + ", functions", owners, set(reached) - set(untold), told)
+    wide = {owner: set().union(*(targets for of, targets in sites if of == owner)) for owner in owners}
+    asked.same(name + ", targets", wide, {owner: reached[owner] for owner in owners}, told)
+    asked.same(name + ", no line", set(re.findall(r"^no line for (\w+)\+", told, re.M)), set(untold), told)
+    asked.same(name + ", run", asked.bench.ends(path, "main", path + ".policy"), asked.bench.host(case))
+    if not untold:
+        asked.same(name + ", classes", class_sizes(path + ".graph"), [2, 2, 2, 3] if case == "typed.c" else [2, 2, 2])
+
+
+def policy_by_types(asked, compiler, level, case, more):
+    """The object of a case with functions that compilers call, what is told of its policy, and the sites with what they reach."""
     own = [each for each in compiler.options if each not in programs.LEVELS] + ["-g", level, "-w", *more]
     own += TYPED if compiler.name == "gcc" else []
-    path, memory = asked.bench.new(".o"), asked.bench.new("_memory.o")
-    programs.must(compiler.command + own + ["-c", programs.source("cases/typed.c"), "-o", path])
-    programs.must(compiler.command + own + ["-c", programs.source("memory.c"), "-o", memory])
-    joined = asked.bench.joined(path, memory)
+    path, memory, joined = asked.bench.new(".o"), asked.bench.new("_memory.o"), asked.bench.new("_joined.o")
+    for source, made in ((os.path.join("cases", case), path), ("memory.c", memory)):
+        programs.must(compiler.command + own + ["-c", programs.source(source), "-o", made])
+    programs.must(compiler.join + ["-o", joined, path, memory])
     told = asked.made(POLICY, joined, joined + ".policy", "--calls", "93")
     with open(joined + ".policy") as file:
         lines = [line.split()[1:] for line in file if line.startswith("site ")]

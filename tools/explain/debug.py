@@ -3,29 +3,33 @@
 import struct
 from typing import NamedTuple
 
-from explain.c_types import STRUCTURES, attribute, key, signature, size_of, type_of
+from explain.c_types import STRUCTURES, attribute, key, signature, type_of
 from explain.dwarf import FAULTS, info_of, place_of
 
-ADDR, REG0, REG31, REGX, FBREG, CFA, ADDRX = 0x03, 0x50, 0x6F, 0x90, 0x91, 0x9C, 0xA1
+ADDR, REG0, REG31, BREG0, BREG31, FBREG, PIECE, CFA, STACK_VALUE, ADDRX = 0x03, 0x50, 0x6F, 0x70, 0x8F, 0x91, 0x93, 0x9C, 0x9F, 0xA1
 VARIABLES = {"DW_TAG_variable", "DW_TAG_formal_parameter"}
 EXPRESSIONS = {"DW_FORM_exprloc", "DW_FORM_block1", "DW_FORM_block2", "DW_FORM_block4", "DW_FORM_block"}
 END, BASE_X, STARTX_ENDX, STARTX_LENGTH, PAIR, DEFAULT, BASE, START_END, START_LENGTH = range(9)
 
 
 class Function(NamedTuple):
-    """The type of a function by its parameters and result, or None, its result, and how a variable's place on the stack is counted."""
+    """The type of a function by its parameters and result, or None, its result, how a variable's place on the stack is counted, and the
+    types of its parameters, where it is no copy that may have others."""
     signature: object
     result: object
     frame: object
+    parameters: list
 
 
 class Range(NamedTuple):
-    """Where a variable is in a register, or so far from its function's frame base, and its type."""
+    """Where a variable is a register and an offset, or so far from its function's frame base, and its type; of a piece of one, which is
+    a register, where in the variable it is."""
     first: int
     end: int
     register: object
     offset: int
     type: object
+    inner: object = None
 
 
 def leb(content, at, is_signed=False):
@@ -103,7 +107,8 @@ class Debug:
         if die.tag in STRUCTURES and not attribute(die, "DW_AT_declaration"):
             self.complete.setdefault(key(die), die)
         elif die.tag == "DW_TAG_subprogram" and "DW_AT_low_pc" in die.attributes:
-            self.functions[place_of(attribute(die, "DW_AT_low_pc"))] = Function(signature(die), type_of(die), frame_of(die))
+            self.functions[place_of(attribute(die, "DW_AT_low_pc"))] = Function(
+                signature(die), type_of(die), frame_of(die), own_parameters(die))
         elif die.tag in VARIABLES and "DW_AT_location" in die.attributes:
             self.take(info, unit, die, bounds)
         if die.tag != "DW_TAG_compile_unit" and "DW_AT_low_pc" in die.attributes and "DW_AT_high_pc" in die.attributes:
@@ -129,14 +134,42 @@ class Debug:
 
     def put(self, first, end, expression, kind):
         """Takes in that a variable is in a register, or in its frame, from an address to another."""
-        section = place_of(first)[0]
-        if len(expression) == 1 and REG0 <= expression[0] <= REG31:
-            row = Range(place_of(first)[1], place_of(end)[1], expression[0] - REG0, 0, kind)
-        elif expression[:1] == bytes([FBREG]) and leb(expression, 1)[1] == len(expression):
-            row = Range(place_of(first)[1], place_of(end)[1], None, leb(expression, 1, True)[0], kind)
-        else:
+        section, bounds = place_of(first)[0], (place_of(first)[1], place_of(end)[1])
+        found = self.ranges.setdefault(section, [])
+        for register, offset, inner in registers_of(expression):
+            found.append(Range(*bounds, register, offset, kind, inner))
+        if expression[:1] == bytes([FBREG]) and leb(expression, 1)[1] == len(expression):
+            found.append(Range(*bounds, None, leb(expression, 1, True)[0], kind))
+
+
+def registers_of(expression):
+    """The registers of an expression: each with what is added to it, and where its piece is in the variable, or None for the whole."""
+    if len(expression) == 1 and REG0 <= expression[0] <= REG31:
+        yield expression[0] - REG0, 0, None
+    elif BREG0 <= expression[0] <= BREG31 and expression[-1] == STACK_VALUE and leb(expression, 1)[1] == len(expression) - 1:
+        yield expression[0] - BREG0, leb(expression, 1, True)[0], None
+    elif PIECE in expression:
+        yield from pieces_of(expression)
+
+
+def pieces_of(expression):
+    """The pieces of a variable that are registers, up to the first one that is something else."""
+    at, inner = 0, 0
+    while at < len(expression):
+        register = expression[at] - REG0 if REG0 <= expression[at] <= REG31 else None
+        at += register is not None
+        if at == len(expression) or expression[at] != PIECE:
             return
-        self.ranges.setdefault(section, []).append(row)
+        size, at = leb(expression, at + 1)
+        if register is not None:
+            yield register, 0, inner
+        inner += size
+
+
+def own_parameters(die):
+    """The types of a function's parameters, in their order; none of a copy, whose parameters an optimizer may have changed."""
+    rows = die.iter_children() if "DW_AT_abstract_origin" not in die.attributes else ()
+    return [type_of(each) for each in rows if each.tag == "DW_TAG_formal_parameter"]
 
 
 def frame_of(die):
