@@ -1,6 +1,6 @@
 #!/usr/bin/env python3
 """Asks tools/explain.py of refusals, policies, an exploit, tables and images, of one object and of several that `link` joins, and
-compares what it tells with other tools.
+compares what it tells with other tools; and, by told.py, the scripts beside it of symbols, profiles and policies.
 
     python3 tests/real/explained.py [--program PATH]
 
