@@ -4,8 +4,8 @@
     python3 tools/profile.py program.img program.map FILE.o .. [--input FILE] [--script FILE] [--steps N]
     qemu-riscv64 -one-insn-per-tb -d nochain,exec -D record program.qemu < FILE; python3 tools/profile.py .. --record record
 
-The first runs the image by the machine of tests/harts, some 100,000 steps a second, and tells how it ended, in a handler also what a7
-was: the number of a system call that a list refused. The second counts a record of qemu's (`-singlestep` before version 8), or one
+The first runs the image by the machine of tests/harts, some 100,000 steps a second, and tells how it ended, in a handler also what was
+refused: the number of a system call, or the address of a return, a call or a jump. The second counts a record of qemu's (`-singlestep` before version 8), or one
 with an address a line. The objects stand in the order in which they were linked. The columns (docs/MACHINE.md has the units):
 
     program   what the objects have: one word of each unit but gates
@@ -37,13 +37,14 @@ from explain.files import ended, image_of, map_of, objects_of
 from explain.texts import ONE, Wrong, image_code
 from runs import Refused, Run, Script, script_of, stop_words
 
+CODE_END = 0x40100000
 COLUMNS = ["program", "masks", "calls", "returns", "checks", "gates", "branches", "lists", "rest"]
 CALLED, CHECKED = ["calls"] * 7, ["checks"] * 12
 ADDED = {  # what stands before the program's own word or words, by the kind of a unit
     "store": ["masks"] * 3, "call": CALLED, "return": ["returns"] * 4, "computed jump": CHECKED, "computed call": CHECKED + CALLED,
 }
 STEP = re.compile(r"^Trace .*\[[0-9a-f]+/([0-9a-f]+)/|^(?:0x)?([0-9a-f]{8,16})$")
-NUMBER = 17  # a7
+NUMBER, LINK, CHECKED_AT = 17, 1, 31  # a7, ra, and what units compare
 
 
 class Counting(Run):
@@ -89,6 +90,12 @@ def owner_of(read, placed, address):
     return (*read.owner(place), place[0]) if place else ("the prologue", 0, 0)
 
 
+def name_of(read, placed, address):
+    """What begins at an address, or in what it lies."""
+    place = placed.place(address) if address < CODE_END else None
+    return "%s%s" % ("" if address in placed.gates else "within ", read.name(place)) if place else "outside of the units"
+
+
 def record_of(path):
     """How often each address stands in a record."""
     with open(path, encoding="ascii", errors="replace") as file:
@@ -119,13 +126,19 @@ def table(rows, total):
         yield "%-28s %9d" % (name[0], sum(counts.values())) + "".join(" %9d" % counts[column] for column in COLUMNS)
 
 
-def told_end(run, columns):
-    """How a run ended, and in a handler what a7 was."""
+def told_end(run, columns, name):
+    """How a run ended, and in a handler what was refused: the number of a system call, or an address."""
     yield "stop %s%s" % ("hart %d " % run.hart if run.is_several and run.stop else "", stop_words(run.stop)[0])
-    if run.stop and run.stop[0] == "break":
-        number = run.machine.registers[run.hart][NUMBER]
-        is_list = columns.get(run.last[run.hart][0]) == "lists"
-        yield "a7 %d%s" % (number, ", the number of the system call that its list refused" if is_list else "")
+    if not run.stop or run.stop[0] != "break":
+        return
+    registers, column = run.machine.registers[run.hart], columns.get(run.last[run.hart][0])
+    if column == "lists":
+        yield "a7 %d, the number of the system call that its list refused" % registers[NUMBER]
+    elif column == "checks":
+        yield "x31 %x %s, where it would have gone" % (registers[CHECKED_AT], name(registers[CHECKED_AT]))
+    elif column == "returns":
+        yield "ra %x %s, where it would have returned to, and x31 %x %s, where it should" % tuple(
+            each for at in (LINK, CHECKED_AT) for each in (registers[at], name(registers[at])))
 
 
 def words_of_command():
@@ -150,7 +163,8 @@ def main():
         column = columns.get(address, "rest")
         rows.setdefault(owner_of(read, placed, address), Counter())[column] += count
         total[column] += count
-    return [*table(rows, total), *(told_end(run, columns) if run else [])]
+    name = lambda address: name_of(read, placed, address)
+    return [*table(rows, total), *(told_end(run, columns, name) if run else [])]
 
 
 if __name__ == "__main__":

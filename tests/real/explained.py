@@ -420,7 +420,10 @@ def of_others(asked, program, made):
     told.of_statuses(asked, made, program)
     told.of_whole_lines(asked, made)
     told.of_lines(asked, program)
-    told.of_symbols(asked, linked_program(asked, program, "plain"))
+    linked = linked_program(asked, program, "plain")
+    told.of_symbols(asked, linked)
+    for attack in ATTACKS.values():
+        told.of_refused(asked, linked, attack(linked.gate("open_door")), linked.gate("open_door"))
     for form in ("harts", "harts-split"):
         told.of_profile(asked, program, linked_program(asked, program, form))
 

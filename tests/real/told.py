@@ -240,6 +240,12 @@ def of_profile(asked, program, made):
                [line for line in text.splitlines() if not line.startswith("stop")])
 
 
+def of_refused(asked, made, attack, address):
+    """Where an exploit would have gone, which the run of profile.py tells."""
+    text = asked.made(PROFILE, made.image, made.map, *made.objects, "--input", made.input_file(attack))
+    asked.has("where it would have gone", text, " %x open_door+0, where it would have " % address)
+
+
 def words_of(image):
     """The words of an image's code by their addresses."""
     code = dict(programs.segments(image))[0x40000000]

@@ -126,7 +126,8 @@ def of_handler(named, disassembly, handler, trail):
     if found:
         yield "It is a computed %s of %s, which may go to: %s." % (
             found.kind, named.graph.name(found.label), named.names(named.graph.classes.get(found.label, [])))
-    yield "The report tells no more: not the address that was refused, nor the calls that are pending."
+    if handler != "__cfi_deep" and named.read.word_at(place or (0, 0)) != ECALL:
+        yield "Which address it was `tools/profile.py` tells, which runs the image."
 
 
 def of_rejected(named, disassembly, words):
