@@ -7,6 +7,7 @@ from explain.c_types import STRUCTURES, attribute, key, signature, type_of
 from explain.dwarf import FAULTS, info_of, place_of
 
 ADDR, REG0, REG31, BREG0, BREG31, FBREG, PIECE, CFA, STACK_VALUE, ADDRX = 0x03, 0x50, 0x6F, 0x70, 0x8F, 0x91, 0x93, 0x9C, 0x9F, 0xA1
+NEW_BASE = 2**64 - 1
 VARIABLES = {"DW_TAG_variable", "DW_TAG_formal_parameter"}
 EXPRESSIONS = {"DW_FORM_exprloc", "DW_FORM_block1", "DW_FORM_block2", "DW_FORM_block4", "DW_FORM_block"}
 END, BASE_X, STARTX_ENDX, STARTX_LENGTH, PAIR, DEFAULT, BASE, START_END, START_LENGTH = range(9)
@@ -43,11 +44,11 @@ def leb(content, at, is_signed=False):
 
 
 class Lists:
-    """The lists of places of a unit, as DWARF 5 has them."""
+    """The lists of places of a unit, as DWARF 5 has them, or the versions before it."""
 
     def __init__(self, info, unit):
-        self.info, self.unit = info, unit
-        section = info.debug_loclists_sec
+        self.info, self.unit, self.is_older = info, unit, unit["version"] < 5
+        section = info.debug_loc_sec if self.is_older else info.debug_loclists_sec
         self.content = section.stream.getvalue() if section and hasattr(section.stream, "getvalue") else b""
 
     def address(self, at):
@@ -60,6 +61,9 @@ class Lists:
     def rows(self, at):
         """The first and the end address, and the expression, of each row of a list."""
         base = attribute(self.unit.get_top_DIE(), "DW_AT_low_pc") or 0
+        if self.is_older:
+            yield from self.older_rows(at, base)
+            return
         while self.content[at] != END:
             kind = self.content[at]
             first, end, at = self.bounds(kind, at + 1, base)
@@ -69,6 +73,19 @@ class Lists:
             length, at = leb(self.content, at)
             yield first, end, self.content[at:at + length]
             at += length
+
+    def older_rows(self, at, base):
+        """The same before DWARF 5: two addresses from a base on, or a new base."""
+        while True:
+            first, end = struct.unpack_from("<QQ", self.content, at)
+            if first == end == 0:
+                return
+            if first == NEW_BASE:
+                base, at = end, at + 16
+                continue
+            length, = struct.unpack_from("<H", self.content, at + 16)
+            yield base + first, base + end, self.content[at + 18:at + 18 + length]
+            at += 18 + length
 
     def bounds(self, kind, at, base):
         """What stands before an expression: two addresses, and where it ends."""

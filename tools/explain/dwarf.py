@@ -55,7 +55,7 @@ def relocated(path):
     with open(path, "rb") as file:
         content = bytearray(file.read())
     elf = ELFFile(io.BytesIO(bytes(content)))
-    if not elf.get_section_by_name(".debug_info"):
+    if not elf.get_section_by_name(".debug_info") or elf.get_section_by_name(".debug_info")["sh_flags"] & COMPRESSED:
         return None
     sections = list(elf.iter_sections())
     headers, values = [section.header for section in sections], {}
