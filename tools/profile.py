@@ -2,13 +2,15 @@
 """Counts the steps of a run of an image by function, and which of them are the program's own and which are hardening's.
 
     python3 tools/profile.py program.img program.map FILE.o .. [--input FILE] [--script FILE] [--steps N]
-    qemu-riscv64 -one-insn-per-tb -d nochain,exec -D record program.qemu < FILE; python3 tools/profile.py .. --record record
+    qemu-riscv64 -one-insn-per-tb -d nochain,exec -D record program.qemu < FILE
+    python3 tools/profile.py program.img program.map FILE.o .. --record record
 
-The first runs the image by the machine of tests/harts, some 100,000 steps a second, and tells how it ended, in a handler also what was
-refused: the number of a system call, or the address of a return, a call or a jump. The second counts a record of qemu's (`-singlestep` before version 8), or one
-with an address a line. The objects stand in the order in which they were linked. The columns (docs/MACHINE.md has the units):
+The first runs the image by the machine of tests/harts, which is slow, and tells how it ended, in a handler also what was refused: the
+number of a system call, or the address of a return, a call or a jump. The others count a record of qemu's (`-singlestep` before
+version 8), or one with an address a line. The objects stand in the order in which they were linked. The columns (docs/MACHINE.md has the
+units):
 
-    program   what the objects have: one word of each unit but gates
+    program   what the objects have
     masks     of stores
     calls     what puts a call's site onto the shadow stack
     returns   what compares a return with it

@@ -36,27 +36,33 @@ AT = re.compile(r" at (\S+:\d+)$", re.M)
 def of_statuses(asked, made, program):
     """Behind a pipe the script ends as rvcfi did."""
     given = made.input_file(program.input)
-    missing, long = os.path.join(asked.folder, "missing"), asked.bench.new(".long")
-    with open(long, "wb") as file:
-        file.truncate(2**26 + 1)
-    run = ["run", made.image, made.graph, "none", given]
     listed = Hardened(asked.tool, made.object, policy=programs.policy_of((63, 93), asked.bench.new(".policy")))
-    rows = [
-        (["rewrite", made.object, "_start", "none", *asked.new_files()], "refusal", 0), (["rewrite", made.object, "nothing", "none", *asked.new_files()], "refusal", 1),
-        (["rewrite"], "refusal", 2), (["rewrite", missing, "main", "none", *asked.new_files()], "refusal", 3),
-        (["rewrite", long, "main", "none", *asked.new_files()], "refusal", 6), (["verify", made.image, made.graph], "report", 0),
-        (["verify", made.image, listed.graph], "report", 1), (run + ["1000000"], "report", 0), (run + ["9"], "report", 12),
-        (["run", listed.image, listed.graph, "none", given, "1000000"], "report", 10),
-        (["compare", made.object, "_start", "none", made.image, made.map, given, "9"], "report", 12),
-        (["compare", made.object, "_start", "none", made.image, made.map, given, "1000000"], "report", 0),
-        (["compare", made.object, "_start", listed.policy, listed.image, listed.map, given, "1000000"], "report", 13),
-    ]
-    for words, command, wanted in rows:
-        files = [made.object] if command == "refusal" else [made.object, made.graph, made.map]
+    for wanted, of, command, words in [*refusing(asked, made), *reporting(made, listed, given)]:
+        files = [of.object] if command == "refusal" else [of.object, of.graph, of.map]
         line = "%s | %s" % (shlex.join([asked.tool, *words]), shlex.join([asked.python, asked.script, command, *files]))
         got = programs.run([asked.tool, *words]).returncode, programs.run(["sh", "-c", line]).returncode
-        asked.same("the status of " + " ".join(words[:1] + words[5:]), got, (wanted, wanted))
+        asked.same("the status of " + " ".join(words), got, (wanted, wanted))
     asked.same("the status of no answer", asked.ended(asked.script, "refusal", made.object), 4)
+
+
+def refusing(asked, made):
+    """Of what is hardened and refused the status, the program, and the words."""
+    missing, long = asked.bench.new(".missing"), asked.bench.new(".long")
+    with open(long, "wb") as file:
+        file.truncate(2**26 + 1)
+    for status, path, entry in ((0, made.object, "_start"), (1, made.object, "nothing"), (3, missing, "_start"), (6, long, "_start")):
+        yield status, made, "refusal", ["rewrite", path, entry, "none", *asked.new_files()]
+    yield 2, made, "refusal", ["rewrite"]
+
+
+def reporting(made, listed, given):
+    """The same of what verify, run and compare print."""
+    for status, of, graph in ((0, made, made.graph), (1, made, listed.graph)):
+        yield status, of, "report", ["verify", of.image, graph]
+    for status, of, steps in ((0, made, "1000000"), (12, made, "9"), (10, listed, "1000000")):
+        yield status, of, "report", ["run", of.image, of.graph, "none", given, steps]
+    for status, of, steps in ((0, made, "1000000"), (12, made, "9"), (13, listed, "1000000")):
+        yield status, of, "report", ["compare", of.object, "_start", of.policy, of.image, of.map, given, steps]
 
 
 def of_whole_lines(asked, made):
@@ -196,7 +202,8 @@ def of_variables(asked):
         objects = [programs.compiled(own, "-O1", name, folder) for name in ("start.s", "memory.c", "text.c")]
         for defined in ([], ["-DOTHER"]):
             objects.append(os.path.join(folder, "variables%d.o" % len(defined)))
-            programs.must(own.command + own.options + ["-O1", *more, *defined, "-c", programs.source("cases/variables.c"), "-o", objects[-1]])
+            options = own.options + ["-O1", *more, *defined]
+            programs.must(own.command + options + ["-c", programs.source("cases/variables.c"), "-o", objects[-1]])
         made = Linked(asked.tool, objects, os.path.join(folder, "variables"))
         printed = made.run(b"")[1].decode().split()
         out = made.image + ".elf"
@@ -231,13 +238,17 @@ def of_profile(asked, program, made):
     for column, (word, each) in WORDS.items():
         count = sum(words[address] == word for address in addresses if address >= 0x40000040)
         asked.same("%s, %s" % (program.name, column), rows["all"][columns.index(column)], each * count, text)
-    is_gate = lambda address: words.get(address, 0) & 0xFFF == 0x37
-    beside = lambda address: words[address] == 0x13 and (is_gate(address - 4) or is_gate(address + 4))  # the word of a class that it is not in
-    gates = sum(is_gate(address) or beside(address) for address in addresses)
+    gates = sum(is_lead(words, address) for address in addresses)
     asked.same(program.name + ", gates", rows["all"][columns.index("gates")], gates, text)
     record = asked.bench.asked.file("record", "".join("%08x\n" % address for address in addresses).encode())
     asked.same(program.name + ", a record", asked.made(PROFILE, made.image, made.map, *made.objects, "--record", record).splitlines(),
                [line for line in text.splitlines() if not line.startswith("stop")])
+
+
+def is_lead(words, address):
+    """Whether a word is a gate, or the word beside one for the sort of class that a target is in none of."""
+    is_gate = lambda at: words.get(at, 0) & 0xFFF == 0x37
+    return is_gate(address) or words[address] == 0x13 and (is_gate(address - 4) or is_gate(address + 4))
 
 
 def of_refused(asked, made, attack, address):
