@@ -108,6 +108,11 @@ def stride_of(die):
     return size_of(type_of(die)) if die.tag == "DW_TAG_array_type" else size_of(die)
 
 
+def whole_of(die, complete):
+    """A structure, or that of its name where it is declared alone."""
+    return complete.get(key(die), die) if attribute(die, "DW_AT_declaration") else die
+
+
 def found_at(die, offset, complete):
     """The types, one a way, that stand at an offset of a type: of a union there may be several."""
     if die is None:
@@ -118,8 +123,7 @@ def found_at(die, offset, complete):
         return found_at(element, offset % size, complete) if size else []
     if die.tag not in STRUCTURES:
         return [die] if offset == 0 else []
-    whole = complete.get(key(die), die)
-    rows = [(type_of(each), offset - (attribute(each, "DW_AT_data_member_location") or 0)) for each in members(whole)]
+    rows = [(type_of(each), offset - (attribute(each, "DW_AT_data_member_location") or 0)) for each in members(whole_of(die, complete))]
     return [found for inner, at in rows if 0 <= at < (size_of(inner) or 1) for found in found_at(inner, at, complete)]
 
 
@@ -131,5 +135,5 @@ def arrays_in(die, complete, at=0):
         yield die, at
         yield from arrays_in(type_of(die), complete, at)
     elif die.tag in STRUCTURES:
-        for each in members(complete.get(key(die), die)):
+        for each in members(whole_of(die, complete)):
             yield from arrays_in(type_of(each), complete, at + (attribute(each, "DW_AT_data_member_location") or 0))
