@@ -411,7 +411,7 @@ def renamed(asked, text, name):
 
 def of_missing(asked):
     """Where pyelftools is missing, how to get it."""
-    done = subprocess.run([sys.executable, "-I", "-S", TOOL, "graph"], stdout=subprocess.PIPE, stderr=subprocess.PIPE, check=False)
+    done = subprocess.run([sys.executable, "-E", "-s", "-S", TOOL, "graph"], stdout=subprocess.PIPE, stderr=subprocess.PIPE, check=False)
     asked.same("no pyelftools", (done.returncode, b"apt-get install python3-pyelftools" in done.stderr), (1, True))
 
 
