@@ -11,31 +11,23 @@
 Where objects are joined by `rvcfi link`, all of them stand in the place of program.o, in the order in which they were linked.
 It needs Python 3.9 and pyelftools (`apt-get install python3-pyelftools`), and prints instructions where objdump for RISC-V
 is there. Nothing of it is trusted, and what it prints proves nothing: `rvcfi verify` alone says whether an image is safe.
-Offsets in functions are hexadecimal, as a policy has them.
+Offsets in functions are hexadecimal, as a policy has them. Of objects with debugging information (`-g`) places come with their
+file and line. What reads an answer of rvcfi (`refusal`, `report`) ends with the status that this answer came with, as the text tells
+it, so a pipe fails as rvcfi failed; where there is no answer with 4. `set -o pipefail` hands on rvcfi's own.
 """
 
 import argparse
-import os
 import sys
 
 sys.dont_write_bytecode = True
 
-MISSING = """explain.py needs pyelftools: apt-get install python3-pyelftools (and then /usr/bin/python3), or python3 -m pip install
-pyelftools."""
-
-try:
-    from elftools.common.exceptions import ELFError
-except ImportError:
-    sys.exit(MISSING)
-
 from explain import dot, image, pitfalls, report
-from explain.elf import Object
-from explain.graph import Named
-from explain.joined import Joined, Part
+from explain.files import ended, joined_of, named_of, object_of, objects_of
 from explain.refusal import DUPLICATE, OF_ONE, SECTIONS, Refusal, decimal, number_of, words_of
-from explain.texts import Graph, Map, Wrong, image_code
+from explain.statuses import status_of
+from explain.texts import Wrong, first_line, image_code
 
-FAULTS = (ELFError, ValueError, KeyError, IndexError, TypeError, AttributeError, OverflowError, MemoryError, RecursionError)
+ANSWERS = "refusal", "report"  # what reads an answer of rvcfi
 
 
 def words_of_command():
@@ -63,23 +55,6 @@ def command(commands, name, text, files):
     return made
 
 
-def object_of(path, kind=Object):
-    """An object, with a word of help where it cannot be read."""
-    try:
-        return kind(path)
-    except FAULTS as fault:
-        raise Wrong("%s cannot be read as an object by pyelftools: %s" % (path, fault or type(fault).__name__)) from fault
-
-
-def joined_of(paths):
-    return Joined([object_of(path, Part) for path in paths])
-
-
-def objects_of(paths):
-    """One object, or several as one."""
-    return object_of(paths[0]) if len(paths) == 1 else joined_of(paths)
-
-
 def refused_of(words, paths):
     """What is refused: of several objects the one that is told, or all as one."""
     number, of = decimal(words[1]), number_of(words)
@@ -88,10 +63,10 @@ def refused_of(words, paths):
     return joined_of(paths) if number in (DUPLICATE, SECTIONS) else objects_of(paths)
 
 
-def refusal_lines(options):
-    words = words_of(sys.stdin.buffer.read())
+def refusal_lines(options, answer):
+    words = words_of(answer)
     if len(words) < 2 or words[0] != "refused" or not words[1].isdecimal():
-        return ["Nothing was refused: " + (" ".join(words[:8]) or "there is no answer")]
+        return ["Nothing was refused: " + (first_line(answer) or "there is no answer")]
     try:
         read = refused_of(words, options.objects)
     except Wrong as wrong:
@@ -105,44 +80,26 @@ def refusal_alone(words, options, wrong):
     return [refusal.heading(), str(wrong)] + list(refusal.told())
 
 
-def named_of(options):
-    read = objects_of(options.objects)
-    try:
-        return Named(read, Graph(options.graph), Map(options.map))
-    except (ValueError, IndexError) as fault:
-        files = options.graph, options.map
-        raise Wrong("%s or %s has a line that is none of its kind: `rvcfi verify` tells which" % files) from fault
-
-
-def shown(line):
-    """A line without what a terminal would act on: names of an object are whatever its maker likes."""
-    return "".join(letter if letter.isprintable() else "?" for letter in line)
-
-
-def lines_of(options):
+def lines_of(options, answer):
     if options.command == "refusal":
-        return refusal_lines(options)
+        return refusal_lines(options, answer)
     if options.command == "object":
         return pitfalls.lines(objects_of(options.objects))
-    named = named_of(options)
+    named = named_of(options.objects, options.graph, options.map)
     if options.command == "graph":
         return dot.lines(named) if options.dot else named.lines(options.entry, options.policy)
     disassembly = named.read.disassembly()
     if options.command == "image":
         return image.lines(named, disassembly, image_code(options.image))
-    return report.lines(named, disassembly, sys.stdin.buffer.read())
+    return report.lines(named, disassembly, answer)
 
 
 def main():
     options = words_of_command()
-    try:
-        for line in lines_of(options):
-            print(shown(line))
-    except BrokenPipeError:
-        os.dup2(os.open(os.devnull, os.O_WRONLY), sys.stdout.fileno())
-    except (OSError, Wrong) as wrong:
-        sys.exit("explain.py: %s" % wrong)
+    answer = sys.stdin.buffer.read() if options.command in ANSWERS else None
+    ended(lambda: lines_of(options, answer))
+    return 0 if answer is None else status_of(answer)
 
 
 if __name__ == "__main__":
-    main()
+    sys.exit(main())

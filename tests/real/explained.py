@@ -1,6 +1,6 @@
 #!/usr/bin/env python3
 """Asks tools/explain.py of refusals, policies, an exploit, tables and images, of one object and of several that `link` joins, and
-compares what it tells with other tools.
+compares what it tells with other tools; and, by told.py, the scripts beside it of symbols, profiles and policies.
 
     python3 tests/real/explained.py [--program PATH]
 
@@ -20,6 +20,7 @@ import tempfile
 sys.dont_write_bytecode = True
 
 import programs
+import told
 from attack import ATTACKS
 from pitfalls import CHANCES, LABELS, MACHINE, NO_ZEROS, Bench, policy_of
 from programs import Hardened, Linked, Missing
@@ -52,16 +53,22 @@ class Asked:
     """The script's answers, and what of them was looked for in vain."""
 
     def __init__(self, tool, folder):
-        self.python = python_with_elftools()
+        self.python, self.script = python_with_elftools(), TOOL
         self.compiler = programs.gcc()
         self.bench = Bench(tool, folder, self.compiler)
         self.tool, self.folder, self.count, self.failed = tool, folder, 0, []
 
     def told(self, *words, given=b""):
-        done = programs.run([self.python, TOOL] + list(words), given)
-        if done.returncode:
-            return "status %d: %s" % (done.returncode, done.stderr.decode())
-        return done.stdout.decode()
+        return self.made(TOOL, *words, given=given)
+
+    def made(self, *words, given=b""):
+        """What a script prints, or what it ends with where it could not do its work."""
+        done = programs.run([self.python, *words], given)
+        return "status %d: %s" % (done.returncode, done.stderr.decode()) if done.stderr else done.stdout.decode()
+
+    def ended(self, *words):
+        """The status of a script that is given no answer."""
+        return programs.run([self.python, *words]).returncode
 
     def has(self, what, text, *wanted):
         for part in wanted:
@@ -76,6 +83,10 @@ class Asked:
         """The object of a source in C."""
         return compiled(self.bench.compiler, text, without, list(more), self.bench.new(".o"))
 
+    def new_files(self):
+        """Names for an image, a graph and a map."""
+        return [self.bench.new(end) for end in (".img", ".graph", ".map")]
+
     def refusal(self, path, *wanted, entry="main", policy="none"):
         files = [path + end for end in (".img", ".graph", ".map")]
         answer = self.bench.asked.answer("rewrite", path, entry, policy, *files)
@@ -87,7 +98,7 @@ class Asked:
 
     def linked(self, paths, entry="main", policy="none"):
         """The answer of `link`, and its files."""
-        files = [self.bench.new(end) for end in (".img", ".graph", ".map")]
+        files = self.new_files()
         return self.bench.asked.answer("link", "plain", entry, policy, *files, *paths), files
 
     def refused_link(self, paths, start, *wanted, entry="main", policy="none"):
@@ -400,22 +411,39 @@ def renamed(asked, text, name):
 
 def of_missing(asked):
     """Where pyelftools is missing, how to get it."""
-    done = subprocess.run([sys.executable, "-I", "-S", TOOL, "graph"], stdout=subprocess.PIPE, stderr=subprocess.PIPE, check=False)
+    done = subprocess.run([sys.executable, "-E", "-s", "-S", TOOL, "graph"], stdout=subprocess.PIPE, stderr=subprocess.PIPE, check=False)
     asked.same("no pyelftools", (done.returncode, b"apt-get install python3-pyelftools" in done.stderr), (1, True))
+
+
+def of_others(asked, program, made):
+    """What is told of the program by debugging information, and by the other scripts."""
+    told.of_statuses(asked, made, program)
+    told.of_whole_lines(asked, made)
+    told.of_lines(asked, program)
+    linked = linked_program(asked, program, "plain")
+    told.of_symbols(asked, linked)
+    for attack in ATTACKS.values():
+        told.of_refused(asked, linked, attack(linked.gate("open_door")), linked.gate("open_door"))
+    for form in ("harts", "harts-split"):
+        told.of_profile(asked, program, linked_program(asked, program, form))
 
 
 def try_all(asked):
     for part in (of_refusals, of_undefined, of_policies, of_wrong_lists, of_names, of_tables, of_strange_names, of_refused_objects, of_refused_links,
-                 of_many_sections, of_pitfalls, of_links, of_linked_names, of_missing):
+                 of_many_sections, of_pitfalls, of_links, of_linked_names, of_missing, told.of_sites, told.of_numbers, told.of_variables,
+                 told.of_typed, told.of_narrowed):
         part(asked)
     for program, made in hardened_programs(asked):
         of_image(asked, program, made)
         for form in ("split", "harts-split"):
             of_image(asked, program, Hardened(asked.tool, made.object, form))
         of_image(asked, program, linked_program(asked, program, "harts-split"))
+        told.of_labels(asked, made)
+        told.of_profile(asked, program, linked_program(asked, program, "plain"))
         if program.name == "visitors":
             of_harts(asked, program, made)
             of_lists(asked, program, made)
+            of_others(asked, program, made)
             for each in (made, linked_program(asked, program, "plain")):
                 of_exploit(asked, each)
                 of_system_calls(asked, each)

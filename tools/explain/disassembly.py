@@ -7,14 +7,15 @@ import subprocess
 OBJDUMPS = ["riscv64-linux-gnu-objdump", "riscv64-unknown-elf-objdump"]
 INSTRUCTION = re.compile(r"^ *([0-9a-f]+):\t[0-9a-f]+ *\t(.*)$")
 RELOCATION = re.compile(r"^\t+[0-9a-f]+: (R_RISCV_\S+)\t(\S+)")
+OWN_LABEL = re.compile(r"<\.L[^>]*>")
 HEADING = "Disassembly of section "
 
 
 class Disassembly:
     """The text of each instruction of an object by its place; empty where there is no objdump."""
 
-    def __init__(self, path, names):
-        self.texts = {}
+    def __init__(self, path, names, own_names):
+        self.texts, self.own_names = {}, own_names
         objdump = next((name for name in OBJDUMPS if shutil.which(name)), None)
         self.is_there = objdump is not None
         if objdump:
@@ -30,10 +31,11 @@ class Disassembly:
             found = INSTRUCTION.match(line)
             if found:
                 last = section, int(found.group(1), 16)
-                self.texts[last] = " ".join(found.group(2).split("#")[0].split())
+                self.texts[last] = " ".join(OWN_LABEL.sub("", found.group(2).split("#")[0]).split())
             found = RELOCATION.match(line)
             if found and last and found.group(1) != "R_RISCV_RELAX":
-                self.texts[last] += " [%s %s]" % (found.group(1)[len("R_RISCV_"):], found.group(2))
+                named = self.own_names.get((last, found.group(2).split("+")[0]), found.group(2))
+                self.texts[last] += " [%s %s]" % (found.group(1)[len("R_RISCV_"):], named)
 
     @staticmethod
     def next_named(names, name, after):

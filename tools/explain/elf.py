@@ -2,6 +2,7 @@
 
 import bisect
 import struct
+from functools import cached_property
 from typing import NamedTuple
 
 from elftools.elf.elffile import ELFFile
@@ -9,11 +10,13 @@ from elftools.elf.relocation import RelocationSection
 from elftools.elf.sections import SymbolTableSection
 
 from explain.disassembly import Disassembly
+from explain.dwarf import Lines
 
 ALLOC, EXECINSTR = 2, 4
 ABS32, ABS64, ADD32, ADD64 = 1, 2, 35, 36
 CALL, CALL_PLT, GOT_HI20, PCREL_HI20, HI20 = 18, 19, 20, 23, 26
 AUIPC, JALR, ECALL, EBREAK = 0x17, 0x67, 0x00000073, 0x00100073
+OWN = ".L"  # what names of a compiler and an assembler begin with, which no source has
 
 
 class Symbol(NamedTuple):
@@ -117,7 +120,7 @@ class Object:
     def symbols_by_place(self):
         found = {}
         for symbol in self.symbols:
-            if symbol.name and isinstance(symbol.section, int) and not symbol.name.startswith("$"):
+            if symbol.name and isinstance(symbol.section, int) and not symbol.name.startswith(("$", OWN)):
                 found.setdefault((symbol.section, symbol.value), []).append(symbol)
         return found
 
@@ -175,8 +178,38 @@ class Object:
         symbol = self.symbols[relocation.symbol]
         return (symbol.section, symbol.value + relocation.addend) if isinstance(symbol.section, int) else None
 
+    @cached_property
+    def rows_by_place(self):
+        found = {}
+        for row in self.relocations:
+            found.setdefault((row.section, row.offset), []).append(row)
+        return found
+
     def at_place(self, place):
-        return [row for row in self.relocations if (row.section, row.offset) == place]
+        return self.rows_by_place.get(place, [])
+
+    def named_by(self, row):
+        """What a relocation names: a symbol and what is added, or the place of a label that no source has."""
+        if row.symbol >= len(self.symbols):
+            return "symbol %d, which is not in the table" % row.symbol
+        symbol = self.symbols[row.symbol]
+        if symbol.name.startswith(OWN) and isinstance(symbol.section, int):
+            return self.name(self.target(row))
+        name = symbol.name or (self.section_name(symbol.section) if isinstance(symbol.section, int) else "no symbol")
+        return "%s%+d" % (name, row.addend) if row.addend else name
+
+    @cached_property
+    def lines(self):
+        return Lines(self.path)
+
+    def line(self, place):
+        """The file and the line of an instruction, where debugging information has them, else nothing."""
+        return self.lines.at(place)
+
+    def at_line(self, place):
+        """The same behind a place's name."""
+        line = self.line(place)
+        return " at %s" % line if line else ""
 
     def pairs(self):
         """The places of AUIPCs that are one transfer with the JALR behind them."""
@@ -205,8 +238,16 @@ class Object:
         """The symbol with a number in an object, these counted from 1, or None."""
         return self.symbols[number] if number < len(self.symbols) else None
 
+    def own_names(self):
+        """What relocations against labels that no source has name, by the place and the label."""
+        symbols, found = self.symbols, {}
+        for row in self.relocations:
+            if row.symbol < len(symbols) and symbols[row.symbol].name.startswith(OWN):
+                found[(row.section, row.offset), symbols[row.symbol].name.strip()] = self.named_by(row)
+        return found
+
     def disassembly(self):
-        return Disassembly(self.path, self.names_of_code())
+        return Disassembly(self.path, self.names_of_code(), self.own_names())
 
     @staticmethod
     def doubt(how):

@@ -22,6 +22,11 @@ class Named:
             return self.owner(address)
         return self.read.name(place) if place else "%08x, in the prologue" % address
 
+    def at_line(self, address):
+        """` at `, and the file and line that an address is of, where debugging information has them."""
+        place = self.map.place(address)
+        return self.read.at_line(place) if place else ""
+
     def names(self, addresses):
         """The names of addresses, the first few of many."""
         more = " and %d more" % (len(addresses) - NAMED) if len(addresses) > NAMED else ""
@@ -69,10 +74,11 @@ class Named:
         yield "%s: %d targets (%d functions, %d labels), %d sites" % (
             self.graph.name(label), len(targets), len(functions), len(targets) - len(functions), len(sites))
         for site in sites:
-            yield "    from %08x  computed %-4s  in %s" % (site.address, site.kind, self.place(site.address))
+            yield "    from %08x  computed %-4s  in %s%s" % (site.address, site.kind, self.place(site.address), self.at_line(site.address))
         for target in targets:
             kind = "function" if target in functions else "label"
-            yield "    to   %08x  %-13s  %s" % (target, kind, self.owner(target) if target in functions else self.place(target))
+            name = self.owner(target) if target in functions else self.place(target)
+            yield "    to   %08x  %-13s  %s%s" % (target, kind, name, self.at_line(target))
 
     def system_lines(self):
         """How many ECALL and EBREAK there are, by function."""

@@ -112,6 +112,10 @@ class Joined(Object):
         return "%s of %s (section %d of all, its section %d)" % (
             self.names[number] or "a section without a name", self.parts[at].path, number, own)
 
+    def line(self, place):
+        at = bisect.bisect_right(self.sections_before, place[0]) - 1
+        return self.parts[at].line((place[0] - self.sections_before[at], place[1]))
+
     def disassembly(self):
         return Disassemblies(self)
 

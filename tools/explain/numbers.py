@@ -3,7 +3,8 @@
 from explain.elf import ECALL, fields
 from explain.units import BRANCH, JAL, branch_offset, jal_target
 
-STORE, JALR, ADDI, CALLED = 0x23, 0x67, 0x13, 17  # x17 is a7
+STORE, JALR, ADDI, ADDIW, LUI, CALLED = 0x23, 0x67, 0x13, 0x1B, 0x37, 17  # x17 is a7
+CHANGED = [10]  # what a system call changes
 SHOWN = 6
 MOST = 2047
 
@@ -37,6 +38,34 @@ def number_before(read, place, targets):
             is_constant = opcode == ADDI and word >> 12 & 7 == 0 and rs1 == 0 and not read.at_place((section, offset))
             return (word >> 20) - (word >> 31 << 12) if is_constant else None
     return None
+
+
+def number_after(read, places, place):
+    """The constant in x17 at an ECALL behind the places of a walk, or None where neither these nor the code before it tell it."""
+    known = {0: 0}
+    for each in places:
+        if each is not None:
+            take(read, each, known)
+    return known[CALLED] if CALLED in known else number_before(read, place, entered(read))
+
+
+def take(read, place, known):
+    """What is known of registers behind an instruction: sums of constants, and nothing else."""
+    word = read.word_at(place)
+    opcode, rd, rs1 = fields(word or 0)
+    if opcode in (STORE, BRANCH):
+        return
+    value = None
+    if opcode in (ADDI, ADDIW) and word >> 12 & 7 == 0 and rs1 in known:
+        value = known[rs1] + (word >> 20) - (word >> 31 << 12)
+    elif opcode == LUI:
+        value = (word >> 12 << 12) - (word >> 31 << 32)
+    written = CHANGED if word == ECALL else [rd]
+    for each in written:
+        known.pop(each, None)
+    if value is not None and not read.at_place(place):
+        known[rd] = value
+    known[0] = 0
 
 
 def by_number(read):

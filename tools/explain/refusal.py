@@ -3,6 +3,7 @@
 import re
 
 from explain import table
+from explain.classes import Flow, place_of
 from explain.elf import fields
 from explain.texts import place_words, policy_lines
 
@@ -77,18 +78,11 @@ class Refusal:
 
     def at_place(self):
         place = self.value(0), self.value(1)
-        yield "In %s at offset %x: %s" % (self.read.section_name(place[0]), place[1], self.read.name(place))
+        yield "In %s at offset %x: %s%s" % (self.read.section_name(place[0]), place[1], self.read.name(place), self.read.at_line(place))
         if place[0] < len(self.read.headers) and self.read.is_code(place[0]):
             yield "The instruction: " + self.disassembly.text(place, self.read.word_at(place))
         for row in self.read.at_place(place):
-            yield "A relocation there: %s against %s" % (RELOCATIONS.get(row.kind, row.kind), self.symbol_name(row))
-
-    def symbol_name(self, row):
-        if row.symbol >= len(self.read.symbols):
-            return "symbol %d, which is not in the table" % row.symbol
-        symbol = self.read.symbols[row.symbol]
-        name = symbol.name or (self.read.section_name(symbol.section) if isinstance(symbol.section, int) else "no symbol")
-        return "%s%+d" % (name, row.addend) if row.addend else name
+            yield "A relocation there: %s against %s" % (RELOCATIONS.get(row.kind, row.kind), self.read.named_by(row))
 
     def file_type(self):
         yield "The file is %s." % TYPES.get(self.value(0), "of type %d" % self.value(0))
@@ -179,6 +173,20 @@ class Refusal:
             return
         for text in rows[number][1:]:
             yield "    %-28s %s" % (text, self.policy_place(text))
+        yield from self.sites_beside(rows[number][1:2])
+
+    def sites_beside(self, texts):
+        """The computed jumps and calls of the function that a line's site names."""
+        name = texts[0].rpartition("+")[0] or texts[0] if texts else ""
+        start = place_of(self.read, name + "+0")
+        if not start or not self.read.is_code(start[0]):
+            return
+        owner = self.read.owner(start)
+        sites = [place for place in sorted(Flow(self.read).sites) if place[0] == start[0] and self.read.owner(place) == owner]
+        yield "Computed jumps and calls of %s: %d" % (name, len(sites))
+        for place in sites:
+            text = self.disassembly.text(place, self.read.word_at(place))
+            yield "    %-28s %s%s" % (self.read.name(place), text, self.read.at_line(place))
 
     def policy_place(self, text):
         words = place_words(text)

@@ -1,7 +1,8 @@
 """The report of a run, or another answer about an image, in names."""
 
+from explain import numbers
 from explain.elf import ECALL
-from explain.texts import HANDLERS, OPENING, report_of
+from explain.texts import HANDLERS, OPENING, first_line, report_of
 
 CAUSES = {
     "__cfi_bad_target": "the address that it was to go to is no target of its class",
@@ -46,7 +47,7 @@ def lines(named, disassembly, text):
     elif words[0] == "untame":
         yield from of_untame(named, disassembly, words)
     else:
-        yield "Nothing in this answer has a name: " + " ".join(words[:8])
+        yield "Nothing in this answer has a name: " + first_line(text)
 
 
 def of_run(named, disassembly, text):
@@ -64,7 +65,8 @@ def of_run(named, disassembly, text):
 
 def of_trail(named, disassembly, trail):
     for address in trail:
-        yield ("    %08x  %-34s %s" % (address, name_of(named, address), instruction(named, disassembly, address))).rstrip()
+        text = "    %08x  %-34s %s" % (address, name_of(named, address), instruction(named, disassembly, address))
+        yield (text.rstrip() + named.at_line(address)).rstrip()
 
 
 def of_harts(named, disassembly, length, report, lines):
@@ -91,7 +93,8 @@ def of_stop(named, disassembly, stop, trail):
     elif stop[0] in ("break", "load"):
         at = int(stop[1], 16)
         what = "its own EBREAK" if stop[0] == "break" else "a load from %s, which is outside memory" % stop[2]
-        yield "The program ended in %s (%08x): %s, by %s." % (name_of(named, at), at, what, instruction(named, disassembly, at))
+        where = "%s (%08x)%s" % (name_of(named, at), at, named.at_line(at))
+        yield "The program ended in %s: %s, by %s." % (where, what, instruction(named, disassembly, at))
     elif stop[0] == "exit":
         yield "The program ended itself with status %s%s." % (stop[1], ", in " + name_of(named, last) if last else "")
     else:
@@ -113,15 +116,18 @@ def of_handler(named, disassembly, handler, trail):
     if place and named.map.is_end(place):
         yield "The run ended in %s: the program ran over the end of a section, behind %s." % (handler, name_of(named, site))
         return
-    yield "The run ended in %s: what failed is %s (%08x), by %s: %s." % (
-        handler, name_of(named, site), site, instruction(named, disassembly, site), cause_of(named, handler, place))
+    where = "%s (%08x)%s" % (name_of(named, site), site, named.at_line(site))
+    yield "The run ended in %s: what failed is %s, by %s: %s." % (
+        handler, where, instruction(named, disassembly, site), cause_of(named, handler, place))
     found = named.graph.site(site)
     if place and named.read.word_at(place) == ECALL and named.graph.numbers is not None:
         yield "It is a system call, whose number may be %s." % (" or ".join(map(str, named.graph.numbers)))
+        yield refused_number(numbers.number_after(named.read, [named.map.place(address) for address in trail[:-2]], place))
     if found:
         yield "It is a computed %s of %s, which may go to: %s." % (
             found.kind, named.graph.name(found.label), named.names(named.graph.classes.get(found.label, [])))
-    yield "The report tells no more: not the address that was refused, nor the calls that are pending."
+    if handler != "__cfi_deep" and named.read.word_at(place or (0, 0)) != ECALL:
+        yield "Which address it was `tools/profile.py` tells, which runs the image."
 
 
 def of_rejected(named, disassembly, words):
@@ -135,5 +141,15 @@ def of_rejected(named, disassembly, words):
 
 def of_untame(named, disassembly, words):
     place = int(words[2]), int(words[3])
-    yield "%s leaves what is compared at %s: %s." % (named.read.own_run, named.read.name(place), UNTAME.get(words[1], words[1]))
+    where, why = named.read.name(place) + named.read.at_line(place), UNTAME.get(words[1], words[1])
+    yield "%s leaves what is compared at %s: %s." % (named.read.own_run, where, why)
     yield "The instruction: " + disassembly.text(place, named.read.word_at(place))
+    if words[1] == "call":
+        yield refused_number(numbers.number_after(named.read, [], place))
+
+
+def refused_number(number):
+    """The number of a system call that a list refused, or how it is found."""
+    if number is not None:
+        return "The number that was refused is %d." % number
+    return "Which number was refused is not told here: `tools/profile.py` runs the image and tells what a7 was at the end."

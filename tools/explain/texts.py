@@ -111,15 +111,23 @@ def place_words(text):
     return (name, int(digits, 16)) if right and (digits == "0" or digits[0] != "0") else None
 
 
+def code_length(content, path):
+    """How many bytes of code an image has."""
+    if len(content) < 232 or content[:4] != b"\x7fELF":
+        raise Wrong("%s is no image" % path)
+    return struct.unpack_from("<Q", content, 152)[0]
+
+
 def image_code(path):
     """The code of an image, as words."""
     with open(path, "rb") as file:
         content = file.read()
-    if len(content) < 232 or content[:4] != b"\x7fELF":
-        raise Wrong("%s is no image" % path)
-    length, = struct.unpack_from("<Q", content, 152)
-    code = content[0x1000:0x1000 + length]
+    code = content[0x1000:0x1000 + code_length(content, path)]
     return struct.unpack("<%dI" % (len(code) // 4), code[:len(code) // 4 * 4])
+
+
+def first_line(answer):
+    return answer.split(b"\n", 1)[0].decode("utf-8", "surrogateescape")
 
 
 def report_of(text):
