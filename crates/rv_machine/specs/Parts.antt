@@ -28,6 +28,20 @@ shared_in parts = shared_of parts.memory parts.calls
 abbrev pub after_step : Parts → Turn → After
 after_step parts turn = record { hart = hart_in parts; shared = shared_in parts; turn = turn }
 
+-- the hart, if it stood at an address, which takes the place of its pc
+abbrev pub hart_at : Parts → ℕ → Hart
+hart_at parts pc = hart_of pc parts.regs
+
+-- such a machine after a step that ended so, with its hart at an address
+abbrev pub after_at : Parts → ℕ → Turn → After
+after_at parts pc turn = record { hart = hart_at parts pc; shared = shared_in parts; turn = turn }
+
+-- the run goes on, and an instruction stands at an address
+pub record IsFetched (s : Shared) (pc : ℕ) (instr : Instr) : Type 0 where
+  pub going : last_exit s.events ≡ None
+  pub place : can_fetch pc ≡ true
+  pub decodes : decoded (read 4 s.memory pc) ≡ Some instr
+
 -- the instructions that may take memory: a store into data or shadow, and a system call
 abbrev pub may_take_memory : Profile → Instr → Hart → Bool
 may_take_memory p (Store op rs1 rs2 imm) h = can_store p (address h rs1 imm) (store_size op)
