@@ -54,7 +54,7 @@ starts_first (Some place) pc later = refl
 none_after : (made last : List (ℕ × (ℕ × ℕ))) → made ++ last ≡ made ++ (last ++ [])
 none_after made last = ap (λ m. made ++ m) (sym (append-nil last))
 
-ran_of : (turn : Turn) → is_stop turn ≡ false → turn ≡ Ran
+pub ran_of : (turn : Turn) → is_stop turn ≡ false → turn ≡ Ran
 ran_of Ran e = refl
 ran_of (Exit status) e = absurd (cc)
 ran_of (Break pc) e = absurd (cc)

@@ -133,7 +133,7 @@ module _ (p : Profile) (image : Contents) (plan : Plan) (k : ℕ) (before after 
 pub record IsUnderWay (p : Profile) (image : Contents) (count : ℕ) (harts0 : Harts) (s0 : Shared) (limit : ℕ) (plan : Plan) (k : ℕ) (running : Running) : Type 0 where
   pub bound : k ≤ limit
   pub ready : IsReady plan k running
-  pub count : length running.machine.resting ≡ count
+  pub counted : length running.machine.resting ≡ count
   pub profile : profile_of running.machine.processor.memory.version ≡ p
   pub stays : (newest : ℕ → ℕ) × StaysFrom p image count newest (harts_in running.machine) (harts_share running.machine)
   pub continues : Continues p image count harts0 s0 (planned p plan count 0 harts0 s0 limit) k (harts_in running.machine) (harts_share running.machine)
@@ -154,7 +154,7 @@ module _ (p : Profile) (image : Contents) (count : ℕ) (harts0 : Harts) (s0 : S
   way_next k before after turn way less took goes ready counted version = record {
     bound = omega arith;
     ready = ready;
-    count = counted ∙ way.count;
+    counted = counted ∙ way.counted;
     profile = ap profile_of version ∙ way.profile;
     stays = stays_next p image count (harts_in before.machine) (harts_share before.machine) (step_at plan k count before) way.stays.0 way.stays.1 took.allowed _ took.stepped goes;
     continues = next p image count harts0 s0 whole plan k (limit - (k + 1)) before after turn limit (omega arith) goes way.continues took;
@@ -167,7 +167,7 @@ module _ (p : Profile) (image : Contents) (count : ℕ) (harts0 : Harts) (s0 : S
   pub way_stopped : (k : ℕ) (before after : Running) (turn : Turn) (end : RunEnd) → UnderWay k before → k < limit → TookOne k before after turn → is_stop turn ≡ true → IsReady plan (k + 1) after
       → length after.machine.resting ≡ length before.machine.resting → end_of turn ≡ Some end → IsOver p image count harts0 s0 whole end (k + 1) after
   way_stopped k before after turn end way less took stop ready counted is_end =
-      let all = counted ∙ way.count in
+      let all = counted ∙ way.counted in
       stopped p image count harts0 s0 whole plan k (limit - (k + 1)) before after turn limit (omega arith) end stop way.continues took (ready.each ∙ all) (subst (λ (n : ℕ). after.taken.hart < n) all ready.last) is_end
 
   -- along quiet steps
@@ -188,7 +188,7 @@ module _ (p : Profile) (image : Contents) (count : ℕ) (harts0 : Harts) (s0 : S
       let less : k + n < last.still = omega (arith, still_along n before last front) in
       let one : k + n + 1 ≡ k + suc n = omega arith in
       subst (λ (j : ℕ). UnderWay j mid) one
-      (way_next (k + n) last mid Ran here (omega arith) (quiet_took p image plan (k + n) last mid Ran here.ready less quiet count here.profile here.count) refl
+      (way_next (k + n) last mid Ran here (omega arith) (quiet_took p image plan (k + n) last mid Ran here.ready less quiet count here.profile here.counted) refl
       (quiet_ready p image plan (k + n) last mid Ran here.ready less quiet) (ap (λ (r : List HartParts). length r) quiet.resting) quiet.version)
 
   -- ---- what a stretch comes to
@@ -206,7 +206,7 @@ module _ (p : Profile) (image : Contents) (count : ℕ) (harts0 : Harts) (s0 : S
   stretch_end from before after turn steps way (stops n mid stop is still most along quiet) stopped =
       let here = way_along n from before mid along way (λ some. omega arith) (λ some. omega arith) in
       let less : from + n < mid.still = omega (arith, still_along n before mid along) in
-      way_end (from + n) mid after turn here (quiet_took p image plan (from + n) mid after turn here.ready less quiet count here.profile here.count)
+      way_end (from + n) mid after turn here (quiet_took p image plan (from + n) mid after turn here.ready less quiet count here.profile here.counted)
 
   pub stretch_stopped : (from : ℕ) (before after : Running) (turn : Turn) (steps : ℕ) (end : RunEnd) → UnderWay from before → Stretch from before after turn steps → is_stop turn ≡ true → end_of turn ≡ Some end
       → IsOver p image count harts0 s0 whole end steps after
@@ -215,5 +215,5 @@ module _ (p : Profile) (image : Contents) (count : ℕ) (harts0 : Harts) (s0 : S
       let here = way_along n from before mid along way (λ some. omega arith) (λ some. omega arith) in
       let less : from + n < mid.still = omega (arith, still_along n before mid along) in
       subst (λ (j : ℕ). IsOver p image count harts0 s0 whole end j after) (sym is)
-      (way_stopped (from + n) mid after turn end here (omega arith) (quiet_took p image plan (from + n) mid after turn here.ready less quiet count here.profile here.count) stop
+      (way_stopped (from + n) mid after turn end here (omega arith) (quiet_took p image plan (from + n) mid after turn here.ready less quiet count here.profile here.counted) stop
       (quiet_ready p image plan (from + n) mid after turn here.ready less quiet) (ap (λ (r : List HartParts). length r) quiet.resting) is_end)

@@ -28,7 +28,7 @@ loop-steps-init g c =
       way = record {
         bound = omega arith;
         ready = ready;
-        count = refl;
+        counted = refl;
         profile = begun.profile;
         stays = begun.stays;
         continues = subst (λ (n : ℕ). Continues (image_profile image) image count (harts_in now.machine) (harts_share now.machine) whole 0 (harts_in now.machine) (harts_share now.machine)
@@ -45,7 +45,7 @@ end_of-requires g c =
     let plan = g.M.Meddler.plan c.args.meddler.now in
     let old = c.loop-steps.invariant in
     let took = took_so (profile_of now.machine.processor.memory.version) (image_profile image) image (length now.machine.resting) count (g.M.Meddler.plan c.loop-steps.meddler) plan
-    c.loop-steps.steps now c.turn.new.self c.in_ok-turn.turn old.way.profile old.way.count (ap g.M.Meddler.plan old.meddler)
+    c.loop-steps.steps now c.turn.new.self c.in_ok-turn.turn old.way.profile old.way.counted (ap g.M.Meddler.plan old.meddler)
     (record {
       stepped = c.in_ok-turn.ensures.stepped;
       allowed = c.in_ok-turn.ensures.allowed;
@@ -64,7 +64,7 @@ returns-then-is_stop-clause-over g c =
     let plan = g.M.Meddler.plan c.args.meddler.now in
     let old = c.loop-steps.invariant in
     let took = took_so (profile_of now.machine.processor.memory.version) (image_profile image) image (length now.machine.resting) count (g.M.Meddler.plan c.loop-steps.meddler) plan
-    c.loop-steps.steps now c.turn.new.self c.in_ok-turn.turn old.way.profile old.way.count (ap g.M.Meddler.plan old.meddler)
+    c.loop-steps.steps now c.turn.new.self c.in_ok-turn.turn old.way.profile old.way.counted (ap g.M.Meddler.plan old.meddler)
     (record {
       stepped = c.in_ok-turn.ensures.stepped;
       allowed = c.in_ok-turn.ensures.allowed;
@@ -85,8 +85,8 @@ stretch-requires-clause-last g c = omega (arith, c.in_ok-turn.ensures.ready.last
 pub stretch-requires-clause-room : goal.stretch-requires-clause-room
 stretch-requires-clause-room g c = own_walked (g.M.Meddler.plan c.loop-steps.meddler) (c.loop-steps.steps + 1) c.turn.new.self c.in_ok-turn.ensures.ready
 
-pub end_of-requires-2 : goal.end_of-requires-2
-end_of-requires-2 g c =
+pub end_of-requires-then-is_stop-2 : goal.end_of-requires-then-is_stop-2
+end_of-requires-then-is_stop-2 g c =
     let image = c.args.checked.now.image in
     let now = c.loop-steps.running in
     let first = c.args.running.now.machine in
@@ -94,7 +94,7 @@ end_of-requires-2 g c =
     let plan = g.M.Meddler.plan c.args.meddler.now in
     let old = c.loop-steps.invariant in
     let took = took_so (profile_of now.machine.processor.memory.version) (image_profile image) image (length now.machine.resting) count (g.M.Meddler.plan c.loop-steps.meddler) plan
-    c.loop-steps.steps now c.turn.new.self c.in_ok-turn.turn old.way.profile old.way.count (ap g.M.Meddler.plan old.meddler)
+    c.loop-steps.steps now c.turn.new.self c.in_ok-turn.turn old.way.profile old.way.counted (ap g.M.Meddler.plan old.meddler)
     (record {
       stepped = c.in_ok-turn.ensures.stepped;
       allowed = c.in_ok-turn.ensures.allowed;
@@ -107,7 +107,7 @@ end_of-requires-2 g c =
     (sym c.is_stop.ensures ∙ c.if-is_stop.false) ready c.in_ok-turn.ensures.count c.in_ok-turn.ensures.version in
     let stretch = c.in_ok-last.ensures (image_profile image) (code_words image.code) c.requires.starts in
     stretch_end (image_profile image) image count (harts_in first) (harts_share first) c.args.limit plan (c.loop-steps.steps + 1) c.turn.new.self c.stretch.new.self c.in_ok-last.last c.in_ok-last.taken way stretch
-    (sym c.is_stop-2.ensures ∙ c.if-is_stop-2.true)
+    (sym c.is_stop-in-loop-steps.ensures ∙ c.if-is_stop-2.true)
 
 pub returns-then-is_stop-2-clause-over : goal.returns-then-is_stop-2-clause-over
 returns-then-is_stop-2-clause-over g c =
@@ -118,7 +118,7 @@ returns-then-is_stop-2-clause-over g c =
     let plan = g.M.Meddler.plan c.args.meddler.now in
     let old = c.loop-steps.invariant in
     let took = took_so (profile_of now.machine.processor.memory.version) (image_profile image) image (length now.machine.resting) count (g.M.Meddler.plan c.loop-steps.meddler) plan
-    c.loop-steps.steps now c.turn.new.self c.in_ok-turn.turn old.way.profile old.way.count (ap g.M.Meddler.plan old.meddler)
+    c.loop-steps.steps now c.turn.new.self c.in_ok-turn.turn old.way.profile old.way.counted (ap g.M.Meddler.plan old.meddler)
     (record {
       stepped = c.in_ok-turn.ensures.stepped;
       allowed = c.in_ok-turn.ensures.allowed;
@@ -130,8 +130,8 @@ returns-then-is_stop-2-clause-over g c =
     let way = way_next (image_profile image) image count (harts_in first) (harts_share first) c.args.limit plan c.loop-steps.steps now c.turn.new.self c.in_ok-turn.turn old.way c.loop-steps-test.true took
     (sym c.is_stop.ensures ∙ c.if-is_stop.false) ready c.in_ok-turn.ensures.count c.in_ok-turn.ensures.version in
     let stretch = c.in_ok-last.ensures (image_profile image) (code_words image.code) c.requires.starts in
-    stretch_stopped (image_profile image) image count (harts_in first) (harts_share first) c.args.limit plan (c.loop-steps.steps + 1) c.turn.new.self c.stretch.new.self c.in_ok-last.last c.in_ok-last.taken c.end_of-2.result way stretch
-    (sym c.is_stop-2.ensures ∙ c.if-is_stop-2.true) c.end_of-2.ensures
+    stretch_stopped (image_profile image) image count (harts_in first) (harts_share first) c.args.limit plan (c.loop-steps.steps + 1) c.turn.new.self c.stretch.new.self c.in_ok-last.last c.in_ok-last.taken c.end_of-then-is_stop-2.result way stretch
+    (sym c.is_stop-in-loop-steps.ensures ∙ c.if-is_stop-2.true) c.end_of-then-is_stop-2.ensures
 
 pub loop-steps-preserved : goal.loop-steps-preserved
 loop-steps-preserved g c =
@@ -142,7 +142,7 @@ loop-steps-preserved g c =
     let plan = g.M.Meddler.plan c.args.meddler.now in
     let old = c.loop-steps.invariant in
     let took = took_so (profile_of now.machine.processor.memory.version) (image_profile image) image (length now.machine.resting) count (g.M.Meddler.plan c.loop-steps.meddler) plan
-    c.loop-steps.steps now c.turn.new.self c.in_ok-turn.turn old.way.profile old.way.count (ap g.M.Meddler.plan old.meddler)
+    c.loop-steps.steps now c.turn.new.self c.in_ok-turn.turn old.way.profile old.way.counted (ap g.M.Meddler.plan old.meddler)
     (record {
       stepped = c.in_ok-turn.ensures.stepped;
       allowed = c.in_ok-turn.ensures.allowed;
@@ -155,7 +155,7 @@ loop-steps-preserved g c =
     (sym c.is_stop.ensures ∙ c.if-is_stop.false) ready c.in_ok-turn.ensures.count c.in_ok-turn.ensures.version in
     let stretch = c.in_ok-last.ensures (image_profile image) (code_words image.code) c.requires.starts in
     let on = stretch_way (image_profile image) image count (harts_in first) (harts_share first) c.args.limit plan (c.loop-steps.steps + 1) c.turn.new.self c.stretch.new.self c.in_ok-last.last c.in_ok-last.taken way stretch
-    (sym c.is_stop-2.ensures ∙ c.if-is_stop-2.false) in
+    (sym c.is_stop-in-loop-steps.ensures ∙ c.if-is_stop-2.false) in
     let same = c.turn.ensures.kept ∙ old.meddler in
     record {
       ready = subst (λ (x : Plan). IsReady x c.in_ok-last.taken c.stretch.new.self) (sym (ap g.M.Meddler.plan same)) on.ready;
@@ -168,7 +168,7 @@ returns-clause-over g c =
     let image = c.args.checked.now.image in
     let way = c.loop-steps.invariant.way in
     all_taken (image_profile image) image (length c.args.running.now.machine.resting) _ _ _ (g.M.Meddler.plan c.args.meddler.now) c.loop-steps.steps c.args.limit c.loop-steps.running
-    (omega (arith, c.loop-steps-test.false)) way.continues (way.ready.each ∙ way.count) (subst (λ (n : ℕ). c.loop-steps.running.taken.hart < n) way.count way.ready.last)
+    (omega (arith, c.loop-steps-test.false)) way.continues (way.ready.each ∙ way.counted) (subst (λ (n : ℕ). c.loop-steps.running.taken.hart < n) way.counted way.ready.last)
 
 pub loop-steps-smaller : goal.loop-steps-smaller
 loop-steps-smaller g c =

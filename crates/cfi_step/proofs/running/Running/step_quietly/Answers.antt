@@ -6,11 +6,11 @@ use Rattle.cfi_step.proofs.running.Running.step_quietly.Goals as goal
 
 pub step_at-requires : goal.step_at-requires
 step_at-requires c =
-    subst (λ (m : MachineParts). IsFetched (harts_share m) c.args.pc.now c.in-Some.field-0.1) (sym c.note_start.ensures.machine) c.in-Some.ensures.fetched
+    subst (λ (m : MachineParts). IsFetched (harts_share m) c.args.pc.now c.in-Some.instr) (sym c.note_start.ensures.machine) c.in-Some.ensures.fetched
 
 pub returns-clause-tried : goal.returns-clause-tried
 returns-clause-tried c = λ p words are.
     let noted = c.note_start.ensures in
     quiet_so p words c.args.self.now c.note_start.new.self c.step_at.new.self c.args.pc.now c.step_at.new.pc _ c.requires.current noted.machine noted.made noted.taken noted.resting noted.still noted.quiet
-    (noted.trails p words (start_at p words _ _ c.args.pc.now _ c.in-Some.ensures.word (sym c.get.ensures) are))
+    (noted.trails p words (start_at p words _ _ c.args.pc.now _ c.in-Some.ensures.word c.in-Some-get.ensures are))
     c.in_ok-step_at.ensures.stepped c.step_at.ensures.current c.step_at.ensures.resting c.step_at.ensures.version

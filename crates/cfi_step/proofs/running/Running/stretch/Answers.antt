@@ -51,11 +51,11 @@ returns-then-is_stop c =
     let tried = rw c.in-Some.is at c.in_ok-step_quietly.ensures.tried in
     λ p words are.
     stops_at p words c.args.from c.args.limit c.lesser-until.result c.loop-steps.steps c.args.self.now c.loop-steps.self c.loop-steps.pc old.low c.lesser-until.ensures (old.quiet p words are)
-    c.step_quietly.new.self c.step_quietly.new.pc c.go_to.new.self c.in-Some.turn c.go_to.ensures c.loop-steps-test.true (sym c.is_stop.ensures ∙ c.if-is_stop.true) (tried p words are)
+    c.step_quietly.new.self c.step_quietly.new.pc c.go_to-then-is_stop.new.self c.in-Some.turn c.go_to-then-is_stop.ensures c.loop-steps-test.true (sym c.is_stop.ensures ∙ c.if-is_stop.true) (tried p words are)
 
 pub returns : goal.returns
 returns c =
     let old = c.loop-steps.invariant in
     λ p words are.
     goes_on_at p words c.args.from c.args.limit c.lesser-until.result c.loop-steps.steps c.args.self.now c.loop-steps.self c.loop-steps.pc old.low c.lesser-until.ensures (old.quiet p words are)
-    c.go_to.new.self c.go_to.ensures old.high
+    c.go_to-2.new.self c.go_to-2.ensures old.high
