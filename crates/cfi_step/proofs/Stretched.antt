@@ -1,5 +1,5 @@
 -- A stretch of steps of one hart, and the run that it is part of.
-use Rattle.std.proofs.Common.{◌≡◌, ◌≤◌, ◌<◌, ◌+◌, ◌*◌, ◌-◌, ◌++◌, ◌∷◌, [], ℕ, zero, suc, Bool, true, false, List, length, min, Some, refl, sym, ◌∙◌, ap, subst, arith, append-nil}
+use Rattle.std.proofs.Common.{◌≡◌, ◌≤◌, ◌<◌, ◌+◌, ◌*◌, ◌-◌, ◌++◌, ◌∷◌, [], ℕ, zero, suc, Bool, true, false, List, length, min, Option, Some, None, refl, sym, ◌∙◌, ap, subst, arith, append-nil}
 use Rattle.std.specs.Prelude.{is_some, slice_get}
 use Rattle.std.proofs.lemmas.List.{get_or-set_same, length-set}
 use Rattle.std.proofs.lemmas.Option.{slice_get-get_or}
@@ -8,19 +8,22 @@ use Rattle.rv_word.specs.MemoryMap.{CODE_START, Profile, profile_of}
 use Rattle.rv_code.specs.Run.{IsStepOf, stepped}
 use Rattle.rv_code.specs.State.{Harts, Shared}
 use Rattle.rv_code.specs.declared.turn.Turn.{Turn}
-use Rattle.rv_code.specs.declared.turn.Turn.TheVariants.{Ran}
+use Rattle.rv_code.specs.declared.turn.Turn.TheVariants.{Ran, Exit, Break, LoadFault, StoreFault, FetchFault, Illegal}
 use Rattle.rv_machine.specs.Harts.{HartParts, MachineParts, at_pc, harts_in, harts_share, run_after}
+use Rattle.rv_machine.specs.Parts.{IsNoFetch}
+use Rattle.cfi_unit.specs.declared.place.Place.{Place}
+use Rattle.cfi_rules.specs.Along.{MayEnd}
 use Rattle.cfi_rules.specs.Split.{code_words, place_at}
 use Rattle.cfi_script.specs.Plan.{Plan, Planned, planned, step_of}
 use Rattle.cfi_step.specs.Report.{end_of}
 use Rattle.cfi_step.specs.Running.{is_stop, AreNoted, IsOver, IsReady, StaysFrom, trails_of}
 use Rattle.cfi_step.specs.Starts.{AreStartsOf}
-use Rattle.cfi_step.specs.Stretch.{at, AreQuiet, IsQuiet, IsStretch, goes_on, stops}
+use Rattle.cfi_step.specs.Stretch.{at, AreQuiet, IsQuiet, IsStaying, IsStretch, MayFetch, goes_on, stops}
 use Rattle.cfi_step.specs.Taken.{AreTurnsOf}
 use Rattle.cfi_step.specs.declared.report.RunEnd.{RunEnd}
 use Rattle.cfi_step.specs.declared.running.Running.{Running}
 use Rattle.cfi_step.specs.declared.turns.TakenTurns.{TakenTurns}
-use Rattle.cfi_step.proofs.Continues.{Continues, Took, all_taken, has_end, next, stays_next, step_at, stopped, took_so}
+use Rattle.cfi_step.proofs.Continues.{Continues, Took, has_end, may_end, next, stays_next, step_at, stopped, took_so}
 use Rattle.cfi_step.proofs.Noting.{selected_pc}
 use Rattle.cfi_step.proofs.Preparing as preparing
 use Rattle.cfi_step.proofs.Preparing.{ready_next}
@@ -51,6 +54,47 @@ quiet_so p words before noted m pc next turn selected machine made taken rest st
   resting = resting ∙ ap (λ (n : MachineParts). n.resting) machine;
   version = version ∙ ap (λ (n : MachineParts). n.processor.memory.version) machine;
 }
+
+-- a run that has not ended
+pub none_of : (ended : Option ℕ) → is_some ended ≡ false → ended ≡ None
+none_of None fact = refl
+none_of (Some status) fact = absurd (cc)
+
+-- no end that may come is want of an instruction
+no_end : (place : Place) (pc : ℕ) (turn : Turn) → MayEnd place pc turn → IsNoFetch turn → ⊥
+no_end place pc Ran may none = none
+no_end place pc (Exit status) may none = none
+no_end place pc (Break a) may none = none
+no_end place pc (LoadFault a b) may none = none
+no_end place pc (StoreFault a b) may none = none
+no_end place pc (FetchFault a) may none = may
+no_end place pc (Illegal a) may none = may
+
+-- where a run stays in its place there is an instruction, and it stays so after a step
+module _ (before : Running) (staying : IsStaying before) where
+  abbrev now : Profile
+  now = profile_of before.machine.processor.memory.version
+
+  one_step : (hart : ℕ) → hart < length before.machine.resting → IsStepOf (length before.machine.resting) (step_of (hart, []))
+  one_step hart below = record { hart = below; changes = tt }
+
+  pub may_fetch : before.machine.current < length before.machine.resting → MayFetch before
+  may_fetch below none =
+      let (place, may) = may_end now staying.image (length before.machine.resting) (harts_in before.machine) (harts_share before.machine) (before.machine.current, []) staying.newest staying.stays
+      (one_step before.machine.current below) in
+      no_end place _ _ may none
+
+  pub stays_on : (p : Profile) (words : List ℕ) (after : Running) → before.taken.hart < length before.machine.resting → IsQuiet p words before after Ran → IsStaying after
+  stays_on p words after below quiet =
+      let (newest, stays) = stays_next now staying.image (length before.machine.resting) (harts_in before.machine) (harts_share before.machine) (before.taken.hart, []) staying.newest staying.stays
+      (one_step before.taken.hart below) (run_after after.machine Ran) quiet.stepped refl in
+      record {
+        image = staying.image;
+        newest = newest;
+        stays =
+            subst (λ (q : Profile). StaysFrom q staying.image (length after.machine.resting) newest (harts_in after.machine) (harts_share after.machine)) (sym (ap profile_of quiet.version))
+            (subst (λ (n : ℕ). StaysFrom now staying.image n newest (harts_in after.machine) (harts_share after.machine)) (sym (ap (λ (r : List HartParts). length r) quiet.resting)) stays);
+      }
 
 -- before the first of the steps
 pub none_quiet : (p : Profile) (words : List ℕ) (running : Running) (pc : ℕ) → pc ≡ running.machine.processor.pc → AreQuiet p words running 0 (at running pc)
@@ -169,6 +213,16 @@ module _ (p : Profile) (image : Contents) (count : ℕ) (harts0 : Harts) (s0 : S
   way_stopped k before after turn end way less took stop ready counted is_end =
       let all = counted ∙ way.counted in
       stopped p image count harts0 s0 whole plan k (limit - (k + 1)) before after turn limit (omega arith) end stop way.continues took (ready.each ∙ all) (subst (λ (n : ℕ). after.taken.hart < n) all ready.last) is_end
+
+  -- what a stretch asks of it
+  pub way_stays : (k : ℕ) (running : Running) → UnderWay k running → IsStaying running
+  way_stays k running way = record {
+    image = image;
+    newest = way.stays.0;
+    stays =
+        subst (λ (q : Profile). StaysFrom q image (length running.machine.resting) way.stays.0 (harts_in running.machine) (harts_share running.machine)) (sym way.profile)
+        (subst (λ (n : ℕ). StaysFrom p image n way.stays.0 (harts_in running.machine) (harts_share running.machine)) (sym way.counted) way.stays.1);
+  }
 
   -- along quiet steps
   still_along : (n : ℕ) (before mid : Running) → AreQuiet p (code_words image.code) before n mid → mid.still ≡ before.still

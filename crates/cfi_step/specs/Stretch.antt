@@ -1,11 +1,13 @@
 -- Steps that the hart that took the last one takes while the meddler is not asked. Only private contracts cite this.
-use Rattle.std.specs.Prelude.{◌≡◌, ◌≤◌, ◌<◌, ◌+◌, ℕ, zero, suc, Bool, true, false, List, [], Option, Some, None}
+use Rattle.std.specs.Prelude.{◌≡◌, ◌≤◌, ◌<◌, ◌+◌, ℕ, zero, suc, Bool, true, false, List, [], length, Option, Some, None}
+use Rattle.rv_word.specs.Image.{Contents}
 use Rattle.rv_word.specs.MemoryMap.{Profile, profile_of}
 use Rattle.rv_code.specs.Run.{stepped}
 use Rattle.rv_code.specs.declared.turn.Turn.{Turn}
 use Rattle.rv_code.specs.declared.turn.Turn.TheVariants.{Ran}
 use Rattle.rv_machine.specs.Harts.{at_pc, harts_in, harts_share, run_after}
-use Rattle.cfi_step.specs.Running.{is_stop, AreNoted, trails_of}
+use Rattle.rv_machine.specs.Parts.{IsNoFetch}
+use Rattle.cfi_step.specs.Running.{is_stop, AreNoted, StaysFrom, trails_of}
 use Rattle.cfi_step.specs.Starts.{AreStartsOf}
 use Rattle.cfi_step.specs.declared.running.Running.{Running}
 
@@ -26,6 +28,17 @@ pub record IsQuiet (p : Profile) (words : List ℕ) (before after : Running) (tu
   pub current : after.machine.current ≡ before.machine.current
   pub resting : after.machine.resting ≡ before.machine.resting
   pub version : after.machine.processor.memory.version ≡ before.machine.processor.memory.version
+
+-- a step of the hart in the processor does not end for want of an instruction
+abbrev pub MayFetch : Running → Type 0
+MayFetch running =
+    IsNoFetch (stepped (profile_of running.machine.processor.memory.version) (harts_in running.machine) (harts_share running.machine) (record { hart = running.machine.current; changes = [] })).turn → ⊥
+
+-- each begun instruction of each hart is in its place from here on
+pub record IsStaying (running : Running) : Type 0 where
+  pub image : Contents
+  pub newest : ℕ → ℕ
+  pub stays : StaysFrom (profile_of running.machine.processor.memory.version) image (length running.machine.resting) newest (harts_in running.machine) (harts_share running.machine)
 
 -- so many such steps, after each of which the run goes on
 unfoldable pub AreQuiet : Profile → List ℕ → Running → ℕ → Running → Type 0

@@ -13,7 +13,7 @@ ghost use Rattle.cfi_script.specs.Turns.{turns_of};
 ghost use Rattle.cfi_step.specs.Report.{stopping_hart};
 ghost use Rattle.cfi_step.specs.Running.{AreNoted, IsPrepared, IsReady, changes_in_plan, hart_in_plan, is_stop, step_in_plan, trails_of};
 ghost use Rattle.cfi_step.specs.Starts.{AreStartsOf};
-ghost use Rattle.cfi_step.specs.Stretch.{IsStretch, IsTried};
+ghost use Rattle.cfi_step.specs.Stretch.{at, IsStaying, IsStretch, IsTried, MayFetch};
 ghost use Rattle.cfi_step.specs.Taken.{AreTurnsOf};
 ghost use Rattle.cfi_step.specs.Trail.{IsTrailOf, told_of};
 
@@ -267,9 +267,10 @@ impl Running {
     }
 
     /// Tries a step of the selected hart at an address, without asking the meddler: how it ended, or none where the
-    /// hart stands at no instruction.
+    /// run has ended or the code has no such word. That no instruction stands there is excluded, so it is not asked.
     #[inline(always)]
     fn step_quietly(&mut self, starts: &Starts, pc: &mut u64) -> Result<Option<Turn>, NoMemory>
+        requires fetch { MayFetch (at self.old pc.old) }
         requires current { self.old.machine.current ≡ self.old.taken.hart }
         requires last { self.old.taken.hart < length self.old.resting.items }
         requires room { self.old.trail.count + 1 < 2 ^ 64 }
@@ -279,14 +280,19 @@ impl Running {
         ensures resting { IfOk result (λ _. self.new.resting ≡ self.old.resting) }
         ensures count { IfOk result (λ _. self.new.trail.count ≤ self.old.trail.count + 1) }
     {
-        let Some((word, instr)) = self.machine.fetch_at(*pc) else {
+        if self.machine.is_over() {
             return Ok(None);
-        };
-        let Some(is_start) = starts.get(word) else {
-            return Ok(None);
-        };
-        self.note_start(*pc, is_start);
-        Ok(Some(self.machine.step_at(pc, &instr)?))
+        }
+        match self.machine.fetch_at(*pc) {
+            None => unreachable!(),
+            Some((word, instr)) => {
+                let Some(is_start) = starts.get(word) else {
+                    return Ok(None);
+                };
+                self.note_start(*pc, is_start);
+                Ok(Some(self.machine.step_at(pc, &instr)?))
+            }
+        }
     }
 
     /// Lets the hart that took the last step go on, at most until so many steps are taken, as long as the meddler need
@@ -300,8 +306,11 @@ impl Running {
         limit: u64,
     ) -> Result<(Turn, u64), NoMemory>
         requires current { self.old.machine.current ≡ self.old.taken.hart }
+        requires below { self.old.taken.hart < length self.old.machine.resting }
         requires last { self.old.taken.hart < length self.old.resting.items }
         requires room { self.old.trail.count ≤ from }
+        requires stays { IsStaying self.old }
+        requires known { (p : Profile) × (words : List ℕ) × AreStartsOf p words starts.now }
         ensures { IfOk result (λ end. (p : Profile) (words : List ℕ) → AreStartsOf p words starts.now → IsStretch p words from limit self.old self.new end.0 end.1) }
     {
         if self.still <= from {

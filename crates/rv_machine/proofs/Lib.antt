@@ -1,3 +1,4 @@
 mod Decoding
 mod Exits
 mod Harts
+mod NoFetch

@@ -10,6 +10,7 @@ use Rattle.rv_code.specs.Decode.{decoded}
 use Rattle.rv_code.specs.State.{Hart, Shared, After, last_exit}
 use Rattle.rv_code.specs.Step.{address, can_fetch}
 use Rattle.rv_code.specs.declared.turn.Turn.{Turn}
+use Rattle.rv_code.specs.declared.turn.Turn.TheVariants.{FetchFault, Illegal}
 use Rattle.rv_sys.specs.Calls.{Calls, hart_of, shared_of}
 
 pub record Parts : Type 0 where
@@ -36,11 +37,16 @@ hart_at parts pc = hart_of pc parts.regs
 abbrev pub after_at : Parts → ℕ → Turn → After
 after_at parts pc turn = record { hart = hart_at parts pc; shared = shared_in parts; turn = turn }
 
--- the run goes on, and an instruction stands at an address
+-- an instruction stands at an address
 pub record IsFetched (s : Shared) (pc : ℕ) (instr : Instr) : Type 0 where
-  pub going : last_exit s.events ≡ None
   pub place : can_fetch pc ≡ true
   pub decodes : decoded (read 4 s.memory pc) ≡ Some instr
+
+-- a step ended so where no instruction stood
+abbrev pub IsNoFetch : Turn → Type 0
+IsNoFetch (FetchFault pc) = Unit {0}
+IsNoFetch (Illegal pc) = Unit {0}
+IsNoFetch other = ⊥
 
 -- the instructions that may take memory: a store into data or shadow, and a system call
 abbrev pub may_take_memory : Profile → Instr → Hart → Bool

@@ -1,4 +1,4 @@
-ghost use Rattle.std.specs.Prelude.{◌≡◌, ◌+◌, ◌*◌, ◌/◌, ◌<◌, ◌≤◌, ◌^◌, ◌↔◌, [], ◌∷◌, length, true, false, ℕ, IfOk, IfSome, IsSome, IsErr, IsErrAnd, IsErrOf, OnOk, OnErr, IsTrue};
+ghost use Rattle.std.specs.Prelude.{◌≡◌, ◌+◌, ◌*◌, ◌/◌, ◌<◌, ◌≤◌, ◌^◌, ◌↔◌, [], ◌∷◌, is_some, length, true, false, ℕ, None, IfOk, IfSome, IsSome, IsErr, IsErrAnd, IsErrOf, OnOk, OnErr, IsTrue};
 ghost use Rattle.rv_word.specs.End.{IsFault};
 ghost use Rattle.rv_word.specs.MemoryMap.{can_load, can_store, profile_of, CODE_START, DATA_START, DATA_END};
 ghost use Rattle.rv_word.specs.Memory.{placed, read, write, zeros};
@@ -11,7 +11,7 @@ ghost use Rattle.rv_code.specs.Step.{address, can_fetch, exec, offset, puts, ran
 ghost use Rattle.rv_mem.specs.Cells.{HasRoom, has_room, memory_of};
 ghost use Rattle.rv_machine.specs.Code.{IsCodeOf};
 ghost use Rattle.rv_machine.specs.Room.{KeepsVersionAndRoom, LacksRoom, LacksRoomAtPc};
-ghost use Rattle.rv_machine.specs.Parts.{after_at, after_step, hart_at, hart_in, may_take_memory, shared_in, IsFetched, MayTakeMemory};
+ghost use Rattle.rv_machine.specs.Parts.{after_at, after_step, hart_at, hart_in, may_take_memory, shared_in, IsFetched, IsNoFetch, MayTakeMemory};
 
 use crate::arithmetic;
 use crate::code::Code;
@@ -211,27 +211,34 @@ impl Processor {
         }
     }
 
-    /// The number of the word of code at an address and the instruction that it is, where the run goes on and there is
-    /// one.
+    /// Whether the run has ended.
+    #[inline(always)]
+    pub(crate) fn is_over(&self) -> bool
+        ensures { result ≡ is_some (last_exit (shared_in self.now).events) }
+    {
+        self.ended().is_some()
+    }
+
+    /// The number of the word of code at an address and the instruction that it is, if there is one.
     #[inline(always)]
     pub(crate) fn fetch_at(&self, pc: u64) -> Option<(usize, Instr)>
         ensures word { IfSome result (λ found. pc ≡ CODE_START + 4 * found.0) }
         ensures fetched { IfSome result (λ found. IsFetched (shared_in self.now) pc found.1) }
+        ensures none { result ≡ None → last_exit (shared_in self.now).events ≡ None
+            → IsNoFetch (step (profile_of self.now.memory.version) (hart_at self.now pc) (shared_in self.now)).turn }
     {
-        if self.ended().is_some() {
-            return None;
-        }
         match self.fetch(pc) {
             Some(instr) => Some(((pc.wrapping_sub(CODE_START) / 4) as usize, instr)),
             None => None,
         }
     }
 
-    /// The step with an instruction that stands at an address, which takes the place of the pc.
+    /// The step with an instruction that stands at an address, which takes the place of the pc, in a run that goes on.
     #[tactic(auto, unfolding(rv_code::specs::Step::step))]
     #[inline(always)]
     pub(crate) fn step_at(&mut self, pc: &mut u64, instr: &Instr) -> Result<Turn, NoMemory>
-        requires { IsFetched (shared_in self.old) pc.old instr.now }
+        requires going { last_exit (shared_in self.old).events ≡ None }
+        requires fetched { IsFetched (shared_in self.old) pc.old instr.now }
         ensures stepped { IfOk result (λ turn. after_at self.new pc.new turn ≡ step (profile_of self.old.memory.version) (hart_at self.old pc.old) (shared_in self.old)) }
         ensures version { self.new.memory.version ≡ self.old.memory.version }
     {

@@ -7,7 +7,7 @@ use Rattle.cfi_script.specs.Plan.{Plan, planned}
 use Rattle.cfi_step.specs.Running.{IsReady, trails_of}
 use Rattle.cfi_step.proofs.Preparing.{begun_ready, empty_so}
 use Rattle.cfi_step.proofs.Continues.{Continues, all_taken, at_start, took_so}
-use Rattle.cfi_step.proofs.Stretched.{own_walked, stretch_end, stretch_low, stretch_stopped, stretch_way, way_end, way_next, way_stopped}
+use Rattle.cfi_step.proofs.Stretched.{own_walked, stretch_end, stretch_low, stretch_stopped, stretch_way, way_end, way_next, way_stays, way_stopped}
 use Rattle.cfi_step.proofs.runs.finish.Goals as goal
 
 pub loop-steps-init : goal.loop-steps-init
@@ -176,3 +176,31 @@ loop-steps-smaller g c =
     let low = stretch_low (image_profile image) (code_words image.code) (c.loop-steps.steps + 1) c.args.limit c.turn.new.self c.stretch.new.self c.in_ok-last.last c.in_ok-last.taken
     (c.in_ok-last.ensures (image_profile image) (code_words image.code) c.requires.starts) in
     omega (arith, low, c.loop-steps-test.true)
+
+pub stretch-requires-clause-below : goal.stretch-requires-clause-below
+stretch-requires-clause-below g c = c.in_ok-turn.ensures.ready.last
+
+pub stretch-requires-clause-known : goal.stretch-requires-clause-known
+stretch-requires-clause-known g c = (image_profile c.args.checked.now.image, code_words c.args.checked.now.image.code, c.requires.starts)
+
+pub stretch-requires-clause-stays : goal.stretch-requires-clause-stays
+stretch-requires-clause-stays g c =
+    let image = c.args.checked.now.image in
+    let now = c.loop-steps.running in
+    let first = c.args.running.now.machine in
+    let count = length first.resting in
+    let plan = g.M.Meddler.plan c.args.meddler.now in
+    let old = c.loop-steps.invariant in
+    let took = took_so (profile_of now.machine.processor.memory.version) (image_profile image) image (length now.machine.resting) count (g.M.Meddler.plan c.loop-steps.meddler) plan
+    c.loop-steps.steps now c.turn.new.self c.in_ok-turn.turn old.way.profile old.way.counted (ap g.M.Meddler.plan old.meddler)
+    (record {
+      stepped = c.in_ok-turn.ensures.stepped;
+      allowed = c.in_ok-turn.ensures.allowed;
+      made = c.in_ok-turn.ensures.made;
+      taken = c.in_ok-turn.ensures.taken;
+      noted = c.in_ok-turn.ensures.noted;
+    }) in
+    let ready = subst (λ (x : Plan). IsReady x (c.loop-steps.steps + 1) c.turn.new.self) (ap g.M.Meddler.plan old.meddler) c.in_ok-turn.ensures.ready in
+    let way = way_next (image_profile image) image count (harts_in first) (harts_share first) c.args.limit plan c.loop-steps.steps now c.turn.new.self c.in_ok-turn.turn old.way c.loop-steps-test.true took
+    (sym c.is_stop.ensures ∙ c.if-is_stop.false) ready c.in_ok-turn.ensures.count c.in_ok-turn.ensures.version in
+    way_stays (image_profile image) image count (harts_in first) (harts_share first) c.args.limit plan (c.loop-steps.steps + 1) c.turn.new.self way

@@ -1,7 +1,7 @@
 use Rattle.std.proofs.Common.{◌≡◌, ◌≤◌, ◌<◌, ◌-◌, ℕ, List, length}
 use Rattle.rv_word.specs.MemoryMap.{Profile}
 use Rattle.cfi_step.specs.Starts.{AreStartsOf}
-use Rattle.cfi_step.specs.Stretch.{AreQuiet, at}
+use Rattle.cfi_step.specs.Stretch.{AreQuiet, IsStaying, at}
 use Rattle.cfi_step.proofs.running.Running.stretch.Given as goal
 
 abbrev pub invariant-loop-steps : goal.invariant-loop-steps
@@ -9,8 +9,10 @@ invariant-loop-steps l = record {
   low : l.from ≤ l.steps;
   high : l.from < l.steps → l.steps ≤ l.until;
   current : l.self.machine.current ≡ l.self.taken.hart;
+  below : l.self.taken.hart < length l.self.machine.resting;
   last : l.self.taken.hart < length l.self.resting.items;
   room : l.self.trail.count ≤ l.steps;
+  stays : IsStaying (at l.self l.pc);
   quiet : (p : Profile) (words : List ℕ) → AreStartsOf p words l.starts → AreQuiet p words l.initial.self (l.steps - l.from) (at l.self l.pc);
 }
 
