@@ -1,11 +1,11 @@
 //! A run between two of its steps.
 
-ghost use Rattle.std.specs.Prelude.{◌≡◌, ◌≤◌, ◌<◌, ◌+◌, ◌^◌, ◌++◌, ◌∷◌, [], ℕ, List, is_some, length, map, min, slice_set, IfOk, OnOk};
+ghost use Rattle.std.specs.Prelude.{◌≡◌, ◌≤◌, ◌<◌, ◌+◌, ◌^◌, ◌++◌, ◌∷◌, [], ℕ, List, None, Some, is_some, length, map, min, slice_set, IfOk, OnOk};
 ghost use Rattle.std.specs.List.{All, AllByRecursion};
 ghost use Rattle.rv_word.specs.Image.{image_profile};
 ghost use Rattle.rv_word.specs.MemoryMap.{Profile, profile_of};
 ghost use Rattle.rv_code.specs.Run.{IsDataChange, IsStepOf, disturbed, stepped};
-ghost use Rattle.rv_code.specs.State.{start_hart, start_shared};
+ghost use Rattle.rv_code.specs.State.{last_exit, start_hart, start_shared};
 ghost use Rattle.rv_machine.specs.Harts.{harts_in, harts_share, run_after};
 ghost use Rattle.cfi_rules.specs.Split.{code_words, place_at};
 ghost use Rattle.cfi_script.specs.Plan.{IsQuietPlan, change_of, changes_of, step_of};
@@ -266,23 +266,23 @@ impl Running {
         self.note_start(pc, checked.is_place(pc));
     }
 
-    /// Tries a step of the selected hart at an address, without asking the meddler: how it ended, or none where the
-    /// run has ended or the code has no such word. That no instruction stands there is excluded, so it is not asked.
+    /// Tries a step of the selected hart at an address, without asking the meddler: how it ended, or none where it
+    /// is not known whether something starts there. That the run has ended, and that no instruction stands there, is
+    /// excluded, so it is not asked.
     #[inline(always)]
     fn step_quietly(&mut self, starts: &Starts, pc: &mut u64) -> Result<Option<Turn>, NoMemory>
+        requires going { last_exit (harts_share self.old.machine).events ≡ None }
         requires fetch { MayFetch (at self.old pc.old) }
         requires current { self.old.machine.current ≡ self.old.taken.hart }
         requires last { self.old.taken.hart < length self.old.resting.items }
         requires room { self.old.trail.count + 1 < 2 ^ 64 }
+        ensures going { IfOk result (λ tried. tried ≡ Some Turn.Ran → last_exit (harts_share self.new.machine).events ≡ None) }
         ensures tried { IfOk result (IsTried starts.now self.old pc.old self.new pc.new) }
         ensures current { IfOk result (λ _. self.new.machine.current ≡ self.old.machine.current) }
         ensures taken { IfOk result (λ _. self.new.taken ≡ self.old.taken) }
         ensures resting { IfOk result (λ _. self.new.resting ≡ self.old.resting) }
         ensures count { IfOk result (λ _. self.new.trail.count ≤ self.old.trail.count + 1) }
     {
-        if self.machine.is_over() {
-            return Ok(None);
-        }
         match self.machine.fetch_at(*pc) {
             None => unreachable!(),
             Some((word, instr)) => {
@@ -314,6 +314,9 @@ impl Running {
         ensures { IfOk result (λ end. (p : Profile) (words : List ℕ) → AreStartsOf p words starts.now → IsStretch p words from limit self.old self.new end.0 end.1) }
     {
         if self.still <= from {
+            return Ok((Turn::Ran, from));
+        }
+        if self.machine.is_over() {
             return Ok((Turn::Ran, from));
         }
         let until = lesser(self.still, limit);

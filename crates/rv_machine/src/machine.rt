@@ -195,6 +195,7 @@ impl Machine {
         requires going { last_exit (harts_share self.old).events ≡ None }
         requires fetched { IsFetched (harts_share self.old) pc.old instr.now }
         ensures stepped { IfOk result (λ turn. run_after (at_pc self.new pc.new) turn ≡ stepped (profile_of self.old.processor.memory.version) (harts_in (at_pc self.old pc.old)) (harts_share self.old) (record { hart = self.old.current; changes = [] })) }
+        ensures going { IfOk result (λ turn. turn ≡ Turn.Ran → last_exit (harts_share self.new).events ≡ None) }
         ensures current { self.new.current ≡ self.old.current }
         ensures resting { self.new.resting ≡ self.old.resting }
         ensures version { self.new.processor.memory.version ≡ self.old.processor.memory.version }

@@ -240,6 +240,7 @@ impl Processor {
         requires going { last_exit (shared_in self.old).events ≡ None }
         requires fetched { IsFetched (shared_in self.old) pc.old instr.now }
         ensures stepped { IfOk result (λ turn. after_at self.new pc.new turn ≡ step (profile_of self.old.memory.version) (hart_at self.old pc.old) (shared_in self.old)) }
+        ensures going { IfOk result (λ turn. turn ≡ Turn.Ran → last_exit (shared_in self.new).events ≡ None) }
         ensures version { self.new.memory.version ≡ self.old.memory.version }
     {
         self.execute_at(pc, instr)

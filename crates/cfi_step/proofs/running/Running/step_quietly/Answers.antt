@@ -1,17 +1,17 @@
-use Rattle.std.proofs.Common.{◌∙◌, refl, sym, subst}
+use Rattle.std.proofs.Common.{refl, sym, subst}
 use Rattle.rv_machine.specs.Harts.{MachineParts, harts_share}
 use Rattle.rv_machine.specs.Parts.{IsFetched}
 use Rattle.rv_code.specs.State.{last_exit}
 use Rattle.std.proofs.Common.{◌≡◌, None}
-use Rattle.cfi_step.proofs.Stretched.{none_of, quiet_so, start_at}
+use Rattle.cfi_step.proofs.Stretched.{quiet_so, start_at}
 use Rattle.cfi_step.proofs.running.Running.step_quietly.Goals as goal
 
 pub unreachable-requires : goal.unreachable-requires
-unreachable-requires c = c.requires.fetch (c.in-None.ensures.none refl (none_of _ (sym c.is_over.ensures ∙ c.if-is_over.false)))
+unreachable-requires c = c.requires.fetch (c.in-None.ensures.none refl c.requires.going)
 
 pub step_at-requires-clause-going : goal.step_at-requires-clause-going
 step_at-requires-clause-going c =
-    subst (λ (m : MachineParts). last_exit (harts_share m).events ≡ None) (sym c.note_start.ensures.machine) (none_of _ (sym c.is_over.ensures ∙ c.if-is_over.false))
+    subst (λ (m : MachineParts). last_exit (harts_share m).events ≡ None) (sym c.note_start.ensures.machine) c.requires.going
 
 pub step_at-requires-clause-fetched : goal.step_at-requires-clause-fetched
 step_at-requires-clause-fetched c =

@@ -1,8 +1,8 @@
-use Rattle.std.proofs.Common.{◌≡◌, ◌<◌, ◌-◌, ◌+◌, ℕ, suc, length, refl, sym, ap, ◌∙◌, subst, arith}
+use Rattle.std.proofs.Common.{◌≡◌, ◌<◌, ◌-◌, ◌+◌, ℕ, suc, length, Some, refl, sym, ap, ◌∙◌, subst, arith}
 use Rattle.rv_code.specs.declared.turn.Turn.TheVariants.{Ran}
 use Rattle.cfi_step.specs.Stretch.{AreQuiet, IsStaying, at}
 use Rattle.cfi_step.proofs.Continues.{ran_of}
-use Rattle.cfi_step.proofs.Stretched.{goes_on_at, goes_on_so, may_fetch, more_quiet, no_stretch, none_quiet, stays_on, stops_at}
+use Rattle.cfi_step.proofs.Stretched.{goes_on_at, goes_on_so, may_fetch, more_quiet, no_stretch, none_of, none_quiet, stays_on, stops_at}
 use Rattle.cfi_step.proofs.running.Running.stretch.Goals as goal
 
 pub loop-steps-init : goal.loop-steps-init
@@ -13,6 +13,7 @@ loop-steps-init c = record {
   below = c.requires.below;
   last = c.requires.last;
   room = c.requires.room;
+  going = none_of _ (sym c.is_over.ensures ∙ c.if-is_over.false);
   stays = subst (λ (pc : ℕ). IsStaying (at c.args.self.now pc)) (sym c.pc_of_selected-pc.ensures) c.requires.stays;
   quiet = λ p words are.
       let none : 0 ≡ c.args.from - c.args.from = omega arith in
@@ -32,6 +33,7 @@ loop-steps-preserved c =
       high = λ more. omega (arith, less);
       current = c.in_ok-step_quietly.ensures.current ∙ old.current ∙ sym (ap (λ t. t.hart) c.in_ok-step_quietly.ensures.taken);
       below = rw (c.in_ok-step_quietly.ensures.taken, quiet.resting) old.below;
+      going = c.in_ok-step_quietly.ensures.going (c.in-Some.is ∙ ap Some ran);
       stays = stays_on (at c.loop-steps.self c.loop-steps.pc) old.stays p words (at c.step_quietly.new.self c.step_quietly.new.pc) old.below quiet;
       last = rw (c.in_ok-step_quietly.ensures.taken, c.in_ok-step_quietly.ensures.resting) old.last;
       room = omega (arith, old.room, c.in_ok-step_quietly.ensures.count);
@@ -47,6 +49,9 @@ step_quietly-requires-clause-fetch c =
 
 pub returns-then-self-from : goal.returns-then-self-from
 returns-then-self-from c = λ p words are. no_stretch p words c.args.from c.args.limit c.args.self.now
+
+pub returns-then-is_over : goal.returns-then-is_over
+returns-then-is_over c = λ p words are. no_stretch p words c.args.from c.args.limit c.args.self.now
 
 pub returns-in-None : goal.returns-in-None
 returns-in-None c =

@@ -1,5 +1,7 @@
-use Rattle.std.proofs.Common.{◌≡◌, ◌≤◌, ◌<◌, ◌-◌, ℕ, List, length}
+use Rattle.std.proofs.Common.{◌≡◌, ◌≤◌, ◌<◌, ◌-◌, ℕ, List, None, length}
 use Rattle.rv_word.specs.MemoryMap.{Profile}
+use Rattle.rv_code.specs.State.{last_exit}
+use Rattle.rv_machine.specs.Harts.{harts_share}
 use Rattle.cfi_step.specs.Starts.{AreStartsOf}
 use Rattle.cfi_step.specs.Stretch.{AreQuiet, IsStaying, at}
 use Rattle.cfi_step.proofs.running.Running.stretch.Given as goal
@@ -12,6 +14,7 @@ invariant-loop-steps l = record {
   below : l.self.taken.hart < length l.self.machine.resting;
   last : l.self.taken.hart < length l.self.resting.items;
   room : l.self.trail.count ≤ l.steps;
+  going : last_exit (harts_share l.self.machine).events ≡ None;
   stays : IsStaying (at l.self l.pc);
   quiet : (p : Profile) (words : List ℕ) → AreStartsOf p words l.starts → AreQuiet p words l.initial.self (l.steps - l.from) (at l.self l.pc);
 }
