@@ -283,16 +283,14 @@ impl Running {
         ensures resting { IfOk result (λ _. self.new.resting ≡ self.old.resting) }
         ensures count { IfOk result (λ _. self.new.trail.count ≤ self.old.trail.count + 1) }
     {
-        match self.machine.fetch_at(*pc) {
-            None => unreachable!(),
-            Some((word, instr)) => {
-                let Some(is_start) = starts.get(word) else {
-                    return Ok(None);
-                };
-                self.note_start(*pc, is_start);
-                Ok(Some(self.machine.step_at(pc, &instr)?))
-            }
-        }
+        let Some((word, instr)) = self.machine.fetch_at(*pc) else {
+            unreachable!();
+        };
+        let Some(is_start) = starts.get(word) else {
+            return Ok(None);
+        };
+        self.note_start(*pc, is_start);
+        Ok(Some(self.machine.step_at(pc, &instr)?))
     }
 
     /// Lets the hart that took the last step go on, at most until so many steps are taken, as long as the meddler need
