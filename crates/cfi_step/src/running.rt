@@ -314,6 +314,20 @@ impl Running {
         if self.still <= from {
             return Ok((Turn::Ran, from));
         }
+        self.go_on(starts, from, limit)
+    }
+
+    /// The same, apart from the loop that asks the meddler at each step.
+    #[inline(never)]
+    fn go_on(&mut self, starts: &Starts, from: u64, limit: u64) -> Result<(Turn, u64), NoMemory>
+        requires current { self.old.machine.current ≡ self.old.taken.hart }
+        requires below { self.old.taken.hart < length self.old.machine.resting }
+        requires last { self.old.taken.hart < length self.old.resting.items }
+        requires room { self.old.trail.count ≤ from }
+        requires stays { IsStaying self.old }
+        requires known { (p : Profile) × (words : List ℕ) × AreStartsOf p words starts.now }
+        ensures { IfOk result (λ end. (p : Profile) (words : List ℕ) → AreStartsOf p words starts.now → IsStretch p words from limit self.old self.new end.0 end.1) }
+    {
         if self.machine.is_over() {
             return Ok((Turn::Ran, from));
         }

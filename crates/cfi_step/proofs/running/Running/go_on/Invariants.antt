@@ -4,7 +4,7 @@ use Rattle.rv_code.specs.State.{last_exit}
 use Rattle.rv_machine.specs.Harts.{harts_share}
 use Rattle.cfi_step.specs.Starts.{AreStartsOf}
 use Rattle.cfi_step.specs.Stretch.{AreQuiet, IsStaying, at}
-use Rattle.cfi_step.proofs.running.Running.stretch.Given as goal
+use Rattle.cfi_step.proofs.running.Running.go_on.Given as goal
 
 abbrev pub invariant-loop-steps : goal.invariant-loop-steps
 invariant-loop-steps l = record {
