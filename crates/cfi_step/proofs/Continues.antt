@@ -54,7 +54,7 @@ starts_first (Some place) pc later = refl
 none_after : (made last : List (ℕ × (ℕ × ℕ))) → made ++ last ≡ made ++ (last ++ [])
 none_after made last = ap (λ m. made ++ m) (sym (append-nil last))
 
-ran_of : (turn : Turn) → is_stop turn ≡ false → turn ≡ Ran
+pub ran_of : (turn : Turn) → is_stop turn ≡ false → turn ≡ Ran
 ran_of Ran e = refl
 ran_of (Exit status) e = absurd (cc)
 ran_of (Break pc) e = absurd (cc)
@@ -126,7 +126,7 @@ module _ (p : Profile) (image : Contents) (count : ℕ) (harts : Harts) (s : Sha
       subst (λ (turn : Turn). AllByRecursion (IsInPlace p words) (if_ran turn (trail_of p words k (newer k) then.harts then.shared steps))) ran
       (rest_in (IsInPlace p words) (t.0 == k) (begin_of k) (if_ran then.turn (trail_of p words k (newer k) then.harts then.shared steps)) (begun steps all k))
 
-  may_end : (place : Place) × MayEnd place pc then.turn
+  pub may_end : (place : Place) × MayEnd place pc then.turn
   may_end =
       let own = subst (λ (b : Bool). AllByRecursion (IsInPlace p words) (if_own_begin b (begin_of t.0) (if_ran then.turn (trail_of p words t.0 (newer t.0) then.harts then.shared [])))) (eq-eqb t.0 t.0 refl) (begun [] tt t.0) in
       let (place, there, word, ends) = own.0 in

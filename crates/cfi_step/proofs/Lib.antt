@@ -5,7 +5,9 @@ mod Noting
 mod Preparing
 mod Replay
 mod Reported
+mod Started
 mod Stepping
+mod Stretched
 mod Turned
 mod TurnsTaken
 mod Zeros

@@ -15,6 +15,7 @@ mod record;
 mod report;
 mod running;
 mod runs;
+mod starts;
 mod trail;
 mod turns;
 mod walks;

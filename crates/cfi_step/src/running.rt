@@ -1,22 +1,25 @@
 //! A run between two of its steps.
 
-ghost use Rattle.std.specs.Prelude.{◌≡◌, ◌≤◌, ◌<◌, ◌+◌, ◌^◌, ◌++◌, ◌∷◌, [], ℕ, List, length, map, min, slice_set, IfOk, OnOk};
+ghost use Rattle.std.specs.Prelude.{◌≡◌, ◌≤◌, ◌<◌, ◌+◌, ◌^◌, ◌++◌, ◌∷◌, [], ℕ, List, None, Some, is_some, length, map, min, slice_set, IfOk, OnOk};
 ghost use Rattle.std.specs.List.{All, AllByRecursion};
 ghost use Rattle.rv_word.specs.Image.{image_profile};
-ghost use Rattle.rv_word.specs.MemoryMap.{profile_of};
+ghost use Rattle.rv_word.specs.MemoryMap.{Profile, profile_of};
 ghost use Rattle.rv_code.specs.Run.{IsDataChange, IsStepOf, disturbed, stepped};
-ghost use Rattle.rv_code.specs.State.{start_hart, start_shared};
+ghost use Rattle.rv_code.specs.State.{last_exit, start_hart, start_shared};
 ghost use Rattle.rv_machine.specs.Harts.{harts_in, harts_share, run_after};
-ghost use Rattle.cfi_rules.specs.Split.{code_words};
+ghost use Rattle.cfi_rules.specs.Split.{code_words, place_at};
 ghost use Rattle.cfi_script.specs.Plan.{IsQuietPlan, change_of, changes_of, step_of};
 ghost use Rattle.cfi_script.specs.Turns.{turns_of};
 ghost use Rattle.cfi_step.specs.Report.{stopping_hart};
-ghost use Rattle.cfi_step.specs.Running.{AreNoted, IsPrepared, IsReady, changes_in_plan, hart_in_plan, step_in_plan, trails_of};
+ghost use Rattle.cfi_step.specs.Running.{AreNoted, IsPrepared, IsReady, changes_in_plan, hart_in_plan, is_stop, step_in_plan, trails_of};
+ghost use Rattle.cfi_step.specs.Starts.{AreStartsOf};
+ghost use Rattle.cfi_step.specs.Stretch.{at, IsStaying, IsStretch, IsTried, MayFetch};
 ghost use Rattle.cfi_step.specs.Taken.{AreTurnsOf};
 ghost use Rattle.cfi_step.specs.Trail.{IsTrailOf, told_of};
 
 use crate::record::Record;
 use crate::report::{RunEnd, RunReport, stopping_hart};
+use crate::starts::Starts;
 use crate::trail::Trail;
 use crate::turns::TakenTurns;
 use crate::walks::HartWalks;
@@ -226,6 +229,25 @@ impl Running {
         self.choose(alloc, meddler, step)
     }
 
+    /// Notes an address to which the selected hart's walk goes on, where something starts there.
+    #[inline(always)]
+    fn note_start(&mut self, pc: u64, is_start: bool)
+        requires last { self.old.taken.hart < length self.old.resting.items }
+        requires room { self.old.trail.count + 1 < 2 ^ 64 }
+        ensures machine { self.new.machine ≡ self.old.machine }
+        ensures made { self.new.made ≡ self.old.made }
+        ensures taken { self.new.taken ≡ self.old.taken }
+        ensures quiet { self.new.quiet ≡ self.old.quiet }
+        ensures still { self.new.still ≡ self.old.still }
+        ensures resting { self.new.resting ≡ self.old.resting }
+        ensures count { self.new.trail.count ≤ self.old.trail.count + 1 }
+        ensures trails { (p : Profile) (words : List ℕ) → is_start ≡ is_some (place_at p words pc) → AreNoted p words self.old.taken.hart pc (trails_of self.old) (trails_of self.new) }
+    {
+        if is_start {
+            self.trail.note(pc);
+        }
+    }
+
     /// Notes the address of the selected hart's next step, where something starts there.
     fn note(&mut self, checked: &Checked<'_>)
         requires current { self.old.machine.current ≡ self.old.taken.hart }
@@ -241,9 +263,94 @@ impl Running {
             (harts_in self.old.machine self.old.taken.hart).pc (trails_of self.old) (trails_of self.new) }
     {
         let pc = self.machine.pc_of_selected();
-        if checked.is_place(pc) {
-            self.trail.note(pc);
+        self.note_start(pc, checked.is_place(pc));
+    }
+
+    /// Tries a step of the selected hart at an address, without asking the meddler: how it ended, or none where it
+    /// is not known whether something starts there. That the run has ended, and that no instruction stands there, is
+    /// excluded, so it is not asked.
+    #[inline(always)]
+    fn step_quietly(&mut self, starts: &Starts, pc: &mut u64) -> Result<Option<Turn>, NoMemory>
+        requires going { last_exit (harts_share self.old.machine).events ≡ None }
+        requires fetch { MayFetch (at self.old pc.old) }
+        requires current { self.old.machine.current ≡ self.old.taken.hart }
+        requires last { self.old.taken.hart < length self.old.resting.items }
+        requires room { self.old.trail.count + 1 < 2 ^ 64 }
+        ensures going { IfOk result (λ tried. tried ≡ Some Turn.Ran → last_exit (harts_share self.new.machine).events ≡ None) }
+        ensures tried { IfOk result (IsTried starts.now self.old pc.old self.new pc.new) }
+        ensures current { IfOk result (λ _. self.new.machine.current ≡ self.old.machine.current) }
+        ensures taken { IfOk result (λ _. self.new.taken ≡ self.old.taken) }
+        ensures resting { IfOk result (λ _. self.new.resting ≡ self.old.resting) }
+        ensures count { IfOk result (λ _. self.new.trail.count ≤ self.old.trail.count + 1) }
+    {
+        let Some((word, instr)) = self.machine.fetch_at(*pc) else {
+            unreachable!();
+        };
+        let Some(is_start) = starts.get(word) else {
+            return Ok(None);
+        };
+        self.note_start(*pc, is_start);
+        Ok(Some(self.machine.step_at(pc, &instr)?))
+    }
+
+    /// Lets the hart that took the last step go on, at most until so many steps are taken, as long as the meddler need
+    /// not be asked; the first of these steps has the number `from`. Tells how the last of them ended, and how many
+    /// steps are then taken.
+    #[inline(always)]
+    pub(crate) fn stretch(
+        &mut self,
+        starts: &Starts,
+        from: u64,
+        limit: u64,
+    ) -> Result<(Turn, u64), NoMemory>
+        requires current { self.old.machine.current ≡ self.old.taken.hart }
+        requires below { self.old.taken.hart < length self.old.machine.resting }
+        requires last { self.old.taken.hart < length self.old.resting.items }
+        requires room { self.old.trail.count ≤ from }
+        requires stays { IsStaying self.old }
+        requires known { (p : Profile) × (words : List ℕ) × AreStartsOf p words starts.now }
+        ensures { IfOk result (λ end. (p : Profile) (words : List ℕ) → AreStartsOf p words starts.now → IsStretch p words from limit self.old self.new end.0 end.1) }
+    {
+        if self.still <= from {
+            return Ok((Turn::Ran, from));
         }
+        self.go_on(starts, from, limit)
+    }
+
+    /// The same, apart from the loop that asks the meddler at each step.
+    #[inline(never)]
+    fn go_on(&mut self, starts: &Starts, from: u64, limit: u64) -> Result<(Turn, u64), NoMemory>
+        requires current { self.old.machine.current ≡ self.old.taken.hart }
+        requires below { self.old.taken.hart < length self.old.machine.resting }
+        requires last { self.old.taken.hart < length self.old.resting.items }
+        requires room { self.old.trail.count ≤ from }
+        requires stays { IsStaying self.old }
+        requires known { (p : Profile) × (words : List ℕ) × AreStartsOf p words starts.now }
+        ensures { IfOk result (λ end. (p : Profile) (words : List ℕ) → AreStartsOf p words starts.now → IsStretch p words from limit self.old self.new end.0 end.1) }
+    {
+        if self.machine.is_over() {
+            return Ok((Turn::Ran, from));
+        }
+        let until = lesser(self.still, limit);
+        let mut steps = from;
+        let mut pc = self.machine.pc_of_selected();
+        while steps < until {
+            match self.step_quietly(starts, &mut pc)? {
+                None => {
+                    self.machine.go_to(pc);
+                    return Ok((Turn::Ran, steps));
+                }
+                Some(turn) => {
+                    steps += 1;
+                    if is_stop(turn) {
+                        self.machine.go_to(pc);
+                        return Ok((turn, steps));
+                    }
+                }
+            }
+        }
+        self.machine.go_to(pc);
+        Ok((Turn::Ran, steps))
     }
 
     /// The step with a number, of the hart that a meddler chooses, with the changes that come before it.
@@ -328,4 +435,11 @@ fn lesser(a: u64, b: u64) -> u64
     ensures { result ≡ min a b }
 {
     if a < b { a } else { b }
+}
+
+/// Whether a step ended the run.
+pub(crate) fn is_stop(turn: Turn) -> bool
+    ensures { result ≡ is_stop turn }
+{
+    !matches!(turn, Turn::Ran)
 }

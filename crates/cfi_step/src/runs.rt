@@ -10,32 +10,28 @@ ghost use Rattle.cfi_rules.specs.Walks.{walk_of, IsGraphWalk};
 ghost use Rattle.cfi_script.specs.Plan.{planned, steps_of};
 ghost use Rattle.cfi_script.specs.Script.{IsScript, script_plan};
 ghost use Rattle.cfi_step.specs.Report.{IsReport};
-ghost use Rattle.cfi_step.specs.Running.{is_stop, IsBegun, IsOver};
+ghost use Rattle.cfi_step.specs.Running.{IsBegun, IsOver};
+ghost use Rattle.cfi_step.specs.Starts.{AreStartsOf};
 
 use crate::report::{RunEnd, RunReport, end_of};
-use crate::running::Running;
+use crate::running::{Running, is_stop};
+use crate::starts::Starts;
 use cfi_script::Meddler;
 use cfi_verify::Checked;
-use rv_machine::Turn;
 use rv_word::NoMemory;
 use std::alloc::Global;
-
-/// Whether a step ended the run.
-fn is_stop(turn: Turn) -> bool
-    ensures { result ≡ is_stop turn }
-{
-    !matches!(turn, Turn::Ran)
-}
 
 /// Takes steps until the run stops, at most `limit`; gives the end and the number of steps.
 fn finish<M: Meddler>(
     alloc: Global,
     checked: &Checked<'_>,
+    starts: &Starts,
     meddler: &mut M,
     limit: u64,
     running: &mut Running,
 ) -> Result<(RunEnd, u64), NoMemory>
-    requires { IsBegun (image_profile checked.now.image) checked.now.image running.old }
+    requires starts { AreStartsOf (image_profile checked.now.image) (code_words checked.now.image.code) starts.now }
+    requires begun { IsBegun (image_profile checked.now.image) checked.now.image running.old }
     ensures over { IfOk result (λ r. IsOver (image_profile checked.now.image) checked.now.image (length running.old.machine.resting)
         (harts_in running.old.machine) (harts_share running.old.machine)
         (planned (image_profile checked.now.image) (M.plan meddler.old) (length running.old.machine.resting) 0
@@ -48,6 +44,11 @@ fn finish<M: Meddler>(
         steps += 1;
         if is_stop(turn) {
             return Ok((end_of(turn), steps));
+        }
+        let (last, taken) = running.stretch(starts, steps, limit)?;
+        steps = taken;
+        if is_stop(last) {
+            return Ok((end_of(last), steps));
         }
     }
     Ok((RunEnd::Limit, steps))
@@ -85,7 +86,8 @@ pub fn run<M: Meddler>(
 {
     checked.is_safe();
     let mut running = Running::new(alloc, checked.image(), input, harts)?;
-    let (end, steps) = finish(alloc, checked, meddler, limit, &mut running)?;
+    let starts = Starts::of(alloc, checked)?;
+    let (end, steps) = finish(alloc, checked, &starts, meddler, limit, &mut running)?;
     let report = running.into_report(alloc, end, steps)?;
     Ok(report)
 }

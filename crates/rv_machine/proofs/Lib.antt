@@ -1,3 +1,5 @@
 mod Decoding
 mod Exits
+mod Going
 mod Harts
+mod NoFetch

@@ -40,6 +40,10 @@ harts_in m = with_hart (resting_at m.resting) m.current (hart_in m.processor)
 abbrev pub harts_share : MachineParts → Shared
 harts_share m = shared_in m.processor
 
+-- the machine, if the hart in the processor stood at an address, which takes the place of its pc
+abbrev pub at_pc : MachineParts → ℕ → MachineParts
+at_pc m pc = record m { processor = record m.processor { pc = pc } }
+
 -- a machine after a step that ended so
 abbrev pub run_after : MachineParts → Turn → RunAfter
 run_after m turn = record { harts = harts_in m; shared = harts_share m; turn = turn }

@@ -10,6 +10,7 @@ use Rattle.rv_code.specs.Decode.{decoded}
 use Rattle.rv_code.specs.State.{Hart, Shared, After, last_exit}
 use Rattle.rv_code.specs.Step.{address, can_fetch}
 use Rattle.rv_code.specs.declared.turn.Turn.{Turn}
+use Rattle.rv_code.specs.declared.turn.Turn.TheVariants.{FetchFault, Illegal}
 use Rattle.rv_sys.specs.Calls.{Calls, hart_of, shared_of}
 
 pub record Parts : Type 0 where
@@ -27,6 +28,25 @@ shared_in parts = shared_of parts.memory parts.calls
 -- a machine after a step that ended so
 abbrev pub after_step : Parts → Turn → After
 after_step parts turn = record { hart = hart_in parts; shared = shared_in parts; turn = turn }
+
+-- the hart, if it stood at an address, which takes the place of its pc
+abbrev pub hart_at : Parts → ℕ → Hart
+hart_at parts pc = hart_of pc parts.regs
+
+-- such a machine after a step that ended so, with its hart at an address
+abbrev pub after_at : Parts → ℕ → Turn → After
+after_at parts pc turn = record { hart = hart_at parts pc; shared = shared_in parts; turn = turn }
+
+-- an instruction stands at an address
+pub record IsFetched (s : Shared) (pc : ℕ) (instr : Instr) : Type 0 where
+  pub place : can_fetch pc ≡ true
+  pub decodes : decoded (read 4 s.memory pc) ≡ Some instr
+
+-- a step ended so where no instruction stood
+abbrev pub IsNoFetch : Turn → Type 0
+IsNoFetch (FetchFault pc) = Unit {0}
+IsNoFetch (Illegal pc) = Unit {0}
+IsNoFetch other = ⊥
 
 -- the instructions that may take memory: a store into data or shadow, and a system call
 abbrev pub may_take_memory : Profile → Instr → Hart → Bool

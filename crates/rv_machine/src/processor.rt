@@ -1,7 +1,9 @@
-ghost use Rattle.std.specs.Prelude.{◌≡◌, ◌+◌, ◌*◌, ◌/◌, ◌<◌, ◌≤◌, ◌^◌, [], ◌∷◌, length, true, IfOk, IsSome, OnOk, OnErr, IsTrue};
-ghost use Rattle.rv_word.specs.MemoryMap.{can_store, profile_of, DATA_START, DATA_END};
-ghost use Rattle.rv_word.specs.Memory.{placed, read, zeros};
+ghost use Rattle.std.specs.Prelude.{◌≡◌, ◌+◌, ◌*◌, ◌/◌, ◌<◌, ◌≤◌, ◌^◌, ◌↔◌, [], ◌∷◌, is_some, length, true, false, ℕ, None, IfOk, IfSome, IsSome, IsErr, IsErrAnd, IsErrOf, OnOk, OnErr, IsTrue};
+ghost use Rattle.rv_word.specs.End.{IsFault};
+ghost use Rattle.rv_word.specs.MemoryMap.{can_load, can_store, profile_of, CODE_START, DATA_START, DATA_END};
+ghost use Rattle.rv_word.specs.Memory.{placed, read, write, zeros};
 ghost use Rattle.rv_instr.specs.Registers.{get_reg, set_reg};
+ghost use Rattle.rv_code.specs.Arithmetic.{load_result, load_size, store_size};
 ghost use Rattle.rv_code.specs.Decode.{decoded};
 ghost use Rattle.rv_code.specs.Run.{disturbed};
 ghost use Rattle.rv_code.specs.State.{last_exit, start_hart, start_shared};
@@ -9,7 +11,7 @@ ghost use Rattle.rv_code.specs.Step.{address, can_fetch, exec, offset, puts, ran
 ghost use Rattle.rv_mem.specs.Cells.{HasRoom, has_room, memory_of};
 ghost use Rattle.rv_machine.specs.Code.{IsCodeOf};
 ghost use Rattle.rv_machine.specs.Room.{KeepsVersionAndRoom, LacksRoom, LacksRoomAtPc};
-ghost use Rattle.rv_machine.specs.Parts.{after_step, hart_in, may_take_memory, shared_in, MayTakeMemory};
+ghost use Rattle.rv_machine.specs.Parts.{after_at, after_step, hart_at, hart_in, may_take_memory, shared_in, IsFetched, IsNoFetch, MayTakeMemory};
 
 use crate::arithmetic;
 use crate::code::Code;
@@ -19,10 +21,10 @@ use rv_instr::{
     BranchOp, Immediate, ImmediateOp, Instr, LoadOp, Reg, RegisterOp, ShiftOp, ShiftWordOp,
     StoreOp, UpperOp,
 };
-use rv_mem::{Change, LoadFault, Memory};
+use rv_mem::{Change, LoadFault, Memory, StoreFault};
 use rv_sys::{SysEnd, System};
 use rv_word::memory_map::{CODE_SIZE, CODE_START};
-use rv_word::{Bytes, End, Image, ImageVersion, NoMemory};
+use rv_word::{Bytes, End, Image, ImageVersion, NoMemory, sext};
 use std::alloc::Global;
 use std::marker::Model;
 use std::mem;
@@ -209,6 +211,41 @@ impl Processor {
         }
     }
 
+    /// Whether the run has ended.
+    #[inline(always)]
+    pub(crate) fn is_over(&self) -> bool
+        ensures { result ≡ is_some (last_exit (shared_in self.now).events) }
+    {
+        self.ended().is_some()
+    }
+
+    /// The number of the word of code at an address and the instruction that it is, if there is one.
+    #[inline(always)]
+    pub(crate) fn fetch_at(&self, pc: u64) -> Option<(usize, Instr)>
+        ensures word { IfSome result (λ found. pc ≡ CODE_START + 4 * found.0) }
+        ensures fetched { IfSome result (λ found. IsFetched (shared_in self.now) pc found.1) }
+        ensures none { result ≡ None → last_exit (shared_in self.now).events ≡ None
+            → IsNoFetch (step (profile_of self.now.memory.version) (hart_at self.now pc) (shared_in self.now)).turn }
+    {
+        match self.fetch(pc) {
+            Some(instr) => Some(((pc.wrapping_sub(CODE_START) / 4) as usize, instr)),
+            None => None,
+        }
+    }
+
+    /// The step with an instruction that stands at an address, which takes the place of the pc, in a run that goes on.
+    #[tactic(auto, unfolding(rv_code::specs::Step::step))]
+    #[inline(always)]
+    pub(crate) fn step_at(&mut self, pc: &mut u64, instr: &Instr) -> Result<Turn, NoMemory>
+        requires going { last_exit (shared_in self.old).events ≡ None }
+        requires fetched { IsFetched (shared_in self.old) pc.old instr.now }
+        ensures stepped { IfOk result (λ turn. after_at self.new pc.new turn ≡ step (profile_of self.old.memory.version) (hart_at self.old pc.old) (shared_in self.old)) }
+        ensures going { IfOk result (λ turn. turn ≡ Turn.Ran → last_exit (shared_in self.new).events ≡ None) }
+        ensures version { self.new.memory.version ≡ self.old.memory.version }
+    {
+        self.execute_at(pc, instr)
+    }
+
     /// Makes the pages of memory of the `len` bytes from `addr` on: no store there wants memory from
     /// then on. Nothing else changes, and it takes time for the pages, not for the bytes.
     pub fn reserve_pages(&mut self, addr: u64, len: u64) -> Result<(), NoMemory>
@@ -247,47 +284,65 @@ impl Processor {
         ensures room { OnErr result (LacksRoom self.old.memory (hart_in self.old) instr.now) }
         ensures kept { KeepsVersionAndRoom self.old self.new }
     {
+        let mut pc = self.pc();
+        let turn = self.execute_at(&mut pc, instr)?;
+        self.set_pc(pc);
+        Ok(turn)
+    }
+
+    /// Executes an instruction as if the hart stood at an address, which takes the place of the pc: the pc that is kept
+    /// is neither read nor written.
+    #[inline(always)]
+    fn execute_at(&mut self, pc: &mut u64, instr: &Instr) -> Result<Turn, NoMemory>
+        requires { pc.old < 2 ^ 63 }
+        ensures executed { IfOk result (λ turn. after_at self.new pc.new turn ≡ exec (profile_of self.old.memory.version) (instr.now) (hart_at self.old pc.old) (shared_in self.old)) }
+        ensures hart { OnErr result (hart_in self.new ≡ hart_in self.old) }
+        ensures shared { OnErr result (shared_in self.new ≡ shared_in self.old) }
+        ensures wants { OnErr result (may_take_memory (profile_of self.old.memory.version) (instr.now) (hart_at self.old pc.old) ≡ true) }
+        ensures room { OnErr result (LacksRoom self.old.memory (hart_at self.old pc.old) (instr.now)) }
+        ensures kept { KeepsVersionAndRoom self.old self.new }
+    {
         Ok(match *instr {
-            Instr::Upper(op, rd, imm) => self.upper(op, rd, imm),
-            Instr::Jal(rd, imm) => self.jump(rd, imm),
-            Instr::Jalr(rd, rs1, imm) => self.jump_register(rd, rs1, imm),
-            Instr::Branch(op, rs1, rs2, imm) => self.branch(op, rs1, rs2, imm),
-            Instr::Load(op, rd, rs1, imm) => self.load(op, rd, rs1, imm),
-            Instr::Store(op, rs1, rs2, imm) => return self.store(op, rs1, rs2, imm),
-            Instr::Immediate(op, rd, rs1, imm) => self.immediate(op, rd, rs1, imm),
-            Instr::Shift(op, rd, rs1, amount) => self.shift(op, rd, rs1, amount),
-            Instr::ShiftWord(op, rd, rs1, amount) => self.shift_word(op, rd, rs1, amount),
-            Instr::Register(op, rd, rs1, rs2) => self.register(op, rd, rs1, rs2),
+            Instr::Upper(op, rd, imm) => self.upper(pc, op, rd, imm),
+            Instr::Jal(rd, imm) => self.jump(pc, rd, imm),
+            Instr::Jalr(rd, rs1, imm) => self.jump_register(pc, rd, rs1, imm),
+            Instr::Branch(op, rs1, rs2, imm) => self.branch(pc, op, rs1, rs2, imm),
+            Instr::Load(op, rd, rs1, imm) => self.load(pc, op, rd, rs1, imm),
+            Instr::Store(op, rs1, rs2, imm) => return self.store(pc, op, rs1, rs2, imm),
+            Instr::Immediate(op, rd, rs1, imm) => self.immediate(pc, op, rd, rs1, imm),
+            Instr::Shift(op, rd, rs1, amount) => self.shift(pc, op, rd, rs1, amount),
+            Instr::ShiftWord(op, rd, rs1, amount) => self.shift_word(pc, op, rd, rs1, amount),
+            Instr::Register(op, rd, rs1, rs2) => self.register(pc, op, rd, rs1, rs2),
             // Memory is one and in order, so a fence has nothing to do.
             Instr::Fence(_) => {
-                self.set_pc(self.pc() + 4);
+                *pc += 4;
                 Turn::Ran
             }
-            Instr::Ecall => return self.environment_call(),
-            Instr::Ebreak => Turn::Break(self.pc()),
+            Instr::Ecall => return self.environment_call(pc),
+            Instr::Ebreak => Turn::Break(*pc),
         })
     }
 
     /// Puts a value into a register; the next instruction is next.
     #[inline(always)]
-    fn put(&mut self, rd: Reg, value: u64)
-        requires { self.old.pc < 2 ^ 63 }
-        ensures executed { after_step self.new Turn.Ran ≡ puts (hart_in self.old) (shared_in self.old) rd value }
+    fn put(&mut self, pc: &mut u64, rd: Reg, value: u64)
+        requires { pc.old < 2 ^ 63 }
+        ensures executed { after_at self.new pc.new Turn.Ran ≡ puts (hart_at self.old pc.old) (shared_in self.old) rd value }
         ensures kept { KeepsVersionAndRoom self.old self.new }
     {
         self.hart.set_reg(rd, value);
-        self.hart.set_pc(self.hart.pc() + 4);
+        *pc += 4;
     }
 
     /// Goes to an address, and links to the next instruction.
     #[inline(always)]
-    fn link(&mut self, rd: Reg, target: u64)
-        requires { self.old.pc < 2 ^ 63 }
-        ensures executed { after_step self.new Turn.Ran ≡ ran target (set_reg (hart_in self.old).regs rd (self.old.pc + 4)) (shared_in self.old) }
+    fn link(&mut self, pc: &mut u64, rd: Reg, target: u64)
+        requires { pc.old < 2 ^ 63 }
+        ensures executed { after_at self.new pc.new Turn.Ran ≡ ran target (set_reg (hart_in self.old).regs rd (pc.old + 4)) (shared_in self.old) }
         ensures kept { KeepsVersionAndRoom self.old self.new }
     {
-        self.hart.set_reg(rd, self.hart.pc() + 4);
-        self.hart.set_pc(target);
+        self.hart.set_reg(rd, *pc + 4);
+        *pc = target;
     }
 
     /// The address in a register and an offset.
@@ -299,114 +354,133 @@ impl Processor {
     }
 
     #[inline(always)]
-    fn upper(&mut self, op: UpperOp, rd: Reg, imm: Immediate<20>) -> Turn
-        requires { self.old.pc < 2 ^ 63 }
-        ensures executed { after_step self.new result ≡ exec (profile_of self.old.memory.version) (Instr.Upper op rd imm) (hart_in self.old) (shared_in self.old) }
+    fn upper(&mut self, pc: &mut u64, op: UpperOp, rd: Reg, imm: Immediate<20>) -> Turn
+        requires { pc.old < 2 ^ 63 }
+        ensures executed { after_at self.new pc.new result ≡ exec (profile_of self.old.memory.version) (Instr.Upper op rd imm) (hart_at self.old pc.old) (shared_in self.old) }
         ensures kept { KeepsVersionAndRoom self.old self.new }
     {
         let offset = arithmetic::word(u64::from(imm.bits()) << 12);
-        let pc = self.pc();
+        let here = *pc;
         match op {
-            UpperOp::Lui => self.put(rd, offset),
-            UpperOp::Auipc => self.put(rd, pc.wrapping_add(offset)),
+            UpperOp::Lui => self.put(pc, rd, offset),
+            UpperOp::Auipc => self.put(pc, rd, here.wrapping_add(offset)),
         }
         Turn::Ran
     }
 
     #[inline(always)]
-    fn jump(&mut self, rd: Reg, imm: Immediate<20>) -> Turn
-        requires { self.old.pc < 2 ^ 63 }
-        ensures executed { after_step self.new result ≡ exec (profile_of self.old.memory.version) (Instr.Jal rd imm) (hart_in self.old) (shared_in self.old) }
+    fn jump(&mut self, pc: &mut u64, rd: Reg, imm: Immediate<20>) -> Turn
+        requires { pc.old < 2 ^ 63 }
+        ensures executed { after_at self.new pc.new result ≡ exec (profile_of self.old.memory.version) (Instr.Jal rd imm) (hart_at self.old pc.old) (shared_in self.old) }
         ensures kept { KeepsVersionAndRoom self.old self.new }
     {
         let offset = arithmetic::jump_offset(imm);
-        let target = self.pc().wrapping_add(offset);
-        self.link(rd, target);
+        let target = (*pc).wrapping_add(offset);
+        self.link(pc, rd, target);
         Turn::Ran
     }
 
     #[inline(always)]
-    fn jump_register(&mut self, rd: Reg, rs1: Reg, imm: Immediate<12>) -> Turn
-        requires { self.old.pc < 2 ^ 63 }
-        ensures executed { after_step self.new result ≡ exec (profile_of self.old.memory.version) (Instr.Jalr rd rs1 imm) (hart_in self.old) (shared_in self.old) }
+    fn jump_register(&mut self, pc: &mut u64, rd: Reg, rs1: Reg, imm: Immediate<12>) -> Turn
+        requires { pc.old < 2 ^ 63 }
+        ensures executed { after_at self.new pc.new result ≡ exec (profile_of self.old.memory.version) (Instr.Jalr rd rs1 imm) (hart_at self.old pc.old) (shared_in self.old) }
         ensures kept { KeepsVersionAndRoom self.old self.new }
     {
         let target = self.address_of(rs1, imm);
-        self.link(rd, target - target % 2);
+        self.link(pc, rd, target - target % 2);
         Turn::Ran
     }
 
     #[inline(always)]
-    fn branch(&mut self, op: BranchOp, rs1: Reg, rs2: Reg, imm: Immediate<12>) -> Turn
-        requires { self.old.pc < 2 ^ 63 }
-        ensures executed { after_step self.new result ≡ exec (profile_of self.old.memory.version) (Instr.Branch op rs1 rs2 imm) (hart_in self.old) (shared_in self.old) }
+    fn branch(&mut self, pc: &mut u64, op: BranchOp, rs1: Reg, rs2: Reg, imm: Immediate<12>) -> Turn
+        requires { pc.old < 2 ^ 63 }
+        ensures executed { after_at self.new pc.new result ≡ exec (profile_of self.old.memory.version) (Instr.Branch op rs1 rs2 imm) (hart_at self.old pc.old) (shared_in self.old) }
         ensures kept { KeepsVersionAndRoom self.old self.new }
     {
         let offset = arithmetic::branch_offset(imm);
-        let pc = self.pc();
         if arithmetic::branches(op, self.reg(rs1), self.reg(rs2)) {
-            self.set_pc(pc.wrapping_add(offset));
+            *pc = (*pc).wrapping_add(offset);
         } else {
-            self.set_pc(pc + 4);
+            *pc += 4;
         }
         Turn::Ran
     }
 
     #[inline(always)]
-    fn load(&mut self, op: LoadOp, rd: Reg, rs1: Reg, imm: Immediate<12>) -> Turn
-        requires { self.old.pc < 2 ^ 63 }
-        ensures executed { after_step self.new result ≡ exec (profile_of self.old.memory.version) (Instr.Load op rd rs1 imm) (hart_in self.old) (shared_in self.old) }
+    fn load(&mut self, pc: &mut u64, op: LoadOp, rd: Reg, rs1: Reg, imm: Immediate<12>) -> Turn
+        requires { pc.old < 2 ^ 63 }
+        ensures executed { after_at self.new pc.new result ≡ exec (profile_of self.old.memory.version) (Instr.Load op rd rs1 imm) (hart_at self.old pc.old) (shared_in self.old) }
         ensures kept { KeepsVersionAndRoom self.old self.new }
     {
         let addr = self.address_of(rs1, imm);
-        match self.mem().read(addr, arithmetic::loaded_bytes(op)) {
+        match self.loaded(op, addr) {
             Ok(value) => {
-                self.put(rd, arithmetic::loaded(op, value));
+                self.put(pc, rd, value);
                 Turn::Ran
             }
-            Err(LoadFault) => Turn::LoadFault(self.pc(), addr),
+            Err(LoadFault) => Turn::LoadFault(*pc, addr),
+        }
+    }
+
+    /// What a load from an address puts into its register. Each operation asks memory by its own size, which is known
+    /// where it is inlined.
+    #[inline(always)]
+    fn loaded(&self, op: LoadOp, addr: u64) -> Result<u64, LoadFault>
+        ensures value { IfOk result (λ value. value ≡ load_result op (read (load_size op) (memory_of self.now.memory) addr)) }
+        ensures fault { IsErr result ↔ (can_load (profile_of self.now.memory.version) addr (load_size op) ≡ false) }
+    {
+        let memory = self.mem();
+        match op {
+            LoadOp::Lb => Ok(sext(memory.read(addr, 1)?, 8)),
+            LoadOp::Lh => Ok(sext(memory.read(addr, 2)?, 16)),
+            LoadOp::Lw => Ok(arithmetic::word(memory.read(addr, 4)?)),
+            LoadOp::Ld => memory.read(addr, 8),
+            LoadOp::Lbu => memory.read(addr, 1),
+            LoadOp::Lhu => memory.read(addr, 2),
+            LoadOp::Lwu => memory.read(addr, 4),
         }
     }
 
     #[inline(always)]
     fn store(
         &mut self,
+        pc: &mut u64,
         op: StoreOp,
         rs1: Reg,
         rs2: Reg,
         imm: Immediate<12>,
     ) -> Result<Turn, NoMemory>
-        requires { self.old.pc < 2 ^ 63 }
-        ensures executed { IfOk result (λ turn. after_step self.new turn ≡ exec (profile_of self.old.memory.version) (Instr.Store op rs1 rs2 imm) (hart_in self.old) (shared_in self.old)) }
+        requires { pc.old < 2 ^ 63 }
+        ensures executed { IfOk result (λ turn. after_at self.new pc.new turn ≡ exec (profile_of self.old.memory.version) (Instr.Store op rs1 rs2 imm) (hart_at self.old pc.old) (shared_in self.old)) }
         ensures hart { OnErr result (hart_in self.new ≡ hart_in self.old) }
         ensures shared { OnErr result (shared_in self.new ≡ shared_in self.old) }
-        ensures wants { OnErr result (may_take_memory (profile_of self.old.memory.version) (Instr.Store op rs1 rs2 imm) (hart_in self.old) ≡ true) }
-        ensures room { OnErr result (LacksRoom self.old.memory (hart_in self.old) (Instr.Store op rs1 rs2 imm)) }
+        ensures wants { OnErr result (may_take_memory (profile_of self.old.memory.version) (Instr.Store op rs1 rs2 imm) (hart_at self.old pc.old) ≡ true) }
+        ensures room { OnErr result (LacksRoom self.old.memory (hart_at self.old pc.old) (Instr.Store op rs1 rs2 imm)) }
         ensures kept { KeepsVersionAndRoom self.old self.new }
     {
         let addr = self.address_of(rs1, imm);
         let value = self.reg(rs2);
-        match self.memory.write(addr, arithmetic::stored_bytes(op), value) {
+        match stored(&mut self.memory, op, addr, value) {
             Ok(()) => {
-                self.hart.set_pc(self.hart.pc() + 4);
+                *pc += 4;
                 Ok(Turn::Ran)
             }
-            Err(End::Fault(_)) => Ok(Turn::StoreFault(self.hart.pc(), addr)),
+            Err(End::Fault(_)) => Ok(Turn::StoreFault(*pc, addr)),
             Err(End::NoMemory) => Err(NoMemory),
         }
     }
 
     #[inline(always)]
-    fn environment_call(&mut self) -> Result<Turn, NoMemory>
-        requires { self.old.pc < 2 ^ 63 }
-        ensures executed { IfOk result (λ turn. after_step self.new turn ≡ exec (profile_of self.old.memory.version) Instr.Ecall (hart_in self.old) (shared_in self.old)) }
+    fn environment_call(&mut self, pc: &mut u64) -> Result<Turn, NoMemory>
+        requires { pc.old < 2 ^ 63 }
+        ensures executed { IfOk result (λ turn. after_at self.new pc.new turn ≡ exec (profile_of self.old.memory.version) (Instr.Ecall) (hart_at self.old pc.old) (shared_in self.old)) }
         ensures hart { OnErr result (hart_in self.new ≡ hart_in self.old) }
         ensures shared { OnErr result (shared_in self.new ≡ shared_in self.old) }
         ensures kept { KeepsVersionAndRoom self.old self.new }
     {
         match self.hart.call(&mut self.system, &mut self.memory)? {
             SysEnd::Goes => {
-                self.hart.set_pc(self.hart.pc() + 4);
+                *pc += 4;
                 self.ended = None;
                 Ok(Turn::Ran)
             }
@@ -418,46 +492,80 @@ impl Processor {
     }
 
     #[inline(always)]
-    fn immediate(&mut self, op: ImmediateOp, rd: Reg, rs1: Reg, imm: Immediate<12>) -> Turn
-        requires { self.old.pc < 2 ^ 63 }
-        ensures executed { after_step self.new result ≡ exec (profile_of self.old.memory.version) (Instr.Immediate op rd rs1 imm) (hart_in self.old) (shared_in self.old) }
+    fn immediate(
+        &mut self,
+        pc: &mut u64,
+        op: ImmediateOp,
+        rd: Reg,
+        rs1: Reg,
+        imm: Immediate<12>,
+    ) -> Turn
+        requires { pc.old < 2 ^ 63 }
+        ensures executed { after_at self.new pc.new result ≡ exec (profile_of self.old.memory.version) (Instr.Immediate op rd rs1 imm) (hart_at self.old pc.old) (shared_in self.old) }
         ensures kept { KeepsVersionAndRoom self.old self.new }
     {
-        self.put(
-            rd,
-            arithmetic::immediate(op, self.reg(rs1), arithmetic::immediate_value(imm)),
-        );
+        let value = arithmetic::immediate(op, self.reg(rs1), arithmetic::immediate_value(imm));
+        self.put(pc, rd, value);
         Turn::Ran
     }
 
     #[inline(always)]
-    fn shift(&mut self, op: ShiftOp, rd: Reg, rs1: Reg, amount: Immediate<6>) -> Turn
-        requires { self.old.pc < 2 ^ 63 }
-        ensures executed { after_step self.new result ≡ exec (profile_of self.old.memory.version) (Instr.Shift op rd rs1 amount) (hart_in self.old) (shared_in self.old) }
+    fn shift(&mut self, pc: &mut u64, op: ShiftOp, rd: Reg, rs1: Reg, amount: Immediate<6>) -> Turn
+        requires { pc.old < 2 ^ 63 }
+        ensures executed { after_at self.new pc.new result ≡ exec (profile_of self.old.memory.version) (Instr.Shift op rd rs1 amount) (hart_at self.old pc.old) (shared_in self.old) }
         ensures kept { KeepsVersionAndRoom self.old self.new }
     {
-        self.put(rd, arithmetic::shift(op, self.reg(rs1), amount.bits()));
+        let value = arithmetic::shift(op, self.reg(rs1), amount.bits());
+        self.put(pc, rd, value);
         Turn::Ran
     }
 
     #[inline(always)]
-    fn shift_word(&mut self, op: ShiftWordOp, rd: Reg, rs1: Reg, amount: Immediate<5>) -> Turn
-        requires { self.old.pc < 2 ^ 63 }
-        ensures executed { after_step self.new result ≡ exec (profile_of self.old.memory.version) (Instr.ShiftWord op rd rs1 amount) (hart_in self.old) (shared_in self.old) }
+    fn shift_word(
+        &mut self,
+        pc: &mut u64,
+        op: ShiftWordOp,
+        rd: Reg,
+        rs1: Reg,
+        amount: Immediate<5>,
+    ) -> Turn
+        requires { pc.old < 2 ^ 63 }
+        ensures executed { after_at self.new pc.new result ≡ exec (profile_of self.old.memory.version) (Instr.ShiftWord op rd rs1 amount) (hart_at self.old pc.old) (shared_in self.old) }
         ensures kept { KeepsVersionAndRoom self.old self.new }
     {
-        self.put(rd, arithmetic::shift_word(op, self.reg(rs1), amount.bits()));
+        let value = arithmetic::shift_word(op, self.reg(rs1), amount.bits());
+        self.put(pc, rd, value);
         Turn::Ran
     }
 
     #[inline(always)]
-    fn register(&mut self, op: RegisterOp, rd: Reg, rs1: Reg, rs2: Reg) -> Turn
-        requires { self.old.pc < 2 ^ 63 }
-        ensures executed { after_step self.new result ≡ exec (profile_of self.old.memory.version) (Instr.Register op rd rs1 rs2) (hart_in self.old) (shared_in self.old) }
+    fn register(&mut self, pc: &mut u64, op: RegisterOp, rd: Reg, rs1: Reg, rs2: Reg) -> Turn
+        requires { pc.old < 2 ^ 63 }
+        ensures executed { after_at self.new pc.new result ≡ exec (profile_of self.old.memory.version) (Instr.Register op rd rs1 rs2) (hart_at self.old pc.old) (shared_in self.old) }
         ensures kept { KeepsVersionAndRoom self.old self.new }
     {
-        self.put(rd, arithmetic::register(op, self.reg(rs1), self.reg(rs2)));
+        let value = arithmetic::register(op, self.reg(rs1), self.reg(rs2));
+        self.put(pc, rd, value);
         Turn::Ran
+    }
+}
+
+/// Writes what a store writes. Each operation gives memory its own size, which is known where it is inlined.
+#[inline(always)]
+fn stored(memory: &mut Memory, op: StoreOp, addr: u64, value: u64) -> Result<(), End<StoreFault>>
+    ensures written { OnOk result (memory_of memory.new ≡ write (store_size op) (memory_of memory.old) addr value) }
+    ensures fault { IsErrAnd result IsFault ↔ (can_store (profile_of memory.old.version) addr (store_size op) ≡ false) }
+    ensures wants { IsErrOf result End.NoMemory → can_store (profile_of memory.old.version) addr (store_size op) ≡ true }
+    ensures room { IsErrOf result End.NoMemory → ¬ HasRoom memory.old addr (store_size op) }
+    ensures refused { OnErr result (memory_of memory.new ≡ memory_of memory.old) }
+    ensures version { memory.new.version ≡ memory.old.version }
+    ensures kept { (k : ℕ) → IsTrue (has_room memory.old k) → IsTrue (has_room memory.new k) }
+{
+    match op {
+        StoreOp::Sb => memory.write(addr, 1, value),
+        StoreOp::Sh => memory.write(addr, 2, value),
+        StoreOp::Sw => memory.write(addr, 4, value),
+        StoreOp::Sd => memory.write(addr, 8, value),
     }
 }
 

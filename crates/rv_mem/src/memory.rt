@@ -236,6 +236,7 @@ impl Memory {
     }
 
     /// The word at an address.
+    #[inline(always)]
     pub fn word(&self, addr: u64) -> u32
         requires { addr < 2 ^ 62 }
         ensures { result ≡ read 4 (memory_of self.now) addr }

@@ -57,6 +57,7 @@ impl Pages {
 
     /// The place among the pages of the page with a number, which is made if it never was.
     #[tactic(auto, unfolding(crate::specs::Pages::is_made))]
+    #[inline(always)]
     fn made(&mut self, number: usize) -> Result<usize, NoMemory>
         requires { number < PAGE_COUNT }
         ensures bytes { byte_of self.new ≡ byte_of self.old }
@@ -65,10 +66,33 @@ impl Pages {
         ensures wants { OnErr result (¬ IsTrue (is_made self.old number)) }
         ensures kept { (p : ℕ) → IsTrue (is_made self.old p) → IsTrue (is_made self.new p) }
     {
-        let entry = self.table[number] as usize;
+        let entry = self.entry(number);
         if entry > 0 {
             return Ok(entry - 1);
         }
+        self.make(number)
+    }
+
+    /// The entry of the page with a number.
+    fn entry(&self, number: usize) -> usize
+        requires { number < PAGE_COUNT }
+        ensures { result ≡ entry self.now number }
+    {
+        self.table[number] as usize
+    }
+
+    /// Makes the page with a number, which never was made, and answers its place among the pages. It is not inlined,
+    /// which keeps a store small.
+    #[tactic(auto, unfolding(crate::specs::Pages::is_made))]
+    #[inline(never)]
+    fn make(&mut self, number: usize) -> Result<usize, NoMemory>
+        requires number { number < PAGE_COUNT }
+        requires never { entry self.old number ≡ 0 }
+        ensures bytes { byte_of self.new ≡ byte_of self.old }
+        ensures place { IfOk result (λ place. entry self.new number ≡ place + 1) }
+        ensures made { OnOk result (IsTrue (is_made self.new number)) }
+        ensures kept { (p : ℕ) → IsTrue (is_made self.old p) → IsTrue (is_made self.new p) }
+    {
         let place = self.pages.len();
         self.pages.push(Page::new(self.alloc)?)?;
         self.table[number] = (place + 1) as u32;

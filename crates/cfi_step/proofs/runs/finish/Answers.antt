@@ -1,11 +1,13 @@
-use Rattle.std.proofs.Common.{◌<◌, ◌-◌, ◌+◌, ◌∙◌, ◌≡◌, ℕ, length, refl, ap, sym, subst, arith}
+use Rattle.std.proofs.Common.{◌+◌, ◌-◌, ◌<◌, ◌∙◌, ◌≡◌, ℕ, length, refl, ap, sym, subst, arith}
 use Rattle.rv_word.specs.Image.{image_profile}
 use Rattle.rv_word.specs.MemoryMap.{profile_of}
 use Rattle.rv_machine.specs.Harts.{harts_in, harts_share}
+use Rattle.cfi_rules.specs.Split.{code_words}
 use Rattle.cfi_script.specs.Plan.{Plan, planned}
 use Rattle.cfi_step.specs.Running.{IsReady, trails_of}
 use Rattle.cfi_step.proofs.Preparing.{begun_ready, empty_so}
-use Rattle.cfi_step.proofs.Continues.{Continues, all_taken, at_start, has_end, next, stays_next, step_at, stopped, took_so}
+use Rattle.cfi_step.proofs.Continues.{Continues, all_taken, at_start, took_so}
+use Rattle.cfi_step.proofs.Stretched.{own_walked, stretch_end, stretch_low, stretch_stopped, stretch_way, way_end, way_next, way_stays, way_stopped}
 use Rattle.cfi_step.proofs.runs.finish.Goals as goal
 
 pub loop-steps-init : goal.loop-steps-init
@@ -14,29 +16,36 @@ loop-steps-init g c =
     let now = c.args.running.now in
     let plan = g.M.Meddler.plan c.args.meddler.now in
     let count = length now.machine.resting in
+    let begun = c.requires.begun in
     let whole = planned (image_profile image) plan count 0 (harts_in now.machine) (harts_share now.machine) c.args.limit in
     let all : c.args.limit ≡ c.args.limit - 0 = omega arith in
-    let begins = at_start (image_profile image) image count (harts_in now.machine) (harts_share now.machine) whole now.made now.taken (trails_of now) c.requires.made c.requires.taken
-    (λ j t at. empty_so (trails_of now) c.requires.empty j t at) in
+    let begins = at_start (image_profile image) image count (harts_in now.machine) (harts_share now.machine) whole now.made now.taken (trails_of now) begun.made begun.taken
+    (λ j t at. empty_so (trails_of now) begun.empty j t at) in
+    let ready = begun_ready plan (image_profile image) image now begun in
     record {
-      bound = omega arith;
-      ready = begun_ready plan (image_profile image) image now c.requires;
-      count = refl;
-      profile = c.requires.profile;
+      ready = ready;
       meddler = refl;
-      stays = c.requires.stays;
-      continues = subst (λ (n : ℕ). Continues (image_profile image) image count (harts_in now.machine) (harts_share now.machine) whole 0 (harts_in now.machine) (harts_share now.machine)
-          (planned (image_profile image) plan count 0 (harts_in now.machine) (harts_share now.machine) n) now.made now.taken (trails_of now)) all begins;
+      way = record {
+        bound = omega arith;
+        ready = ready;
+        counted = refl;
+        profile = begun.profile;
+        stays = begun.stays;
+        continues = subst (λ (n : ℕ). Continues (image_profile image) image count (harts_in now.machine) (harts_share now.machine) whole 0 (harts_in now.machine) (harts_share now.machine)
+            (planned (image_profile image) plan count 0 (harts_in now.machine) (harts_share now.machine) n) now.made now.taken (trails_of now)) all begins;
+      };
     }
 
 pub end_of-requires : goal.end_of-requires
 end_of-requires g c =
     let image = c.args.checked.now.image in
     let now = c.loop-steps.running in
-    let count = length c.args.running.now.machine.resting in
+    let first = c.args.running.now.machine in
+    let count = length first.resting in
     let plan = g.M.Meddler.plan c.args.meddler.now in
+    let old = c.loop-steps.invariant in
     let took = took_so (profile_of now.machine.processor.memory.version) (image_profile image) image (length now.machine.resting) count (g.M.Meddler.plan c.loop-steps.meddler) plan
-    c.loop-steps.steps now c.turn.new.self c.in_ok-turn.turn c.loop-steps.invariant.profile c.loop-steps.invariant.count (ap g.M.Meddler.plan c.loop-steps.invariant.meddler)
+    c.loop-steps.steps now c.turn.new.self c.in_ok-turn.turn old.way.profile old.way.counted (ap g.M.Meddler.plan old.meddler)
     (record {
       stepped = c.in_ok-turn.ensures.stepped;
       allowed = c.in_ok-turn.ensures.allowed;
@@ -44,17 +53,18 @@ end_of-requires g c =
       taken = c.in_ok-turn.ensures.taken;
       noted = c.in_ok-turn.ensures.noted;
     }) in
-    has_end (image_profile image) image count (harts_in now.machine) (harts_share now.machine) (step_at plan c.loop-steps.steps count now)
-    c.loop-steps.invariant.stays.0 c.loop-steps.invariant.stays.1 took.allowed _ took.stepped
+    way_end (image_profile image) image count (harts_in first) (harts_share first) c.args.limit plan c.loop-steps.steps now c.turn.new.self c.in_ok-turn.turn old.way took
 
 pub returns-then-is_stop-clause-over : goal.returns-then-is_stop-clause-over
 returns-then-is_stop-clause-over g c =
     let image = c.args.checked.now.image in
     let now = c.loop-steps.running in
-    let count = length c.args.running.now.machine.resting in
+    let first = c.args.running.now.machine in
+    let count = length first.resting in
     let plan = g.M.Meddler.plan c.args.meddler.now in
+    let old = c.loop-steps.invariant in
     let took = took_so (profile_of now.machine.processor.memory.version) (image_profile image) image (length now.machine.resting) count (g.M.Meddler.plan c.loop-steps.meddler) plan
-    c.loop-steps.steps now c.turn.new.self c.in_ok-turn.turn c.loop-steps.invariant.profile c.loop-steps.invariant.count (ap g.M.Meddler.plan c.loop-steps.invariant.meddler)
+    c.loop-steps.steps now c.turn.new.self c.in_ok-turn.turn old.way.profile old.way.counted (ap g.M.Meddler.plan old.meddler)
     (record {
       stepped = c.in_ok-turn.ensures.stepped;
       allowed = c.in_ok-turn.ensures.allowed;
@@ -62,18 +72,77 @@ returns-then-is_stop-clause-over g c =
       taken = c.in_ok-turn.ensures.taken;
       noted = c.in_ok-turn.ensures.noted;
     }) in
-    let counted = c.in_ok-turn.ensures.count ∙ c.loop-steps.invariant.count in
-    stopped (image_profile image) image count _ _ _ plan c.loop-steps.steps (c.args.limit - (c.loop-steps.steps + 1)) now c.turn.new.self c.in_ok-turn.turn c.args.limit (omega (arith, c.loop-steps-test.true)) c.end_of.result
-    (sym c.is_stop.ensures ∙ c.if-is_stop.true) c.loop-steps.invariant.continues took (c.in_ok-turn.ensures.ready.each ∙ counted) (subst (λ (n : ℕ). c.turn.new.self.taken.hart < n) counted c.in_ok-turn.ensures.ready.last) c.end_of.ensures
+    let ready = subst (λ (x : Plan). IsReady x (c.loop-steps.steps + 1) c.turn.new.self) (ap g.M.Meddler.plan old.meddler) c.in_ok-turn.ensures.ready in
+    way_stopped (image_profile image) image count (harts_in first) (harts_share first) c.args.limit plan c.loop-steps.steps now c.turn.new.self c.in_ok-turn.turn c.end_of.result old.way c.loop-steps-test.true took
+    (sym c.is_stop.ensures ∙ c.if-is_stop.true) ready c.in_ok-turn.ensures.count c.end_of.ensures
+
+pub stretch-requires-clause-current : goal.stretch-requires-clause-current
+stretch-requires-clause-current g c = c.in_ok-turn.ensures.ready.current
+
+pub stretch-requires-clause-last : goal.stretch-requires-clause-last
+stretch-requires-clause-last g c = omega (arith, c.in_ok-turn.ensures.ready.last, c.in_ok-turn.ensures.ready.each)
+
+pub stretch-requires-clause-room : goal.stretch-requires-clause-room
+stretch-requires-clause-room g c = own_walked (g.M.Meddler.plan c.loop-steps.meddler) (c.loop-steps.steps + 1) c.turn.new.self c.in_ok-turn.ensures.ready
+
+pub end_of-requires-then-is_stop-2 : goal.end_of-requires-then-is_stop-2
+end_of-requires-then-is_stop-2 g c =
+    let image = c.args.checked.now.image in
+    let now = c.loop-steps.running in
+    let first = c.args.running.now.machine in
+    let count = length first.resting in
+    let plan = g.M.Meddler.plan c.args.meddler.now in
+    let old = c.loop-steps.invariant in
+    let took = took_so (profile_of now.machine.processor.memory.version) (image_profile image) image (length now.machine.resting) count (g.M.Meddler.plan c.loop-steps.meddler) plan
+    c.loop-steps.steps now c.turn.new.self c.in_ok-turn.turn old.way.profile old.way.counted (ap g.M.Meddler.plan old.meddler)
+    (record {
+      stepped = c.in_ok-turn.ensures.stepped;
+      allowed = c.in_ok-turn.ensures.allowed;
+      made = c.in_ok-turn.ensures.made;
+      taken = c.in_ok-turn.ensures.taken;
+      noted = c.in_ok-turn.ensures.noted;
+    }) in
+    let ready = subst (λ (x : Plan). IsReady x (c.loop-steps.steps + 1) c.turn.new.self) (ap g.M.Meddler.plan old.meddler) c.in_ok-turn.ensures.ready in
+    let way = way_next (image_profile image) image count (harts_in first) (harts_share first) c.args.limit plan c.loop-steps.steps now c.turn.new.self c.in_ok-turn.turn old.way c.loop-steps-test.true took
+    (sym c.is_stop.ensures ∙ c.if-is_stop.false) ready c.in_ok-turn.ensures.count c.in_ok-turn.ensures.version in
+    let stretch = c.in_ok-last.ensures (image_profile image) (code_words image.code) c.requires.starts in
+    stretch_end (image_profile image) image count (harts_in first) (harts_share first) c.args.limit plan (c.loop-steps.steps + 1) c.turn.new.self c.stretch.new.self c.in_ok-last.last c.in_ok-last.taken way stretch
+    (sym c.is_stop-in-loop-steps.ensures ∙ c.if-is_stop-2.true)
+
+pub returns-then-is_stop-2-clause-over : goal.returns-then-is_stop-2-clause-over
+returns-then-is_stop-2-clause-over g c =
+    let image = c.args.checked.now.image in
+    let now = c.loop-steps.running in
+    let first = c.args.running.now.machine in
+    let count = length first.resting in
+    let plan = g.M.Meddler.plan c.args.meddler.now in
+    let old = c.loop-steps.invariant in
+    let took = took_so (profile_of now.machine.processor.memory.version) (image_profile image) image (length now.machine.resting) count (g.M.Meddler.plan c.loop-steps.meddler) plan
+    c.loop-steps.steps now c.turn.new.self c.in_ok-turn.turn old.way.profile old.way.counted (ap g.M.Meddler.plan old.meddler)
+    (record {
+      stepped = c.in_ok-turn.ensures.stepped;
+      allowed = c.in_ok-turn.ensures.allowed;
+      made = c.in_ok-turn.ensures.made;
+      taken = c.in_ok-turn.ensures.taken;
+      noted = c.in_ok-turn.ensures.noted;
+    }) in
+    let ready = subst (λ (x : Plan). IsReady x (c.loop-steps.steps + 1) c.turn.new.self) (ap g.M.Meddler.plan old.meddler) c.in_ok-turn.ensures.ready in
+    let way = way_next (image_profile image) image count (harts_in first) (harts_share first) c.args.limit plan c.loop-steps.steps now c.turn.new.self c.in_ok-turn.turn old.way c.loop-steps-test.true took
+    (sym c.is_stop.ensures ∙ c.if-is_stop.false) ready c.in_ok-turn.ensures.count c.in_ok-turn.ensures.version in
+    let stretch = c.in_ok-last.ensures (image_profile image) (code_words image.code) c.requires.starts in
+    stretch_stopped (image_profile image) image count (harts_in first) (harts_share first) c.args.limit plan (c.loop-steps.steps + 1) c.turn.new.self c.stretch.new.self c.in_ok-last.last c.in_ok-last.taken c.end_of-then-is_stop-2.result way stretch
+    (sym c.is_stop-in-loop-steps.ensures ∙ c.if-is_stop-2.true) c.end_of-then-is_stop-2.ensures
 
 pub loop-steps-preserved : goal.loop-steps-preserved
 loop-steps-preserved g c =
     let image = c.args.checked.now.image in
     let now = c.loop-steps.running in
-    let count = length c.args.running.now.machine.resting in
+    let first = c.args.running.now.machine in
+    let count = length first.resting in
     let plan = g.M.Meddler.plan c.args.meddler.now in
+    let old = c.loop-steps.invariant in
     let took = took_so (profile_of now.machine.processor.memory.version) (image_profile image) image (length now.machine.resting) count (g.M.Meddler.plan c.loop-steps.meddler) plan
-    c.loop-steps.steps now c.turn.new.self c.in_ok-turn.turn c.loop-steps.invariant.profile c.loop-steps.invariant.count (ap g.M.Meddler.plan c.loop-steps.invariant.meddler)
+    c.loop-steps.steps now c.turn.new.self c.in_ok-turn.turn old.way.profile old.way.counted (ap g.M.Meddler.plan old.meddler)
     (record {
       stepped = c.in_ok-turn.ensures.stepped;
       allowed = c.in_ok-turn.ensures.allowed;
@@ -81,22 +150,57 @@ loop-steps-preserved g c =
       taken = c.in_ok-turn.ensures.taken;
       noted = c.in_ok-turn.ensures.noted;
     }) in
-    let goes = sym c.is_stop.ensures ∙ c.if-is_stop.false in
+    let ready = subst (λ (x : Plan). IsReady x (c.loop-steps.steps + 1) c.turn.new.self) (ap g.M.Meddler.plan old.meddler) c.in_ok-turn.ensures.ready in
+    let way = way_next (image_profile image) image count (harts_in first) (harts_share first) c.args.limit plan c.loop-steps.steps now c.turn.new.self c.in_ok-turn.turn old.way c.loop-steps-test.true took
+    (sym c.is_stop.ensures ∙ c.if-is_stop.false) ready c.in_ok-turn.ensures.count c.in_ok-turn.ensures.version in
+    let stretch = c.in_ok-last.ensures (image_profile image) (code_words image.code) c.requires.starts in
+    let on = stretch_way (image_profile image) image count (harts_in first) (harts_share first) c.args.limit plan (c.loop-steps.steps + 1) c.turn.new.self c.stretch.new.self c.in_ok-last.last c.in_ok-last.taken way stretch
+    (sym c.is_stop-in-loop-steps.ensures ∙ c.if-is_stop-2.false) in
+    let same = c.turn.ensures.kept ∙ old.meddler in
     record {
-      bound = omega (arith, c.loop-steps-test.true);
-      ready = subst (λ (plan : Plan). IsReady plan (c.loop-steps.steps + 1) c.turn.new.self) (sym (ap g.M.Meddler.plan c.turn.ensures.kept)) c.in_ok-turn.ensures.ready;
-      count = c.in_ok-turn.ensures.count ∙ c.loop-steps.invariant.count;
-      profile = ap profile_of c.in_ok-turn.ensures.version ∙ c.loop-steps.invariant.profile;
-      meddler = c.turn.ensures.kept ∙ c.loop-steps.invariant.meddler;
-      stays = stays_next (image_profile image) image count (harts_in now.machine) (harts_share now.machine) (step_at plan c.loop-steps.steps count now)
-          c.loop-steps.invariant.stays.0 c.loop-steps.invariant.stays.1 took.allowed _ took.stepped goes;
-      continues = next (image_profile image) image count _ _ _ plan c.loop-steps.steps (c.args.limit - (c.loop-steps.steps + 1)) now c.turn.new.self c.in_ok-turn.turn c.args.limit (omega (arith, c.loop-steps-test.true))
-          goes c.loop-steps.invariant.continues took;
+      ready = subst (λ (x : Plan). IsReady x c.in_ok-last.taken c.stretch.new.self) (sym (ap g.M.Meddler.plan same)) on.ready;
+      meddler = same;
+      way = on;
     }
 
 pub returns-clause-over : goal.returns-clause-over
 returns-clause-over g c =
-    let p = image_profile c.args.checked.now.image in
-    all_taken p c.args.checked.now.image (length c.args.running.now.machine.resting) _ _ _ (g.M.Meddler.plan c.args.meddler.now) c.loop-steps.steps c.args.limit c.loop-steps.running
-    (omega (arith, c.loop-steps-test.false)) c.loop-steps.invariant.continues (c.loop-steps.invariant.ready.each ∙ c.loop-steps.invariant.count)
-    (subst (λ (n : ℕ). c.loop-steps.running.taken.hart < n) c.loop-steps.invariant.count c.loop-steps.invariant.ready.last)
+    let image = c.args.checked.now.image in
+    let way = c.loop-steps.invariant.way in
+    all_taken (image_profile image) image (length c.args.running.now.machine.resting) _ _ _ (g.M.Meddler.plan c.args.meddler.now) c.loop-steps.steps c.args.limit c.loop-steps.running
+    (omega (arith, c.loop-steps-test.false)) way.continues (way.ready.each ∙ way.counted) (subst (λ (n : ℕ). c.loop-steps.running.taken.hart < n) way.counted way.ready.last)
+
+pub loop-steps-smaller : goal.loop-steps-smaller
+loop-steps-smaller g c =
+    let image = c.args.checked.now.image in
+    let low = stretch_low (image_profile image) (code_words image.code) (c.loop-steps.steps + 1) c.args.limit c.turn.new.self c.stretch.new.self c.in_ok-last.last c.in_ok-last.taken
+    (c.in_ok-last.ensures (image_profile image) (code_words image.code) c.requires.starts) in
+    omega (arith, low, c.loop-steps-test.true)
+
+pub stretch-requires-clause-below : goal.stretch-requires-clause-below
+stretch-requires-clause-below g c = c.in_ok-turn.ensures.ready.last
+
+pub stretch-requires-clause-known : goal.stretch-requires-clause-known
+stretch-requires-clause-known g c = (image_profile c.args.checked.now.image, code_words c.args.checked.now.image.code, c.requires.starts)
+
+pub stretch-requires-clause-stays : goal.stretch-requires-clause-stays
+stretch-requires-clause-stays g c =
+    let image = c.args.checked.now.image in
+    let now = c.loop-steps.running in
+    let first = c.args.running.now.machine in
+    let count = length first.resting in
+    let plan = g.M.Meddler.plan c.args.meddler.now in
+    let old = c.loop-steps.invariant in
+    let took = took_so (profile_of now.machine.processor.memory.version) (image_profile image) image (length now.machine.resting) count (g.M.Meddler.plan c.loop-steps.meddler) plan
+    c.loop-steps.steps now c.turn.new.self c.in_ok-turn.turn old.way.profile old.way.counted (ap g.M.Meddler.plan old.meddler)
+    (record {
+      stepped = c.in_ok-turn.ensures.stepped;
+      allowed = c.in_ok-turn.ensures.allowed;
+      made = c.in_ok-turn.ensures.made;
+      taken = c.in_ok-turn.ensures.taken;
+      noted = c.in_ok-turn.ensures.noted;
+    }) in
+    let ready = subst (λ (x : Plan). IsReady x (c.loop-steps.steps + 1) c.turn.new.self) (ap g.M.Meddler.plan old.meddler) c.in_ok-turn.ensures.ready in
+    let way = way_next (image_profile image) image count (harts_in first) (harts_share first) c.args.limit plan c.loop-steps.steps now c.turn.new.self c.in_ok-turn.turn old.way c.loop-steps-test.true took
+    (sym c.is_stop.ensures ∙ c.if-is_stop.false) ready c.in_ok-turn.ensures.count c.in_ok-turn.ensures.version in
+    way_stays (image_profile image) image count (harts_in first) (harts_share first) c.args.limit plan (c.loop-steps.steps + 1) c.turn.new.self way

@@ -12,8 +12,8 @@ use Rattle.cfi_step.proofs.Reported.{Tells, all_made, all_turns, begins, over_so
 use Rattle.cfi_step.proofs.Replay.{in_order, replays}
 use Rattle.cfi_step.proofs.runs.run.Goals as goal
 
-pub finish-requires : goal.finish-requires
-finish-requires g c =
+pub finish-requires-clause-begun : goal.finish-requires-clause-begun
+finish-requires-clause-begun g c =
     let image = c.args.checked.now.image in
     let started = c.in_ok-running.ensures in
     let shared = rw c.image.ensures.value at started.shared in

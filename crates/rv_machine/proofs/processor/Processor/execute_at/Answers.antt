@@ -1,4 +1,4 @@
-use Rattle.rv_machine.proofs.processor.Processor.execute.Goals as goal
+use Rattle.rv_machine.proofs.processor.Processor.execute_at.Goals as goal
 
 pub returns-in-Upper : goal.returns-in-Upper
 returns-in-Upper c = rw c.in-Upper.is (record { executed = c.upper.ensures.executed; hart = tt; shared = tt; wants = tt; room = tt; kept = c.upper.ensures.kept })
