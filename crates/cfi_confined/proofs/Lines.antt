@@ -129,6 +129,8 @@ serving_line lines sorts.Jumps K.Call which label ts e there = absurd (cc)
 long_site : (place : Place) → is_some (site_of place) ≡ true → (u : U.Unit) × (place ≡ body u) × (12 < word_count u)
 long_site (body (V.Ijump which rs1 imm label)) e = (V.Ijump which rs1 imm label, refl, omega arith)
 long_site (body (V.Icall rs1 imm label)) e = (V.Icall rs1 imm label, refl, omega arith)
+long_site (body (V.LeanIjump rs1 imm label)) e = (V.LeanIjump rs1 imm label, refl, omega arith)
+long_site (body (V.LeanIcall rs1 imm label)) e = (V.LeanIcall rs1 imm label, refl, omega arith)
 long_site (body other) e = absurd (cc)
 long_site other e = absurd (cc)
 

@@ -37,14 +37,15 @@ use Rattle.cfi_unit.specs.Leads.{Calls, ExitLeads, FlowLeads, HasLabel, Leads, R
 use Rattle.cfi_unit.specs.Place.{place_instrs}
 use Rattle.cfi_unit.specs.UnitWords.{after_unit}
 use Rattle.cfi_unit.proofs.ComputedUnits.{arrives}
-use Rattle.cfi_unit.proofs.Flows.{Suits, TestFits, is_untested, suits, test_fits, untested, direct_call, guarded_call, computed_jump, computed_call, turned_back}
+use Rattle.cfi_unit.proofs.Flows.{Suits, TestFits, by_caller, entered, full_by_caller, is_untested, linked_back, linking_call, linking_computed_call, suits, test_fits, untested, direct_call, guarded_call, computed_jump, computed_call, turned_back}
 use Rattle.cfi_rules.specs.Laws.{AreBytes}
 use Rattle.cfi_rules.specs.Rules.{IsWellFormed, asked_by, asks, call_by, call_of, edge_of}
 use Rattle.cfi_rules.specs.Split.{code_words, place_at}
 use Rattle.cfi_rules.specs.Walk.{InClass}
 use Rattle.cfi_rules.specs.declared.asks.Asks.{Asks}
 use Rattle.cfi_rules.proofs.Find.{start_parts}
-use Rattle.cfi_rules.proofs.Moves.{InBody, SitesStand, Stage, arrive, labelled, target_stands, to_site}
+use Rattle.cfi_rules.proofs.Leading.{IsFullPlace}
+use Rattle.cfi_rules.proofs.Moves.{full_place, InBody, SitesStand, Stage, arrive, labelled, target_stands, to_site}
 use Rattle.cfi_rules.proofs.Places.{PlaceFacts, at_start, at_unit, nothing_inside, place_facts}
 use Rattle.cfi_rules.proofs.RuleFacts.{call_starts}
 use Rattle.cfi_rules.proofs.Safety.{first_call}
@@ -127,45 +128,53 @@ module _ (p : Profile) (profile : IsProfile p) (image : Contents) (graph : Graph
       abbrev FlowGoes : Flow → Type 0
       FlowGoes f = FlowLeads (by_label (loaded image)) f following pending r newer v
 
-      flow_keeps : (f : Flow) → Suits f → f.sites ≡ F.keeps → FlowGoes f → newer ≡ pending
-      flow_keeps f (untested exit act is) keeps l = exit_keeps exit is l
-      flow_keeps f (direct_call target) keeps l = absurd (cc)
-      flow_keeps f (guarded_call numbers) keeps (inl l) = l.1.0
-      flow_keeps f (guarded_call numbers) keeps (inr l) = l.1.0
-      flow_keeps f (computed_jump which rs1 imm label) keeps (inl l) = l.1.0
-      flow_keeps f (computed_jump which rs1 imm label) keeps (inr l) = l.1.0
-      flow_keeps f (computed_call rs1 imm label) keeps l = absurd (cc)
-      flow_keeps f turned_back keeps l = absurd (cc)
+      flow_keeps : (f : Flow) → Suits f → by_caller f ≡ true → f.sites ≡ F.keeps → FlowGoes f → newer ≡ pending
+      flow_keeps f (untested exit act is) full keeps l = exit_keeps exit is l
+      flow_keeps f (direct_call target) full keeps l = absurd (cc)
+      flow_keeps f (guarded_call numbers) full keeps (inl l) = l.1.0
+      flow_keeps f (guarded_call numbers) full keeps (inr l) = l.1.0
+      flow_keeps f (computed_jump which rs1 imm label) full keeps (inl l) = l.1.0
+      flow_keeps f (computed_jump which rs1 imm label) full keeps (inr l) = l.1.0
+      flow_keeps f (computed_call rs1 imm label) full keeps l = absurd (cc)
+      flow_keeps f turned_back full keeps l = absurd (cc)
+      flow_keeps f (linking_call target) full keeps l = absurd (cc)
+      flow_keeps f entered full keeps l = absurd (cc)
+      flow_keeps f (linking_computed_call rs1 imm label) full keeps l = absurd (cc)
+      flow_keeps f linked_back full keeps l = absurd (cc)
 
       returned_low : v < START → (sites : List ℕ) → SitesStand p profile image graph bytes formed sites → sites ≡ pending → Returns r sites newer v → newer ≡ pending
       returned_low low [] stand same l = absurd stand
       returned_low low (site ∷ older) stand same (inl l) = let high = site_high site older stand in let e = l.1.1 in absurd (omega arith)
       returned_low low (site ∷ older) stand same (inr l) = l.1.0 ∙ same
 
-      flow_low : v < START → SitesStand p profile image graph bytes formed pending → (f : Flow) → Suits f →
+      flow_low : v < START → SitesStand p profile image graph bytes formed pending → (f : Flow) → Suits f → by_caller f ≡ true →
           ((t : ℕ) → call_by f.sites f.exit ≡ Some t → p.units_from ≤ t) →
           ((asked : Asks) (a : ℕ) → asked_by f.test f.sites ≡ Some asked → HasLabel (loaded image) asked.which asked.label a → p.units_from ≤ a) → FlowGoes f → newer ≡ pending
-      flow_low low stand f (direct_call target) calls class (inl l) =
+      flow_low low stand f (direct_call target) full calls class (inl l) =
           let layout = laid_out p profile in let high = calls target refl in let e = l.2 in absurd (omega arith)
-      flow_low low stand f (direct_call target) calls class (inr l) = l.1
-      flow_low low stand f (computed_call rs1 imm label) calls class (inl (has, inl l)) =
+      flow_low low stand f (direct_call target) full calls class (inr l) = l.1
+      flow_low low stand f (computed_call rs1 imm label) full calls class (inl (has, inl l)) =
           let layout = laid_out p profile in let high = class (asks K.Call First label) (destination r rs1 imm) refl has in let e = l.2 in absurd (omega arith)
-      flow_low low stand f (computed_call rs1 imm label) calls class (inl (has, inr l)) = l.1
-      flow_low low stand f (computed_call rs1 imm label) calls class (inr l) = l.1.0
-      flow_low low stand f turned_back calls class l = returned_low low pending stand refl l
-      flow_low low stand f (untested exit act is) calls class l = exit_keeps exit is l
-      flow_low low stand f (guarded_call numbers) calls class (inl l) = l.1.0
-      flow_low low stand f (guarded_call numbers) calls class (inr l) = l.1.0
-      flow_low low stand f (computed_jump which rs1 imm label) calls class (inl l) = l.1.0
-      flow_low low stand f (computed_jump which rs1 imm label) calls class (inr l) = l.1.0
+      flow_low low stand f (computed_call rs1 imm label) full calls class (inl (has, inr l)) = l.1
+      flow_low low stand f (computed_call rs1 imm label) full calls class (inr l) = l.1.0
+      flow_low low stand f turned_back full calls class l = returned_low low pending stand refl l
+      flow_low low stand f (untested exit act is) full calls class l = exit_keeps exit is l
+      flow_low low stand f (guarded_call numbers) full calls class (inl l) = l.1.0
+      flow_low low stand f (guarded_call numbers) full calls class (inr l) = l.1.0
+      flow_low low stand f (computed_jump which rs1 imm label) full calls class (inl l) = l.1.0
+      flow_low low stand f (computed_jump which rs1 imm label) full calls class (inr l) = l.1.0
+      flow_low low stand f (linking_call target) full calls class l = absurd (cc)
+      flow_low low stand f entered full calls class l = absurd (cc)
+      flow_low low stand f (linking_computed_call rs1 imm label) full calls class l = absurd (cc)
+      flow_low low stand f linked_back full calls class l = absurd (cc)
 
     -- a place that keeps the pending sites leads with them wherever it leads
-    keeping : (place : Place) → Keeps place → Went place → newer ≡ pending
-    keeping place keeps (inl went) = went.1
-    keeping handler keeps (inr leads) = absurd leads
-    keeping (opening entry) keeps (inr leads) = absurd keeps
-    keeping closing keeps (inr leads) = absurd leads
-    keeping (body unit) keeps (inr leads) = flow_keeps (after_unit unit at) (flow_of unit) (suits unit) keeps leads
+    keeping : (place : Place) → IsFullPlace place → Keeps place → Went place → newer ≡ pending
+    keeping place full keeps (inl went) = went.1
+    keeping handler full keeps (inr leads) = absurd leads
+    keeping (opening entry) full keeps (inr leads) = absurd keeps
+    keeping closing full keeps (inr leads) = absurd leads
+    keeping (body unit) full keeps (inr leads) = flow_keeps (after_unit unit at) (flow_of unit) (suits unit) (full_by_caller unit full) keeps leads
 
     module _ (place : Place) (is : place_at p W at ≡ Some place) (stage : StageAt place) where
       facts : PlaceFacts p profile image graph bytes formed place at
@@ -177,7 +186,7 @@ module _ (p : Profile) (profile : IsProfile p) (image : Contents) (graph : Graph
       inner k some e (inl inside) (inr leads) =
           let there = (arrive p profile image graph bytes formed place (record { at = at; pending = pending; regs = r }) v newer is facts stage leads).settled in
           absurd (none-some there.place (sym (nothing_inside p profile image graph bytes formed place at v facts (omega arith) (omega arith)) ∙ there.is))
-      inner k some e (inr keeps) (inr leads) = keeping place keeps (inr leads)
+      inner k some e (inr keeps) (inr leads) = keeping place (full_place p profile image graph bytes formed place at facts) keeps (inr leads)
 
     -- at a handler the sites are those of before
     low_sites : v < START → (place : Place) → place_at p W at ≡ Some place → StageAt place → Went place → newer ≡ pending
@@ -190,7 +199,7 @@ module _ (p : Profile) (profile : IsProfile p) (image : Contents) (graph : Graph
         let e = l.2 in absurd (omega arith)
     low_sites low (opening entry) is stage (inr (inr l)) = l.1
     low_sites low (body unit) is stage (inr leads) =
-        flow_low (after_unit unit at) low stage.sites (flow_of unit) (suits unit)
+        flow_low (after_unit unit at) low stage.sites (flow_of unit) (suits unit) (full_by_caller unit (full_place p profile image graph bytes formed (body unit) at (place_facts p profile image graph bytes formed at (body unit) is)))
         (λ t call. (start_parts p (laid_out p profile) W t (call_starts p image graph formed at (body unit) t is call)).low)
         (λ asked a site has. (class_unit asked.kind asked.which asked.label a
         (labelled p profile image graph bytes formed asked.kind asked.which asked.label a at (body unit) (small asked site) is site has)).0) leads
@@ -280,7 +289,7 @@ module _ (p : Profile) (profile : IsProfile p) (image : Contents) (graph : Graph
           fact.0,
           inr (
             subst (λ (a : ℕ). IsSiteTo graph.lines K.Jump a v) before (subst (λ (t : ℕ). IsSiteTo graph.lines K.Jump at t) to line),
-            keeping (body (V.Ijump which rs1 imm label)) refl went,
+            keeping (body (V.Ijump which rs1 imm label)) refl refl went,
           ),
         )
     computed_moves part h ordered (body (V.Icall rs1 imm label)) is stage k rd here e fact went =
@@ -321,27 +330,30 @@ module _ (p : Profile) (profile : IsProfile p) (image : Contents) (graph : Graph
         subst (λ (b : ℕ). Contains graph.lines (Edge b v)) (sym same)
         (subst (λ (t : ℕ). Contains graph.lines (Edge at t)) (sym e) (edge_listed p profile image graph bytes formed at place is to edge))
 
+    full : IsFullPlace place
+    full = full_place p profile image graph bytes formed place at (place_facts p profile image graph bytes formed at place is)
+
     branched : (op : BranchOp) (rs1 rs2 imm v to : ℕ) → v ≡ to → BranchFact p part (loaded image) at pending r h place k to → WentTo v → Moved (Branch op rs1 rs2 imm) v
     branched op rs1 rs2 imm v to e (next, inl (over, kept)) went =
         (inl (inr (inl (omega arith))), inner at pending r newer v place is stage (k + 2) (omega arith) (e ∙ over) kept went)
     branched op rs1 rs2 imm v to e (next, inr (inl call, keeps)) went =
         let low = call.low in let high = call.high in let there = call.here in (
           inl (inr (inr (omega arith, omega arith, ap code (e ∙ there) ∙ stands call.word Ecall call.is))),
-          keeping at pending r newer v place keeps went,
+          keeping at pending r newer v place full keeps went,
         )
     branched op rs1 rs2 imm v to e (next, inr (inr edge, keeps)) went =
-        let first = edge.0 in (inr (same_edge v to e h.pc (omega arith) edge.1), keeping at pending r newer v place keeps went)
+        let first = edge.0 in (inr (same_edge v to e h.pc (omega arith) edge.1), keeping at pending r newer v place full keeps went)
 
     jumped : (imm v to : ℕ) → v ≡ to → JumpFact p part (loaded image) at pending r h place k to → WentTo v → Moved (Jal 0 imm) v
     jumped imm v to e (inl low) went =
         let start = low.0 in let end = low.1 in
         inl (refl, inl (omega arith, omega arith), low_sites at pending r newer v (omega arith) place is stage went)
     jumped imm v to e (inr (inl first, edge, keeps)) went =
-        inl (refl, inr (inl (same_edge v to e h.pc (omega arith) edge)), keeping at pending r newer v place keeps went)
+        inl (refl, inr (inl (same_edge v to e h.pc (omega arith) edge)), keeping at pending r newer v place full keeps went)
     jumped imm v to e (inr (inr (second, branch, is, over), edge, keeps)) went =
         let before : h.pc - 4 ≡ at + 4 * 0 = omega arith in
         let leads : LeadsOver (code (h.pc - 4)) = subst LeadsOver (sym (ap code before ∙ stands 0 branch is)) over in
-        inl (refl, inr (inr (leads, same_edge v to e (h.pc - 4) (omega arith) edge)), keeping at pending r newer v place keeps went)
+        inl (refl, inr (inr (leads, same_edge v to e (h.pc - 4) (omega arith) edge)), keeping at pending r newer v place full keeps went)
 
     pub moves : (i : Instr) → Fact p part (loaded image) at pending r h place k i → (exec p i h s).turn ≡ Ran → WentTo (exec p i h s).hart.pc →
         Moved i (exec p i h s).hart.pc

@@ -49,9 +49,9 @@ use Rattle.cfi_rules.specs.Split.{code_words, is_handler, place_at}
 use Rattle.cfi_rules.proofs.Bytes.{loaded_small}
 use Rattle.cfi_rules.proofs.Labels.{may_stand, place_stands}
 use Rattle.cfi_rules.proofs.ListedRuns.{act_listed, admitted}
-use Rattle.cfi_rules.proofs.Moves.{Stage, arrive}
+use Rattle.cfi_rules.proofs.Moves.{full_place, Stage, arrive}
 use Rattle.cfi_rules.proofs.Places.{PlaceFacts, at_opening, handler_is, nothing_inside, place_facts, prologue}
-use Rattle.cfi_rules.proofs.Safety.{begins, changed_above, first_call, most_pending, past}
+use Rattle.cfi_rules.proofs.Safety.{begins, changed_above, first_call, most_pending, past, pointed}
 use Rattle.cfi_confined.specs.Confined.{ConfinedAlong, IsAllowed, IsHandler, MayEcall, MayStop, Moves, Pending, WritesOwn, fetched, with_pending}
 use Rattle.cfi_confined.specs.Laws.{WellFormedIsConfined}
 use Rattle.cfi_confined.proofs.Moves.{Went, moves}
@@ -173,7 +173,8 @@ module _ (p : Profile) (profile : IsProfile p) (image : Contents) (graph : Graph
     pub there : Here p (part_of hart) (loaded image) w.at pending w.regs h w.place
     there =
         let laid = laid_out p profile in let parts = laid.most in let low = stand.low in let high = stand.high in
-        place_here p (part_of hart) (loaded image) w.place w.at pending w.regs h s.memory (omega arith) (omega arith) may w.inside
+        place_here p (part_of hart) (loaded image) w.place w.at pending w.regs h s.memory (omega arith) (omega arith)
+        (full_place p profile image graph bytes formed w.place w.at facts) may w.inside
 
     abbrev ItsOutcome : After → Type 0
     ItsOutcome a = Outcome p (part_of hart) (loaded image) s.memory w.place w.at pending w.regs a
@@ -222,7 +223,7 @@ module _ (p : Profile) (profile : IsProfile p) (image : Contents) (graph : Graph
           stage = to.stage;
           held = c.kept.held;
           inside = begins p profile image graph bytes formed (part_of hart) to.place newer left.hart left.shared.memory to.is to.stage (λ o. absurd (to.later o))
-              (past p profile image graph bytes formed x3);
+              (past p profile image graph bytes formed (pointed p profile image graph bytes formed x3));
         })
     outcome (ends how kept) = stops w.at h.pc left.turn (Onward left) w.place facts word how
 

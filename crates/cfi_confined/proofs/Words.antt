@@ -20,6 +20,7 @@ use Rattle.rv_code.specs.Step.{address, offset}
 use Rattle.cfi_unit.specs.declared.place.Place.{Place}
 use Rattle.cfi_unit.specs.declared.place.Place.TheVariants.{Handler as handler, Opening as opening, Closing as closing, Body as body}
 use Rattle.cfi_unit.specs.declared.members.Member.{Member}
+use Rattle.cfi_unit.specs.declared.mask.Mask.TheVariants.{Shifts, Short, Long}
 use Rattle.cfi_unit.specs.declared.target_word.TargetWord.{TargetWord}
 use Rattle.cfi_unit.specs.declared.target_word.TargetWord.TheVariants.{First}
 use Rattle.cfi_unit.specs.declared.unit.SystemOp.TheVariants as S
@@ -27,13 +28,14 @@ use Rattle.cfi_unit.specs.declared.unit.Unit as U
 use Rattle.cfi_unit.specs.declared.unit.Unit.TheVariants as V
 use Rattle.cfi_unit.specs.Flow as F
 use Rattle.cfi_unit.specs.Flow.{flow_of}
-use Rattle.cfi_unit.specs.InPlace.{InWord, only, InBranch, branch_test, branch_jump, InGuarded, guarded_load, guarded_test, guarded_other, guarded_call, InStores, stores_addi, stores_slli, stores_srli, stores_store, InPush, push_slli, push_bne, push_deep, push_auipc, push_addi, push_store, push_grow, InCall, call_push, call_jump, InCheck, check_addi, check_andi, check_lui, check_sub, check_srli, check_region, check_outside, check_lw, check_label, check_opcode, check_word, check_other, InIjump, ijump_check, ijump_jump, InIcall, icall_check, icall_push, icall_jump, InReturn, return_ld, return_addi, return_beq, return_other, return_jump, InOpening, opening_lone, opening_own, opening_call, InClosing, closing_number, closing_ecall, InUnit, InPlace}
+use Rattle.cfi_unit.specs.InPlace.{InWord, only, InBranch, branch_test, branch_jump, InGuarded, guarded_load, guarded_test, guarded_other, guarded_call, InStores, stores_mask, stores_store, shifts_addi, shifts_slli, shifts_srli, InPush, push_slli, push_bne, push_deep, push_auipc, push_addi, push_store, push_grow, InCall, call_push, call_jump, InCheck, check_addi, check_andi, check_lui, check_sub, check_srli, check_region, check_outside, check_lw, check_label, check_opcode, check_word, check_other, InIjump, ijump_check, ijump_jump, InIcall, icall_check, icall_push, icall_jump, InReturn, return_ld, return_addi, return_beq, return_other, return_jump, InOpening, opening_lone, opening_own, opening_call, InClosing, closing_number, closing_ecall, InUnit, InPlace}
 use Rattle.cfi_unit.specs.Leads.{HasLabel, destination}
 use Rattle.cfi_unit.specs.Members.{member_instr}
 use Rattle.cfi_unit.specs.Place.{place_instrs, place_size}
 use Rattle.cfi_unit.specs.Prologue.{OPENING, call_at, set_up}
 use Rattle.cfi_unit.specs.Shadow.{slot, MOST_PENDING}
 use Rattle.cfi_unit.specs.UnitLaw.{MayStand}
+use Rattle.cfi_unit.specs.Templates.{is_full}
 use Rattle.cfi_unit.specs.UnitWords.{BAD_TARGET, BAD_RETURN, DEEP, CheckFits, Fits, Reaches, check, is_plain, jump, jump_offset, near_offset, push, skip_offset}
 use Rattle.cfi_unit.proofs.Context.{slice_get-back, slice_get-front}
 use Rattle.cfi_unit.proofs.GuardedWords.{test_leads, unit_call, unit_jump, unit_load, unit_test}
@@ -41,6 +43,7 @@ use Rattle.cfi_unit.proofs.MemberWords.{member_at}
 use Rattle.cfi_unit.proofs.PlaceWords.{lone_word, own_word}
 use Rattle.cfi_unit.proofs.Parts.{call_site, set_up_length}
 use Rattle.cfi_unit.proofs.StoreUnit.{member_address}
+use Rattle.cfi_rules.proofs.Leading.{IsFullPlace}
 use Rattle.cfi_rules.specs.Rules.{edge_of}
 use Rattle.cfi_confined.specs.Confined.{IsHandler, LeadsOver}
 
@@ -202,15 +205,16 @@ module _ (p : Profile) (part : ℕ) (image : Memory) (at : ℕ) (pending : List 
         here (body (V.Guarded ns)) (2 * length ns) (jump (at + 8 * length ns) BAD_TARGET) (unit_jump ns at) e (inl (refl, inl (halted _ BAD_TARGET jumps (lit≤ tt, lit< tt))))
     guarded_here ns fits (guarded_call e x3 x17 listed) = here (body (V.Guarded ns)) (2 * length ns + 1) Ecall (unit_call ns at) e (inr refl)
 
-    stores_here : (rs1 imm : ℕ) (members : List Member) {n : ℕ} → Fits (V.Stores rs1 imm members) at → InStores part at (length members) n h → Here (body (V.Stores rs1 imm members))
-    stores_here rs1 imm members fits (stores_addi e x3) = here (body (V.Stores rs1 imm members)) 0 _ refl (omega arith) (inr refl)
-    stores_here rs1 imm members fits (stores_slli e x3) = here (body (V.Stores rs1 imm members)) 1 _ refl e (inr refl)
-    stores_here rs1 imm members fits (stores_srli e x3 masked) = here (body (V.Stores rs1 imm members)) 2 _ refl e (inr refl)
+    stores_here : (rs1 imm : ℕ) (members : List Member) {n : ℕ} → Fits (V.Stores Shifts rs1 imm members) at → InStores Shifts part at (length members) n h →
+        Here (body (V.Stores Shifts rs1 imm members))
+    stores_here rs1 imm members fits (stores_mask (shifts_addi e x3)) = here (body (V.Stores Shifts rs1 imm members)) 0 _ refl (omega arith) (inr refl)
+    stores_here rs1 imm members fits (stores_mask (shifts_slli e x3)) = here (body (V.Stores Shifts rs1 imm members)) 1 _ refl e (inr refl)
+    stores_here rs1 imm members fits (stores_mask (shifts_srli e x3 masked)) = here (body (V.Stores Shifts rs1 imm members)) 2 _ refl e (inr refl)
     stores_here rs1 imm members fits (stores_store k below e x3 masked) =
         let (m, (is, there)) = member_at members k fits.2.each below in
         let near = is.1 in
         let to : address h 31 m.distance ≡ h.regs 31 + m.distance = member_address (h.regs 31) (h.regs 31) m.distance refl masked near in
-        here (body (V.Stores rs1 imm members)) (suc (suc (suc k))) (member_instr m) there (omega arith) (inr refl, inr (omega arith))
+        here (body (V.Stores Shifts rs1 imm members)) (suc (suc (suc k))) (member_instr m) there (omega arith) (inr refl, inr (omega arith))
 
     return_here : {site n : ℕ} (older : List ℕ) → pending ≡ site ∷ older → Fits V.Return at → InReturn part at (r 1) site n h → Here (body V.Return)
     return_here older new fits (return_ld e x3 x1) = here (body V.Return) 0 _ refl (omega arith) (inl (omega arith))
@@ -255,24 +259,31 @@ module _ (p : Profile) (part : ℕ) (image : Memory) (at : ℕ) (pending : List 
     any_return_here m [] none fits i = absurd i
     any_return_here m (site ∷ older) new fits i = return_here older new fits i
 
-    unit_here : (unit : U.Unit) (m : Memory) → Fits unit at → InUnit part image unit at pending r h m → Here (body unit)
-    unit_here (V.Gate label) m fits i = word_here (V.Gate label) _ refl (inr refl) i
-    unit_here (V.Plain instr) m fits i = word_here (V.Plain instr) instr refl (quiet_fact (body (V.Plain instr)) 0 instr (plain_quiet instr fits.1) (inr refl)) i
-    unit_here (V.Branch op rs1 rs2 target) m fits i = branch_here op rs1 rs2 target fits i
-    unit_here (V.Near op rs1 rs2 target) m fits i =
+    unit_here : (unit : U.Unit) (m : Memory) → is_full unit ≡ true → Fits unit at → InUnit part image unit at pending r h m → Here (body unit)
+    unit_here (V.Gate label) m full fits i = word_here (V.Gate label) _ refl (inr refl) i
+    unit_here (V.Plain instr) m full fits i = word_here (V.Plain instr) instr refl (quiet_fact (body (V.Plain instr)) 0 instr (plain_quiet instr fits.1) (inr refl)) i
+    unit_here (V.Branch op rs1 rs2 target) m full fits i = branch_here op rs1 rs2 target fits i
+    unit_here (V.Near op rs1 rs2 target) m full fits i =
         word_here (V.Near op rs1 rs2 target) _ refl (inr refl, inr (inr (refl, ap Some (sym (first 13 (near_offset at target * 2) target fits.2))), refl)) i
-    unit_here (V.Jump target) m fits i =
+    unit_here (V.Jump target) m full fits i =
         word_here (V.Jump target) _ refl (inl (refl, inr (inl refl, ap Some (sym (first 21 (jump_offset at target * 2) target fits.1)), refl))) i
-    unit_here V.Stop m fits i =
+    unit_here V.Stop m full fits i =
         word_here V.Stop _ refl (inl (refl, inl (halted _ BAD_TARGET (first 21 (jump_offset at BAD_TARGET * 2) BAD_TARGET fits) (lit≤ tt, lit< tt)))) i
-    unit_here (V.System S.Ecall) m fits i = word_here (V.System S.Ecall) _ refl (inr refl) i
-    unit_here (V.System S.Ebreak) m fits i = word_here (V.System S.Ebreak) _ refl (inr refl) i
-    unit_here (V.Guarded ns) m fits i = guarded_here ns fits i
-    unit_here (V.Stores rs1 imm members) m fits i = stores_here rs1 imm members fits i
-    unit_here (V.Call target) m fits i = call_here target fits i
-    unit_here (V.Ijump which rs1 imm label) m fits i = ijump_here which rs1 imm label fits i
-    unit_here (V.Icall rs1 imm label) m fits i = icall_here rs1 imm label fits i
-    unit_here V.Return m fits i = any_return_here m pending refl fits i
+    unit_here (V.System S.Ecall) m full fits i = word_here (V.System S.Ecall) _ refl (inr refl) i
+    unit_here (V.System S.Ebreak) m full fits i = word_here (V.System S.Ebreak) _ refl (inr refl) i
+    unit_here (V.Guarded ns) m full fits i = guarded_here ns fits i
+    unit_here (V.Stores Shifts rs1 imm members) m full fits i = stores_here rs1 imm members fits i
+    unit_here (V.Stores Short rs1 imm members) m full fits i = absurd (cc)
+    unit_here (V.Stores Long rs1 imm members) m full fits i = absurd (cc)
+    unit_here (V.Call target) m full fits i = call_here target fits i
+    unit_here (V.Ijump which rs1 imm label) m full fits i = ijump_here which rs1 imm label fits i
+    unit_here (V.Icall rs1 imm label) m full fits i = icall_here rs1 imm label fits i
+    unit_here V.Return m full fits i = any_return_here m pending refl fits i
+    unit_here (V.LinkCall target) m full fits i = absurd (cc)
+    unit_here V.Enter m full fits i = absurd (cc)
+    unit_here (V.LeanIjump rs1 imm label) m full fits i = absurd (cc)
+    unit_here (V.LeanIcall rs1 imm label) m full fits i = absurd (cc)
+    unit_here V.LeafReturn m full fits i = absurd (cc)
 
     closing_here : InClosing at h → Here closing
     closing_here (closing_number e) = here closing 0 _ refl (omega arith) (inr tt)
@@ -327,10 +338,10 @@ module _ (p : Profile) (is : IsProfile p) (part : ℕ) (low : part < 2 ^ 32) (im
   opening_here (opening_call v i) = calling_here i
 
 pub place_here : (p : Profile) (part : ℕ) (image : Memory) (place : Place) (at : ℕ) (pending : List ℕ) (r : Registers) (h : Hart) (m : Memory) → at < 2 ^ 32 →
-    part < 2 ^ 32 → MayStand p place at pending → InPlace p part image place at pending r h m → Here p part image at pending r h place
-place_here p part image handler at pending r h m small low may i = handler_here p part image at pending r h small low i
-place_here p part image (opening entry) at [] r h m small low may i =
+    part < 2 ^ 32 → IsFullPlace place → MayStand p place at pending → InPlace p part image place at pending r h m → Here p part image at pending r h place
+place_here p part image handler at pending r h m small low full may i = handler_here p part image at pending r h small low i
+place_here p part image (opening entry) at [] r h m small low full may i =
     subst (λ (a : ℕ). Here p part image a [] r h (opening entry)) (sym may.1) (opening_here p may.0 part low image r h entry may.3 i)
-place_here p part image (opening entry) at (site ∷ pending) r h m small low may i = let none = may.2 in absurd (cc)
-place_here p part image closing at pending r h m small low may i = closing_here p part image at pending r h small low i
-place_here p part image (body unit) at pending r h m small low may i = unit_here p part image at pending r h small low unit m may.0 i
+place_here p part image (opening entry) at (site ∷ pending) r h m small low full may i = let none = may.2 in absurd (cc)
+place_here p part image closing at pending r h m small low full may i = closing_here p part image at pending r h small low i
+place_here p part image (body unit) at pending r h m small low full may i = unit_here p part image at pending r h small low unit m full may.0 i

@@ -11,6 +11,7 @@ use Rattle.cfi_map.specs.GraphAtMap.{gate, gate_to, word}
 use Rattle.cfi_map.specs.Groups.{base_of}
 use Rattle.cfi_map.specs.LabelOf.{site_label}
 use Rattle.cfi_map.specs.Placement.{whole_at}
+use Rattle.cfi_unit.specs.declared.mask.Mask.TheVariants.{Shifts}
 use Rattle.cfi_unit.specs.declared.members.Member.{Member}
 use Rattle.cfi_unit.specs.declared.unit.Unit as U
 use Rattle.cfi_unit.specs.declared.unit.Unit.TheVariants as V
@@ -53,7 +54,7 @@ module _ (m : Choice) (image : Contents) (of : IsImageOf m image) (k : ℕ) (pla
   mask = field (low_at m k)
 
   abbrev stores : U.Unit
-  stores = V.Stores base mask (members_from member k (suc (behind m k)))
+  stores = V.Stores Shifts base mask (members_from member k (suc (behind m k)))
 
   unit_is : unit_here m k ≡ stores
   unit_is =

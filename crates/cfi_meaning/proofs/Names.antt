@@ -14,6 +14,7 @@ use Rattle.cfi_map.specs.GraphAtMap.{gate_to, words_at}
 use Rattle.cfi_map.specs.Groups.{base_of, is_store}
 use Rattle.cfi_map.specs.LabelOf.{site_label}
 use Rattle.cfi_map.specs.Placement.{whole_at}
+use Rattle.cfi_unit.specs.declared.mask.Mask.TheVariants.{Shifts}
 use Rattle.cfi_unit.specs.declared.target_word.TargetWord.{TargetWord}
 use Rattle.cfi_unit.specs.declared.unit.Unit.TheVariants as V
 use Rattle.cfi_rules.specs.Rules.{jump_word}
@@ -87,7 +88,7 @@ base_free other store none = let is = store.is in absurd (cc)
 
 -- the unit of a group's first store
 pub stores_unit : (calls : Option (List ℕ)) (kind : ItemKind) (i : Instr) (whole : Bool) (target : ℕ) (which : TargetWord) (label : ℕ) (group : Group) → is_store kind ≡ true → IsStore i →
-    unit_of calls kind i whole target which label group ≡ V.Stores (base_of (Some i)) group.mask group.members
+    unit_of calls kind i whole target which label group ≡ V.Stores Shifts (base_of (Some i)) group.mask group.members
 stores_unit calls is.Store (I.Store op rs1 rs2 imm) whole target which label group store here = refl
 stores_unit calls is.Store other whole target which label group store here = let e = here.is in absurd (cc)
 stores_unit calls other i whole target which label group store here = absurd (cc)

@@ -13,12 +13,16 @@ use Rattle.obj_program.specs.Program.{count, is_end, item_of}
 use Rattle.cfi_map.specs.GraphAtMap.{gate, word}
 use Rattle.cfi_unit.specs.declared.unit.Unit as U
 use Rattle.cfi_unit.specs.Stand.{Stand}
+use Rattle.cfi_unit.specs.Templates.{is_full}
 use Rattle.cfi_unit.specs.UnitWords.{Fits, instrs_of, word_count}
+use Rattle.cfi_unit.proofs.EffectRows.{site_asked}
+use Rattle.cfi_unit.proofs.Flows.{full_asks}
 use Rattle.cfi_runs.specs.Own.{Own, OwnAfter, own_step}
 use Rattle.cfi_runs.specs.OwnRuns.{OwnRuns, words_along}
 use Rattle.cfi_runs.specs.Tame.{IsTame, NamesNoReserved, TameStep}
 use Rattle.cfi_rules.specs.Split.{code_words, unit_at}
 use Rattle.cfi_rules.proofs.Places.{unit_facts}
+use Rattle.cfi_rules.proofs.RuleFacts.{unit_full}
 use Rattle.cfi_rules.proofs.Standing.{unit_stands}
 use Rattle.cfi_writer.specs.Accepted.{IsAccepted}
 use Rattle.cfi_writer.specs.Units.{Choice, behind, is_later_at, lead, lead_unit, unit_here}
@@ -90,6 +94,10 @@ module _ (m : Choice) (image : Contents) (of : IsImageOf m image) where
       let here = unit_facts p of.accepted.profile image (written_graph m image of) of.bytes (formed m image of) a u e in
       (here.begins.fits, unit_stands p laid image of.bytes a u here)
 
+  -- and is one of code whose callers save sites
+  full_here : (a : ℕ) (u : U.Unit) → unit_at m.layout.profile (code_words image.code) a ≡ Some u → is_full u ≡ true
+  full_here a u e = unit_full m.layout.profile image (written_graph m image of) (formed m image of) a u e
+
   pub unit_written : (k : ℕ) → k < count m.layout.program → is_later_at m k ≡ false →
       unit_at m.layout.profile (code_words image.code) (word m.layout k) ≡ Some (unit_here m k)
   unit_written k below first =
@@ -107,13 +115,22 @@ module _ (m : Choice) (image : Contents) (of : IsImageOf m image) where
       (tame : IsTame (loaded image) (unit_here m k) o.pending o.regs) where
     tame_step : TameStep (loaded image) (unit_here m k) (at_word m k o)
     tame_step =
-        let here = stands_here (word m.layout k) (unit_here m k) (unit_written k place.below first) in
-        record { fits = here.0; stands = here.1; free = place_free m of.accepted k place first; some = some; tame = tame }
+        let written = unit_written k place.below first in
+        let here = stands_here (word m.layout k) (unit_here m k) written in
+        record {
+          fits = here.0;
+          stands = here.1;
+          free = place_free m of.accepted k place first;
+          some = site_asked (unit_here m k) o.pending some;
+          asks = λ r same. full_asks (unit_here m k) r (full_here (word m.layout k) (unit_here m k) written);
+          tame = tame;
+        }
 
     lead_step : (j : ℕ) (u : U.Unit) → slice_get (lead m k) j ≡ Some u → Quiet (loaded image) u (record o { pc = o.pc + 4 * j })
     lead_step j u get =
         let (label, led, same) = from_lead m k j u get in
-        let here = stands_here (gate m.layout k + 4 * j) u (lead_written k j u place.below get) in
+        let written = lead_written k j u place.below get in
+        let here = stands_here (gate m.layout k + 4 * j) u written in
         let there : gate m.layout k + 4 * j ≡ o.pc + 4 * j = ap (λ (a : ℕ). a + 4 * j) (sym at) in
         record {
           label = label;
@@ -122,7 +139,8 @@ module _ (m : Choice) (image : Contents) (of : IsImageOf m image) where
             fits = subst (λ (a : ℕ). Fits u a) there here.0;
             stands = subst (λ (a : ℕ). Stand (loaded image) a (instrs_of u a)) there here.1;
             free = subst NamesNoReserved same (lead_free label);
-            some = some;
+            some = site_asked u o.pending some;
+            asks = λ r alike. full_asks u r (full_here (gate m.layout k + 4 * j) u written);
             tame = subst (λ (v : U.Unit). IsTame (loaded image) v o.pending o.regs) same (lead_tame (loaded image) label o.pending o.regs);
           };
         }

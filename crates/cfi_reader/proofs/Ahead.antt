@@ -5,6 +5,8 @@ use Rattle.std.specs.List.{AllByRecursion}
 use Rattle.std.proofs.lemmas.Bool.{and_parts, leb-false}
 use Rattle.rv_instr.specs.declared.instr.BranchOp.{BranchOp}
 use Rattle.rv_code.specs.Decode.{decoded}
+use Rattle.cfi_unit.specs.declared.mask.Mask.{Mask}
+use Rattle.cfi_unit.specs.declared.mask.Mask.TheVariants.{Shifts, Short, Long}
 use Rattle.cfi_unit.specs.declared.pattern.Pattern.{Pattern}
 use Rattle.cfi_unit.specs.declared.pattern.Pattern.TheVariants as P
 use Rattle.cfi_unit.specs.declared.pattern.End.{End}
@@ -29,7 +31,7 @@ use Rattle.cfi_unit.proofs.ShapedUnits.{shape_among, unit_opens}
 -- a unit that is one whatever follows
 alone_ends : (end : End) (rest : List ℕ) (here : ℕ) → is_alone end ≡ true → goes_on end rest here ≡ false
 alone_ends D.Over rest here e = absurd (cc)
-alone_ends D.Stores rest here e = absurd (cc)
+alone_ends (D.Stores mask) rest here e = absurd (cc)
 alone_ends end rest here e = refl
 
 pub alone_precedes : (u : U.Unit) (at : ℕ) (rest : List ℕ) → Fits u at → is_alone ((shape_of u at).end) ≡ true → may_precede u at rest ≡ true
@@ -72,12 +74,14 @@ near_further op rs1 rs2 target at here word f e =
     }
 
 -- one store more
-one_more : (n : ℕ) → stores n ++ P.Member ∷ [] ≡ stores (suc n)
-one_more n = ap (λ (ps : List Pattern). mask ++ ps) (push_member n)
-  where
-    push_member : (n : ℕ) → replicate n P.Member ++ P.Member ∷ [] ≡ replicate (suc n) P.Member
-    push_member zero = refl
-    push_member (suc n) = ap (λ (ps : List Pattern). P.Member ∷ ps) (push_member n)
+push_member : (n : ℕ) → replicate n P.Member ++ P.Member ∷ [] ≡ replicate (suc n) P.Member
+push_member zero = refl
+push_member (suc n) = ap (λ (ps : List Pattern). P.Member ∷ ps) (push_member n)
+
+one_more : (m : Mask) (n : ℕ) → stores m n ++ P.Member ∷ [] ≡ stores m (suc n)
+one_more Shifts n = ap (λ (ps : List Pattern). mask Shifts ++ ps) (push_member n)
+one_more Short n = ap (λ (ps : List Pattern). mask Short ++ ps) (push_member n)
+one_more Long n = ap (λ (ps : List Pattern). mask Long ++ ps) (push_member n)
 
 each_more : (members : List Member) → AllByRecursion IsMember members → AllByRecursion IsMember (members ++ FILLER ∷ [])
 each_more [] each = ((lit< tt, lit< tt), tt)
@@ -87,27 +91,27 @@ no_other : (a b : Bool) → (a || b) ≡ false → (a ≡ false) × (b ≡ false
 no_other true b e = absurd (cc)
 no_other false b e = (refl, e)
 
-stores_further : (rs1 imm : ℕ) (members : List Member) (at here word : ℕ) → Fits (V.Stores rs1 imm members) at →
-    (nat_le MOST_MEMBERS (length members) || is_none (member_of (decoded word))) ≡ false → Further (V.Stores rs1 imm members) at word here
-stores_further rs1 imm members at here word f e =
-    let u : U.Unit = V.Stores rs1 imm members in
+stores_further : (mask : Mask) (rs1 imm : ℕ) (members : List Member) (at here word : ℕ) → Fits (V.Stores mask rs1 imm members) at →
+    (nat_le MOST_MEMBERS (length members) || is_none (member_of (decoded word))) ≡ false → Further (V.Stores mask rs1 imm members) at word here
+stores_further mask rs1 imm members at here word f e =
+    let u : U.Unit = V.Stores mask rs1 imm members in
     let two = no_other (nat_le MOST_MEMBERS (length members)) (is_none (member_of (decoded word))) e in
     let below : length members < 16 = leb-false MOST_MEMBERS (length members) two.0 in
     let more : List Member = members ++ FILLER ∷ [] in
     let count : length more ≡ suc (length members) = (let n : length more ≡ length members + 1 = length-append members (FILLER ∷ []) in omega arith) in
-    let longer : U.Unit = V.Stores rs1 imm more in
-    let fits : Fits longer at = (f.0, f.1, record { some = omega (arith, count); most = omega (arith, count, below); each = each_more members f.2.each }) in
-    let words : stores (length members) ++ P.Member ∷ [] ≡ (shape_of longer at).words = one_more (length members) ∙ ap stores (sym count) in
+    let longer : U.Unit = V.Stores mask rs1 imm more in
+    let fits : Fits longer at = (f.0, f.1, record { some = omega (arith, count); most = omega (arith, count, below); each = each_more members f.2.each }, f.3) in
+    let words : stores mask (length members) ++ P.Member ∷ [] ≡ (shape_of longer at).words = one_more mask (length members) ∙ ap (stores mask) (sym count) in
     record {
       shaped = shape_of longer at;
       by = P.Member;
       among = shape_among longer at fits;
       opens = subst (λ (ps : List Pattern). Opens ps (words_of u at) at (P.Member ∷ [])) words
-          (opens_more (stores (length members)) (words_of u at) at [] (P.Member ∷ []) (unit_opens u at f));
+          (opens_more (stores mask (length members)) (words_of u at) at [] (P.Member ∷ []) (unit_opens u at f));
       fits = not_false (decodes_to (has_form P.Member here) (decoded word)) (sym (is_member_by here (decoded word)) ∙ two.1);
     }
 
 pub goes_further : (u : U.Unit) (at here word : ℕ) (rest : List ℕ) → Fits u at → may_precede u at (word ∷ rest) ≡ false → Further u at word here
 goes_further (V.Near op rs1 rs2 target) at here word rest f e = near_further op rs1 rs2 target at here word f e
-goes_further (V.Stores rs1 imm members) at here word rest f e = stores_further rs1 imm members at here word f e
+goes_further (V.Stores mask rs1 imm members) at here word rest f e = stores_further mask rs1 imm members at here word f e
 goes_further u at here word rest f e = absurd (cc)

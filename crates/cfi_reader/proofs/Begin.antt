@@ -5,7 +5,7 @@ use Rattle.std.proofs.lemmas.Bool.{and_parts, cases_Bool, eqb-true, eq-eqb}
 use Rattle.std.proofs.lemmas.Option.{same_Some}
 use Rattle.rv_instr.specs.InRange.{IsInstr}
 use Rattle.rv_instr.specs.declared.instr.Instr.{Instr}
-use Rattle.rv_instr.specs.declared.instr.Instr.TheVariants.{Jal, Load, Shift, Ecall, Ebreak}
+use Rattle.rv_instr.specs.declared.instr.Instr.TheVariants.{Jal, Jalr, Load, Shift, Ecall, Ebreak}
 use Rattle.rv_instr.specs.declared.instr.ShiftOp.TheVariants.{Slli}
 use Rattle.rv_instr.specs.declared.instr.LoadOp.TheVariants.{Ld}
 use Rattle.rv_code.specs.Decode.{decoded}
@@ -24,7 +24,7 @@ use Rattle.cfi_unit.proofs.LedBack.{led_back}
 use Rattle.cfi_unit.proofs.Jumps.{is_jump_instr}
 use Rattle.cfi_reader.proofs.Halts.{halt_by, handler_reached}
 use Rattle.cfi_reader.specs.Left.{Reads, same}
-use Rattle.cfi_reader.specs.FirstStep.{opens_call, opens_return}
+use Rattle.cfi_reader.specs.FirstStep.{is_leaf_return, opens_call, opens_return}
 use Rattle.cfi_reader.proofs.Steps.{same_is}
 
 -- what is left of those whose first pattern a word has
@@ -51,6 +51,9 @@ FIRSTS =
     ∷ is (Load Ld 31 3 MINUS_EIGHT)
     ∷ P.Address
     ∷ P.Number
+    ∷ P.Link
+    ∷ P.Masked
+    ∷ is (Jalr 0 1 0)
     ∷ []
 
 -- what each of some patterns is told to be
@@ -189,6 +192,10 @@ abbrev pub is_return : Instr → Bool
 is_return (Load op rd rs1 imm) = opens_return op rd rs1 imm
 is_return other = false
 
+abbrev pub is_leaf : Instr → Bool
+is_leaf (Jalr rd rs1 imm) = is_leaf_return rd rs1 imm
+is_leaf other = false
+
 halt_is : (i : Instr) (at : ℕ) → IsInstr i → is_halt i at ≡ true → i ≡ jump at BAD_TARGET
 halt_is (Jal rd imm) at range e =
     let two = and_parts (rd == 0) (led_to at imm == BAD_TARGET) e in
@@ -218,6 +225,13 @@ return_is (Load Ld rd rs1 imm) e =
     let b = and_parts (rs1 == 3) (imm == MINUS_EIGHT) a.1 in
     rw (eqb-true rd 31 a.0, eqb-true rs1 3 b.0, eqb-true imm MINUS_EIGHT b.1) refl
 return_is i e = absurd (cc)
+
+leaf_is : (i : Instr) → is_leaf i ≡ true → i ≡ Jalr 0 1 0
+leaf_is (Jalr rd rs1 imm) e =
+    let a = and_parts (rd == 0) ((rs1 == 1) && (imm == 0)) e in
+    let b = and_parts (rs1 == 1) (imm == 0) a.1 in
+    rw (eqb-true rd 0 a.0, eqb-true rs1 1 b.0, eqb-true imm 0 b.1) refl
+leaf_is i e = absurd (cc)
 
 -- a word is one word, by a test of its instruction
 code_told : (word : ℕ) (i j : Instr) (b : Bool) → IsWordOf word i → decoded word ≡ Some i → IsInstr j → (b ≡ true → i ≡ j) → (i ≡ j → b ≡ true) →
@@ -257,6 +271,9 @@ answers i at =
     ∷ is_return i
     ∷ has_form P.Address at i
     ∷ has_form P.Number at i
+    ∷ has_form P.Link at i
+    ∷ has_form P.Masked at i
+    ∷ is_leaf i
     ∷ []
 
 halt_test : (at : ℕ) → Reaches at BAD_TARGET → is_halt (jump at BAD_TARGET) at ≡ true
@@ -273,7 +290,8 @@ agrees word at i place small is =
     let ecall = code_told word i Ecall (is_ecall i) of is tt (ecall_is i) (λ e. ap is_ecall e) in
     let ebreak = code_told word i Ebreak (is_ebreak i) of is tt (ebreak_is i) (λ e. ap is_ebreak e) in
     let push = code_told word i (Shift Slli 30 3 48) (is_push i) of is (lit< tt, lit< tt, lit< tt) (push_is i) (λ e. ap is_push e) in
-    let return = code_told word i (Load Ld 31 3 MINUS_EIGHT) (is_return i) of is (lit< tt, lit< tt, lit< tt) (return_is i) (λ e. ap is_return e) in (
+    let return = code_told word i (Load Ld 31 3 MINUS_EIGHT) (is_return i) of is (lit< tt, lit< tt, lit< tt) (return_is i) (λ e. ap is_return e) in
+    let leaf = code_told word i (Jalr 0 1 0) (is_leaf i) of is (lit< tt, lit< tt, lit< tt) (leaf_is i) (λ e. ap is_leaf e) in (
       ap (decodes_to (has_form P.Gate at)) is,
       (
         ap (decodes_to (has_form P.Plain at)) is,
@@ -289,7 +307,7 @@ agrees word at i place small is =
                   ap (decodes_to (has_form P.Near at)) is,
                   (
                     ap (decodes_to (has_form P.Skip at)) is,
-                    (push, (return, (ap (decodes_to (has_form P.Address at)) is, (ap (decodes_to (has_form P.Number at)) is, tt)))),
+                    (push, (return, (ap (decodes_to (has_form P.Address at)) is, (ap (decodes_to (has_form P.Number at)) is, (ap (decodes_to (has_form P.Link at)) is, (ap (decodes_to (has_form P.Masked at)) is, (leaf, tt))))))),
                   ),
                 ),
               ),
@@ -301,13 +319,14 @@ agrees word at i place small is =
 
 -- and what is told of a word that is no instruction
 pub none_agrees : (word at : ℕ) → InCode at 1 → decoded word ≡ None →
-    Agrees FIRSTS (false ∷ false ∷ false ∷ false ∷ false ∷ false ∷ false ∷ false ∷ false ∷ false ∷ false ∷ false ∷ []) word at
+    Agrees FIRSTS (false ∷ false ∷ false ∷ false ∷ false ∷ false ∷ false ∷ false ∷ false ∷ false ∷ false ∷ false ∷ false ∷ false ∷ false ∷ []) word at
 unfolding Agrees
 none_agrees word at place is =
     let halt : matches (P.Halt BAD_TARGET) word at ≡ false =
     sym (halt_by BAD_TARGET word at place refl) ∙ code_none word (jump at BAD_TARGET) is (is_jump_instr 0 at BAD_TARGET (lit< tt)) in
     let push : (word == code_of (Shift Slli 30 3 48)) ≡ false = code_none word (Shift Slli 30 3 48) is (lit< tt, lit< tt, lit< tt) in
-    let return : (word == code_of (Load Ld 31 3 MINUS_EIGHT)) ≡ false = code_none word (Load Ld 31 3 MINUS_EIGHT) is (lit< tt, lit< tt, lit< tt) in (
+    let return : (word == code_of (Load Ld 31 3 MINUS_EIGHT)) ≡ false = code_none word (Load Ld 31 3 MINUS_EIGHT) is (lit< tt, lit< tt, lit< tt) in
+    let leaf : (word == code_of (Jalr 0 1 0)) ≡ false = code_none word (Jalr 0 1 0) is (lit< tt, lit< tt, lit< tt) in (
       ap (decodes_to (has_form P.Gate at)) is,
       (
         ap (decodes_to (has_form P.Plain at)) is,
@@ -323,7 +342,7 @@ none_agrees word at place is =
                   ap (decodes_to (has_form P.Near at)) is,
                   (
                     ap (decodes_to (has_form P.Skip at)) is,
-                    (push, (return, (ap (decodes_to (has_form P.Address at)) is, (ap (decodes_to (has_form P.Number at)) is, tt)))),
+                    (push, (return, (ap (decodes_to (has_form P.Address at)) is, (ap (decodes_to (has_form P.Number at)) is, (ap (decodes_to (has_form P.Link at)) is, (ap (decodes_to (has_form P.Masked at)) is, (leaf, tt))))))),
                   ),
                 ),
               ),

@@ -11,7 +11,7 @@ use Rattle.rv_instr.specs.declared.instr.ImmediateOp.TheVariants.{Addi}
 use Rattle.rv_code.specs.Decode.{decoded}
 use Rattle.rv_code.specs.Encode.{code_of}
 use Rattle.rv_code.proofs.ReadBack.{decoded-code_of}
-use Rattle.cfi_unit.specs.declared.target_word.TargetWord.TheVariants.{First, Second}
+use Rattle.cfi_unit.specs.declared.target_word.TargetWord.TheVariants.{First, Second, Third}
 use Rattle.cfi_unit.specs.declared.unit.Unit as U
 use Rattle.cfi_unit.specs.declared.unit.Unit.TheVariants as V
 use Rattle.cfi_unit.specs.declared.unit.SystemOp.TheVariants as S
@@ -86,7 +86,7 @@ entry_told (V.Guarded ns) calls numbers label held word at most f e k l =
     ∙ ap (λ (ws : List ℕ). told_by calls (numbers_by (guarded (length ns)) ws)) (sym e)
     ∙ ap (told_by calls) (numbers_there ns (jump (at + 8 * length ns) BAD_TARGET) Ecall) in
     ap E.Guarded (ap (λ (n : ℕ). n == length calls) told ∙ told_all calls ns most)
-entry_told (V.Stores rs1 imm members) calls numbers label held word at most f e k l =
+entry_told (V.Stores mask rs1 imm members) calls numbers label held word at most f e k l =
     elim (cases_Bool (length members == 16)) [
       | inl all ↦ rw all refl
       | inr fewer ↦ let g : false ≡ true = rw fewer at l in absurd (cc)
@@ -103,12 +103,30 @@ entry_told (V.Ijump Second rs1 imm own) calls numbers label held word at most f 
     ap (E.Ijump Second)
     (sym (k.label_is (shape_of u at) [] (shape_among u at f) (whole_opens u at (held ++ word ∷ []) f e) own
     (ap (λ (ws : List ℕ). label_by (shape_of u at).words ws None) (sym e) ∙ ap Some (label_there own))))
+entry_told (V.Ijump Third rs1 imm own) calls numbers label held word at most f e k l =
+    let u : U.Unit = V.Ijump Third rs1 imm own in
+    ap (E.Ijump Third)
+    (sym (k.label_is (shape_of u at) [] (shape_among u at f) (whole_opens u at (held ++ word ∷ []) f e) own
+    (ap (λ (ws : List ℕ). label_by (shape_of u at).words ws None) (sym e) ∙ ap Some (label_there own))))
 entry_told (V.Icall rs1 imm own) calls numbers label held word at most f e k l =
     let u : U.Unit = V.Icall rs1 imm own in
     ap (E.Icall)
     (sym (k.label_is (shape_of u at) [] (shape_among u at f) (whole_opens u at (held ++ word ∷ []) f e) own
     (ap (λ (ws : List ℕ). label_by (shape_of u at).words ws None) (sym e) ∙ ap Some (label_there own))))
 entry_told V.Return calls numbers label held word at most f e k l = refl
+entry_told (V.LinkCall target) calls numbers label held word at most f e k l = absurd (cc)
+entry_told V.Enter calls numbers label held word at most f e k l = refl
+entry_told (V.LeanIjump rs1 imm own) calls numbers label held word at most f e k l =
+    let u : U.Unit = V.LeanIjump rs1 imm own in
+    ap (E.LeanIjump)
+    (sym (k.label_is (shape_of u at) [] (shape_among u at f) (whole_opens u at (held ++ word ∷ []) f e) own
+    (ap (λ (ws : List ℕ). label_by (shape_of u at).words ws None) (sym e) ∙ ap Some (label_there own))))
+entry_told (V.LeanIcall rs1 imm own) calls numbers label held word at most f e k l =
+    let u : U.Unit = V.LeanIcall rs1 imm own in
+    ap (E.LeanIcall)
+    (sym (k.label_is (shape_of u at) [] (shape_among u at f) (whole_opens u at (held ++ word ∷ []) f e) own
+    (ap (λ (ws : List ℕ). label_by (shape_of u at).words ws None) (sym e) ∙ ap Some (label_there own))))
+entry_told V.LeafReturn calls numbers label held word at most f e k l = absurd (cc)
 
 -- that of one which more may follow
 pub open_told : (u : U.Unit) (calls : List ℕ) (at : ℕ) → is_alone ((shape_of u at).end) ≡ false → open_entry ((shape_of u at).end) ≡ entry_of calls u at
@@ -117,9 +135,9 @@ open_told (V.Near op rs1 rs2 target) calls at e =
       | inl over ↦ rw over (ap E.Near (sym (eqb-true (near_offset at target) skip_offset over)))
       | inr near ↦ let g : true ≡ false = rw near at e in absurd (cc)
     ]
-open_told (V.Stores rs1 imm members) calls at e =
+open_told (V.Stores mask rs1 imm members) calls at e =
     elim (cases_Bool (length members == 16)) [
-      | inl all ↦ rw all refl
+      | inl all ↦ let g : true ≡ false = rw all at e in absurd (cc)
       | inr fewer ↦ rw fewer refl
     ]
 open_told (V.System S.Ecall) calls at e = absurd (cc)

@@ -7,6 +7,7 @@ use Rattle.rv_instr.specs.declared.instr.Instr.{Instr}
 use Rattle.rv_instr.specs.declared.instr.Instr.TheVariants.{Upper, Jal, Jalr, Branch, Load, Store, Immediate, Shift, ShiftWord, Register, Fence, Ecall, Ebreak}
 use Rattle.rv_instr.specs.declared.instr.ImmediateOp.{ImmediateOp}
 use Rattle.rv_instr.specs.declared.instr.ImmediateOp.TheVariants.{Addi}
+use Rattle.rv_instr.specs.declared.instr.RegisterOp.{RegisterOp}
 use Rattle.rv_instr.specs.declared.instr.UpperOp.{UpperOp}
 use Rattle.rv_instr.specs.declared.instr.BranchOp.{BranchOp}
 use Rattle.rv_instr.specs.declared.instr.ShiftOp.{ShiftOp}
@@ -21,57 +22,66 @@ use Rattle.cfi_unit.specs.declared.pattern.End.{End}
 use Rattle.cfi_unit.specs.declared.pattern.End.TheVariants as D
 use Rattle.cfi_unit.specs.Reach.{led_to}
 use Rattle.cfi_unit.specs.UnitWords.{BAD_TARGET, is_lui, skip_offset}
-use Rattle.cfi_unit.specs.Patterns.{decodes_to, has_form, is_addi}
+use Rattle.cfi_unit.specs.Patterns.{decodes_to, has_form, is_addi, is_and}
 use Rattle.cfi_unit.specs.Shapes.{SHAPES, Shape, shape}
 use Rattle.cfi_unit.specs.Opens.{InCode}
 use Rattle.cfi_reader.specs.Left.{Reads}
 use Rattle.cfi_reader.specs.Nodes.{rest_of}
 use Rattle.cfi_reader.specs.Kept.{count_on}
 use Rattle.cfi_reader.specs.Reading.{Opened}
-use Rattle.cfi_reader.specs.FirstStep.{at_node, first_step, is_number, opens_address, opens_call, opens_return, stuck}
+use Rattle.cfi_reader.specs.FirstStep.{at_node, first_step, is_leaf_return, is_number, opens_address, opens_call, opens_return, opens_stores, stuck}
 use Rattle.cfi_reader.specs.declared.first.First.TheVariants.{More, Done}
 use Rattle.cfi_reader.proofs.Begin.{Agrees, FIRSTS, agrees, answers, choose, first_reads, none_agrees, pick}
 use Rattle.cfi_reader.proofs.Opening.{done_by, first_entry, is_single, node_by}
 
 -- what each pattern is told, and what that leaves
 abbrev told_none : List Bool
-told_none = false ∷ false ∷ false ∷ false ∷ false ∷ false ∷ false ∷ false ∷ false ∷ false ∷ false ∷ false ∷ []
+told_none = false ∷ false ∷ false ∷ false ∷ false ∷ false ∷ false ∷ false ∷ false ∷ false ∷ false ∷ false ∷ false ∷ false ∷ false ∷ []
 
 abbrev told_gate : List Bool
-told_gate = true ∷ false ∷ false ∷ false ∷ false ∷ false ∷ false ∷ false ∷ false ∷ false ∷ false ∷ false ∷ []
+told_gate = true ∷ false ∷ false ∷ false ∷ false ∷ false ∷ false ∷ false ∷ false ∷ false ∷ false ∷ false ∷ false ∷ false ∷ false ∷ []
 
 abbrev told_plain : List Bool
-told_plain = false ∷ true ∷ false ∷ false ∷ false ∷ false ∷ false ∷ false ∷ false ∷ false ∷ false ∷ false ∷ []
+told_plain = false ∷ true ∷ false ∷ false ∷ false ∷ false ∷ false ∷ false ∷ false ∷ false ∷ false ∷ false ∷ false ∷ false ∷ false ∷ []
 
 abbrev told_stop : List Bool
-told_stop = false ∷ false ∷ true ∷ false ∷ false ∷ false ∷ false ∷ false ∷ false ∷ false ∷ false ∷ false ∷ []
+told_stop = false ∷ false ∷ true ∷ false ∷ false ∷ false ∷ false ∷ false ∷ false ∷ false ∷ false ∷ false ∷ false ∷ false ∷ false ∷ []
 
 abbrev told_jump : List Bool
-told_jump = false ∷ false ∷ false ∷ true ∷ false ∷ false ∷ false ∷ false ∷ false ∷ false ∷ false ∷ false ∷ []
+told_jump = false ∷ false ∷ false ∷ true ∷ false ∷ false ∷ false ∷ false ∷ false ∷ false ∷ false ∷ false ∷ false ∷ false ∷ false ∷ []
 
 abbrev told_ecall : List Bool
-told_ecall = false ∷ false ∷ false ∷ false ∷ true ∷ false ∷ false ∷ false ∷ false ∷ false ∷ false ∷ false ∷ []
+told_ecall = false ∷ false ∷ false ∷ false ∷ true ∷ false ∷ false ∷ false ∷ false ∷ false ∷ false ∷ false ∷ false ∷ false ∷ false ∷ []
 
 abbrev told_ebreak : List Bool
-told_ebreak = false ∷ false ∷ false ∷ false ∷ false ∷ true ∷ false ∷ false ∷ false ∷ false ∷ false ∷ false ∷ []
+told_ebreak = false ∷ false ∷ false ∷ false ∷ false ∷ true ∷ false ∷ false ∷ false ∷ false ∷ false ∷ false ∷ false ∷ false ∷ false ∷ []
 
 abbrev told_near : List Bool
-told_near = false ∷ false ∷ false ∷ false ∷ false ∷ false ∷ true ∷ false ∷ false ∷ false ∷ false ∷ false ∷ []
+told_near = false ∷ false ∷ false ∷ false ∷ false ∷ false ∷ true ∷ false ∷ false ∷ false ∷ false ∷ false ∷ false ∷ false ∷ false ∷ []
 
 abbrev told_skip : List Bool
-told_skip = false ∷ false ∷ false ∷ false ∷ false ∷ false ∷ false ∷ true ∷ false ∷ false ∷ false ∷ false ∷ []
+told_skip = false ∷ false ∷ false ∷ false ∷ false ∷ false ∷ false ∷ true ∷ false ∷ false ∷ false ∷ false ∷ false ∷ false ∷ false ∷ []
 
 abbrev told_push : List Bool
-told_push = false ∷ false ∷ false ∷ false ∷ false ∷ false ∷ false ∷ false ∷ true ∷ false ∷ false ∷ false ∷ []
+told_push = false ∷ false ∷ false ∷ false ∷ false ∷ false ∷ false ∷ false ∷ true ∷ false ∷ false ∷ false ∷ false ∷ false ∷ false ∷ []
 
 abbrev told_return : List Bool
-told_return = false ∷ false ∷ false ∷ false ∷ false ∷ false ∷ false ∷ false ∷ false ∷ true ∷ false ∷ false ∷ []
+told_return = false ∷ false ∷ false ∷ false ∷ false ∷ false ∷ false ∷ false ∷ false ∷ true ∷ false ∷ false ∷ false ∷ false ∷ false ∷ []
 
 abbrev told_address : List Bool
-told_address = false ∷ false ∷ false ∷ false ∷ false ∷ false ∷ false ∷ false ∷ false ∷ false ∷ true ∷ false ∷ []
+told_address = false ∷ false ∷ false ∷ false ∷ false ∷ false ∷ false ∷ false ∷ false ∷ false ∷ true ∷ false ∷ false ∷ false ∷ false ∷ []
 
 abbrev told_number : List Bool
-told_number = false ∷ false ∷ false ∷ false ∷ false ∷ false ∷ false ∷ false ∷ false ∷ false ∷ true ∷ true ∷ []
+told_number = false ∷ false ∷ false ∷ false ∷ false ∷ false ∷ false ∷ false ∷ false ∷ false ∷ true ∷ true ∷ false ∷ false ∷ false ∷ []
+
+abbrev told_link : List Bool
+told_link = false ∷ false ∷ false ∷ false ∷ false ∷ false ∷ false ∷ false ∷ false ∷ false ∷ false ∷ false ∷ true ∷ false ∷ false ∷ []
+
+abbrev told_masked : List Bool
+told_masked = false ∷ false ∷ false ∷ false ∷ false ∷ false ∷ false ∷ false ∷ false ∷ false ∷ false ∷ false ∷ false ∷ true ∷ false ∷ []
+
+abbrev told_leaf : List Bool
+told_leaf = false ∷ false ∷ false ∷ false ∷ false ∷ false ∷ false ∷ false ∷ false ∷ false ∷ false ∷ false ∷ false ∷ false ∷ true ∷ []
 
 leaves_none : pick (choose FIRSTS told_none) SHAPES ≡ []
 unfolding code_of
@@ -125,6 +135,18 @@ leaves_number : pick (choose FIRSTS told_number) SHAPES ≡ rest_of 3
 unfolding code_of
 leaves_number = refl
 
+leaves_link : pick (choose FIRSTS told_link) SHAPES ≡ shape D.LinkCall [] ∷ []
+unfolding code_of
+leaves_link = refl
+
+leaves_masked : pick (choose FIRSTS told_masked) SHAPES ≡ rest_of 99
+unfolding code_of
+leaves_masked = refl
+
+leaves_leaf : pick (choose FIRSTS told_leaf) SHAPES ≡ shape D.LeafReturn [] ∷ []
+unfolding code_of
+leaves_leaf = refl
+
 -- what begins a longer unit writes a register that units keep for themselves
 reserved_number : (rd n : ℕ) → is_reserved n ≡ true → (rd == n) ≡ true → is_reserved rd ≡ true
 reserved_number rd n r e = ap is_reserved (eqb-true rd n e) ∙ r
@@ -136,6 +158,9 @@ return_reserved op rd rs1 imm e = absurd (cc)
 call_reserved : (op : ShiftOp) (rd rs1 amount : ℕ) → opens_call op rd rs1 amount ≡ true → is_reserved rd ≡ true
 call_reserved Slli rd rs1 amount e = reserved_number rd 30 refl (and_parts (rd == 30) _ e).0
 call_reserved op rd rs1 amount e = absurd (cc)
+
+stores_reserved : (op : RegisterOp) (rd rs2 : ℕ) → opens_stores op rd rs2 ≡ true → is_reserved rd ≡ true
+stores_reserved op rd rs2 e = reserved_number rd 31 refl (and_parts (rd == 31) (rs2 == 4) (and_parts (is_and op) _ e).1).0
 
 gate_free : (op : UpperOp) (rd : ℕ) → (is_lui op && (rd == 0)) ≡ true → is_reserved rd ≡ false
 gate_free op rd e = ap is_reserved (eqb-true rd 0 (and_parts (is_lui op) (rd == 0) e).1)
@@ -193,12 +218,42 @@ module _ (calls : List ℕ) (word at : ℕ) (place : InCode at 1) (small : word 
       let i : Instr = Jal rd imm in
       elim (cases_Bool (rd == 0)) [
         | inl zero_rd ↦
-            rw zero_rd
+            let one : (rd == 1) ≡ false = ap (λ (n : ℕ). n == 1) (eqb-true rd 0 zero_rd) in
+            rw (one, zero_rd)
             (elim (cases_Bool (led_to at imm == BAD_TARGET)) [
-              | inl bad ↦ rw bad (ends calls word at place small i is told_stop D.Stop (rw (zero_rd, bad) refl) leaves_stop refl)
-              | inr good ↦ rw good (ends calls word at place small i is told_jump D.Jump (rw (zero_rd, good) refl) leaves_jump refl)
+              | inl bad ↦ rw bad (ends calls word at place small i is told_stop D.Stop (rw (zero_rd, bad, one) refl) leaves_stop refl)
+              | inr good ↦ rw good (ends calls word at place small i is told_jump D.Jump (rw (zero_rd, good, one) refl) leaves_jump refl)
             ])
+        | inr other ↦
+            elim (cases_Bool (rd == 1)) [
+              | inl link ↦ rw link (ends calls word at place small i is told_link D.LinkCall (rw (other, link) refl) leaves_link refl)
+              | inr neither ↦ rw (neither, other) (goes calls word at place small i is told_none 0 (rw (other, neither) refl) leaves_none (λ e. omega arith) refl)
+            ]
+      ]
+
+  -- a return to the site in x1
+  jalr_leads : (rd rs1 imm : ℕ) → decoded word ≡ Some (Jalr rd rs1 imm) → Opened calls word at (first_step calls (Jalr rd rs1 imm) at)
+  jalr_leads rd rs1 imm is =
+      let i : Instr = Jalr rd rs1 imm in
+      elim (cases_Bool (is_leaf_return rd rs1 imm)) [
+        | inl leaf ↦ rw leaf (ends calls word at place small i is told_leaf D.LeafReturn (rw leaf refl) leaves_leaf refl)
         | inr other ↦ rw other (goes calls word at place small i is told_none 0 (rw other refl) leaves_none (λ e. omega arith) refl)
+      ]
+
+  register_leads : (op : RegisterOp) (rd rs1 rs2 : ℕ) → decoded word ≡ Some (Register op rd rs1 rs2) →
+      Opened calls word at (first_step calls (Register op rd rs1 rs2) at)
+  register_leads op rd rs1 rs2 is =
+      let i : Instr = Register op rd rs1 rs2 in
+      elim (cases_Bool (opens_stores op rd rs2)) [
+        | inl begins ↦
+            rw begins
+            (goes calls word at place small i is told_masked 99 (rw (begins, stores_reserved op rd rs2 begins) refl) leaves_masked (λ e. omega arith) refl)
+        | inr alone ↦
+            rw alone
+            (elim (cases_Bool (is_reserved rd)) [
+              | inl reserved ↦ rw reserved (goes calls word at place small i is told_none 0 (rw (alone, reserved) refl) leaves_none (λ e. omega arith) refl)
+              | inr free ↦ rw free (ends calls word at place small i is told_plain D.Plain (rw (alone, free) refl) leaves_plain refl)
+            ])
       ]
 
   branch_leads : (op : BranchOp) (rs1 rs2 imm : ℕ) → decoded word ≡ Some (Branch op rs1 rs2 imm) → Opened calls word at (first_step calls (Branch op rs1 rs2 imm) at)
@@ -268,7 +323,7 @@ module _ (calls : List ℕ) (word at : ℕ) (place : InCode at 1) (small : word 
         | inr free ↦ rw free (ends calls word at place small i is told_plain D.Plain (rw (none, alone, free) refl) leaves_plain refl)
       ])
 
-  other_leads : (i : Instr) (rd : ℕ) → decoded word ≡ Some i → answers i at ≡ false ∷ not (is_reserved rd) ∷ false ∷ false ∷ false ∷ false ∷ false ∷ false ∷ false ∷ false ∷ false ∷ false ∷ [] →
+  other_leads : (i : Instr) (rd : ℕ) → decoded word ≡ Some i → answers i at ≡ false ∷ not (is_reserved rd) ∷ false ∷ false ∷ false ∷ false ∷ false ∷ false ∷ false ∷ false ∷ false ∷ false ∷ false ∷ false ∷ false ∷ [] →
       has_form P.Number at i ≡ false → Opened calls word at (if is_reserved rd then stuck else Done (first_entry D.Plain i))
   other_leads i rd is e number =
       elim (cases_Bool (is_reserved rd)) [
@@ -279,7 +334,7 @@ module _ (calls : List ℕ) (word at : ℕ) (place : InCode at 1) (small : word 
   pub first_leads : (i : Instr) → decoded word ≡ Some i → Opened calls word at (first_step calls i at)
   first_leads (Upper op rd imm) is = upper_leads op rd imm is
   first_leads (Jal rd imm) is = jump_leads rd imm is
-  first_leads (Jalr rd rs1 imm) is = goes calls word at place small (Jalr rd rs1 imm) is told_none 0 refl leaves_none (λ e. omega arith) refl
+  first_leads (Jalr rd rs1 imm) is = jalr_leads rd rs1 imm is
   first_leads (Branch op rs1 rs2 imm) is = branch_leads op rs1 rs2 imm is
   first_leads (Load op rd rs1 imm) is = load_leads op rd rs1 imm is
   first_leads (Store op rs1 rs2 imm) is = goes calls word at place small (Store op rs1 rs2 imm) is told_none 0 refl leaves_none (λ e. omega arith) refl
@@ -290,7 +345,7 @@ module _ (calls : List ℕ) (word at : ℕ) (place : InCode at 1) (small : word 
       ]
   first_leads (Shift op rd rs1 amount) is = shift_leads op rd rs1 amount is
   first_leads (ShiftWord op rd rs1 amount) is = other_leads (ShiftWord op rd rs1 amount) rd is refl refl
-  first_leads (Register op rd rs1 rs2) is = other_leads (Register op rd rs1 rs2) rd is refl refl
+  first_leads (Register op rd rs1 rs2) is = register_leads op rd rs1 rs2 is
   first_leads (Fence fence) is = ends calls word at place small (Fence fence) is told_plain D.Plain refl leaves_plain refl
   first_leads Ecall is = ends calls word at place small Ecall is told_ecall D.Ecall refl leaves_ecall refl
   first_leads Ebreak is = ends calls word at place small Ebreak is told_ebreak D.Ebreak refl leaves_ebreak refl

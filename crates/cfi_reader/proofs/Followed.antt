@@ -50,7 +50,7 @@ whole_unit end ws at (s, (among, is, opens)) small =
 
 longer_alone : (end : End) → is_longer end ≡ true → is_alone end ≡ true
 longer_alone D.Over e = absurd (cc)
-longer_alone D.Stores e = absurd (cc)
+longer_alone (D.Stores mask) e = absurd (cc)
 longer_alone end e = refl
 
 -- of one alone that has ended
@@ -204,7 +204,7 @@ module _ (calls : List ℕ) (reader : Reader) (row : Row) (word here : ℕ) (mos
 pub record Later (node other : ℕ) : Type 0 where
   pub more : node < other
   pub low : 1 < other
-  pub high : other < 82
+  pub high : other < 129
 
 pub later : (node : ℕ) (row : Row) (other : ℕ) → is_row_of node row ≡ true → row.no ≡ L.Try other → Later node other
 later node row other table is =
@@ -212,8 +212,8 @@ later node row other table is =
     let test = and_parts (nat_lt node other && is_asked other) (same_shapes (rest_of other) (without row.pattern (rest_of node)))
     (ap (λ (n : _). else_to node n (without row.pattern (rest_of node))) (sym is) ∙ s.passes) in
     let two = and_parts (nat_lt node other) (is_asked other) test.0 in
-    let ends = and_parts (nat_lt 1 other) (nat_lt other 82) two.1 in
-    record { more = ltb-true node other two.0; low = ltb-true 1 other ends.0; high = ltb-true other 82 ends.1 }
+    let ends = and_parts (nat_lt 1 other) (nat_lt other 129) two.1 in
+    record { more = ltb-true node other two.0; low = ltb-true 1 other ends.0; high = ltb-true other 129 ends.1 }
 
 -- what a word is asked first
 pub trying : (calls : List ℕ) (reader : Reader) (held : List ℕ) (word at : ℕ) → IsReading calls reader held at → IsTrying calls reader held word at

@@ -2,6 +2,7 @@ pub mod PlainWord
 pub mod Halts
 pub mod Steps
 pub mod Table
+mod Chain
 pub mod Ahead
 pub mod Law
 pub mod Keeping

@@ -18,7 +18,7 @@ use Rattle.cfi_unit.specs.declared.pattern.End.TheVariants as D
 use Rattle.cfi_unit.specs.declared.unit.Unit as U
 use Rattle.cfi_unit.specs.declared.unit.Unit.TheVariants as V
 use Rattle.cfi_unit.specs.declared.unit.SystemOp.TheVariants as S
-use Rattle.cfi_unit.specs.UnitWords.{Fits, gate, jump, near_offset, skip_offset, words_of}
+use Rattle.cfi_unit.specs.UnitWords.{Fits, gate, jump, jump_offset, near_offset, skip_offset, words_of}
 use Rattle.cfi_unit.specs.Patterns.{matches}
 use Rattle.cfi_unit.specs.Shapes.{SHAPES, Shape, shape}
 use Rattle.cfi_unit.specs.ShapeOf.{shape_of}
@@ -114,6 +114,8 @@ first_entry D.Near (Branch op rs1 rs2 imm) = E.Near imm
 first_entry D.Jump (Jal rd imm) = E.Jump imm
 first_entry D.Stop i = E.Stop
 first_entry D.Ecall i = E.Ecall
+first_entry D.LinkCall (Jal rd imm) = E.LinkCall imm
+first_entry D.LeafReturn i = E.LeafReturn
 first_entry _ i = E.Other
 
 -- a unit of this kind may have one word, and is one whatever follows
@@ -125,11 +127,13 @@ is_single D.Stop = true
 is_single D.Ecall = true
 is_single D.Plain = true
 is_single D.Ebreak = true
+is_single D.LinkCall = true
+is_single D.LeafReturn = true
 is_single _ = false
 
 single_alone : (end : End) → is_single end ≡ true → is_alone end ≡ true
 single_alone D.Over e = absurd (cc)
-single_alone D.Stores e = absurd (cc)
+single_alone (D.Stores mask) e = absurd (cc)
 single_alone end e = refl
 
 instr_is : (ws : List ℕ) (word : ℕ) (i j : Instr) → decoded word ≡ Some i → IsInstr j → code_of j ∷ [] ≡ word ∷ [] → j ≡ i
@@ -156,7 +160,7 @@ single_told V.Stop calls i word at f e is l = refl
 single_told (V.System S.Ecall) calls i word at f e is l = refl
 single_told (V.System S.Ebreak) calls i word at f e is l = refl
 single_told (V.Guarded ns) calls i word at f e is l = absurd (cc)
-single_told (V.Stores rs1 imm members) calls i word at f e is l =
+single_told (V.Stores mask rs1 imm members) calls i word at f e is l =
     elim (cases_Bool (length members == 16)) [
       | inl all ↦ let g : false ≡ true = rw all at l in absurd (cc)
       | inr fewer ↦ let g : false ≡ true = rw fewer at l in absurd (cc)
@@ -165,6 +169,12 @@ single_told (V.Call target) calls i word at f e is l = absurd (cc)
 single_told (V.Ijump which rs1 imm label) calls i word at f e is l = absurd (cc)
 single_told (V.Icall rs1 imm label) calls i word at f e is l = absurd (cc)
 single_told V.Return calls i word at f e is l = absurd (cc)
+single_told (V.LinkCall target) calls i word at f e is l =
+    ap (first_entry D.LinkCall) (sym (instr_is [] word i (Jal 1 (jump_offset at target)) is (lit< tt, mod_below _ (2 ^ 20) (lit< tt)) e))
+single_told V.Enter calls i word at f e is l = absurd (cc)
+single_told (V.LeanIjump rs1 imm label) calls i word at f e is l = absurd (cc)
+single_told (V.LeanIcall rs1 imm label) calls i word at f e is l = absurd (cc)
+single_told V.LeafReturn calls i word at f e is l = refl
 
 module _ (calls : List ℕ) (word at : ℕ) (small : word < 2 ^ 32) where
   -- at a node, of a word that is no number

@@ -25,6 +25,7 @@ same_is P.Jump P.Jump e = refl
 same_is P.Link P.Link e = refl
 same_is P.Label P.Label e = refl
 same_is P.Member P.Member e = refl
+same_is P.Masked P.Masked e = refl
 same_is p q e = absurd (cc)
 
 -- two words that a word is

@@ -5,18 +5,20 @@ use Rattle.cfi_unit.specs.declared.pattern.Pattern.{Pattern}
 use Rattle.cfi_unit.specs.declared.pattern.Pattern.TheVariants as P
 use Rattle.cfi_unit.specs.declared.pattern.End.{End}
 use Rattle.cfi_unit.specs.declared.pattern.End.TheVariants as D
+use Rattle.cfi_unit.specs.declared.mask.Mask.{Mask}
+use Rattle.cfi_unit.specs.declared.mask.Mask.TheVariants.{Shifts, Short, Long}
 use Rattle.cfi_unit.specs.declared.target_word.TargetWord.{TargetWord}
-use Rattle.cfi_unit.specs.declared.target_word.TargetWord.TheVariants.{First, Second}
+use Rattle.cfi_unit.specs.declared.target_word.TargetWord.TheVariants.{First, Second, Third}
 use Rattle.cfi_unit.specs.Shapes.{Shape, shape}
 use Rattle.cfi_reader.specs.Left.{after, lets, same, tells, without}
-use Rattle.cfi_reader.specs.Nodes.{else_to, goes_to, is_later, is_row_of, rest_of, same_end, same_shapes, same_word, same_words, says_of}
+use Rattle.cfi_reader.specs.Nodes.{else_to, goes_to, is_later, is_row_of, rest_of, same_end, same_mask, same_shapes, same_word, same_words, says_of}
 use Rattle.cfi_reader.specs.declared.node.Row.{Row}
 use Rattle.cfi_reader.specs.declared.node.Else.TheVariants as L
 use Rattle.cfi_reader.specs.declared.node.Next.TheVariants as N
 use Rattle.cfi_reader.proofs.Steps.{same_is}
 
 -- the row of a number that is no node's
-beyond : (node : ℕ) → 81 < node → rest_of node ≡ []
+beyond : (node : ℕ) → 128 < node → rest_of node ≡ []
 beyond node high =
     rw (
       le-ltb node 2 (omega arith),
@@ -27,6 +29,7 @@ beyond node high =
       le-ltb node 29 (omega arith),
       le-ltb node 31 (omega arith),
       le-ltb node 46 (omega arith),
+      le-ltb node 49 (omega arith),
       le-ltb node 53 (omega arith),
       le-ltb node 59 (omega arith),
       le-ltb node 60 (omega arith),
@@ -35,9 +38,18 @@ beyond node high =
       le-ltb node 71 (omega arith),
       le-ltb node 78 (omega arith),
       le-ltb node 82 (omega arith),
+      le-ltb node 84 (omega arith),
+      le-ltb node 99 (omega arith),
+      le-ltb node 100 (omega arith),
+      le-ltb node 115 (omega arith),
+      le-ltb node 117 (omega arith),
+      le-ltb node 120 (omega arith),
+      le-ltb node 126 (omega arith),
+      le-ltb node 128 (omega arith),
+      le-ltb node 129 (omega arith),
     ) refl
 
-pub stuck_at : (node : ℕ) → 81 < node → is_row_of node (record { pattern = P.Is 0; yes = N.More 0; no = L.Stuck }) ≡ true
+pub stuck_at : (node : ℕ) → 128 < node → is_row_of node (record { pattern = P.Is 0; yes = N.More 0; no = L.Stuck }) ≡ true
 stuck_at node high =
     subst (λ (rests : List Shape). says_of node rests (record { pattern = P.Is 0; yes = N.More 0; no = L.Stuck }) ≡ true) (sym (beyond node high)) refl
 
@@ -45,12 +57,19 @@ stuck_at node high =
 word_is : (a b : TargetWord) → same_word a b ≡ true → a ≡ b
 word_is First First e = refl
 word_is Second Second e = refl
+word_is Third Third e = refl
 word_is a b e = absurd (cc)
+
+mask_is : (a b : Mask) → same_mask a b ≡ true → a ≡ b
+mask_is Shifts Shifts e = refl
+mask_is Short Short e = refl
+mask_is Long Long e = refl
+mask_is a b e = absurd (cc)
 
 end_is : (a b : End) → same_end a b ≡ true → a ≡ b
 end_is D.Near D.Near e = refl
 end_is D.Over D.Over e = refl
-end_is D.Stores D.Stores e = refl
+end_is (D.Stores a) (D.Stores b) e = ap D.Stores (mask_is a b e)
 end_is D.Branch D.Branch e = refl
 end_is D.Jump D.Jump e = refl
 end_is D.Stop D.Stop e = refl
@@ -62,8 +81,13 @@ end_is D.Ecall D.Ecall e = refl
 end_is D.Guarded D.Guarded e = refl
 end_is D.Plain D.Plain e = refl
 end_is D.Ebreak D.Ebreak e = refl
-end_is D.Full D.Full e = refl
+end_is (D.Full a) (D.Full b) e = ap D.Full (mask_is a b e)
 end_is D.Return D.Return e = refl
+end_is D.LinkCall D.LinkCall e = refl
+end_is D.Enter D.Enter e = refl
+end_is D.LeanIjump D.LeanIjump e = refl
+end_is D.LeanIcall D.LeanIcall e = refl
+end_is D.LeafReturn D.LeafReturn e = refl
 end_is a b e = absurd (cc)
 
 words_are : (a b : List Pattern) → same_words a b ≡ true → a ≡ b

@@ -3,6 +3,8 @@
 -- tests of its number, whether the numbers are those of a list, in its order.
 use Rattle.std.specs.Prelude.{ℕ, zero, suc, ◌+◌, ◌-◌, Bool, true, false, List, [], ◌∷◌, ◌++◌, Option, Some, None}
 use Rattle.rv_word.specs.Numbers.{are_same}
+use Rattle.cfi_unit.specs.declared.mask.Mask.{Mask}
+use Rattle.cfi_unit.specs.declared.mask.Mask.TheVariants.{Shifts}
 use Rattle.cfi_unit.specs.declared.unit.Unit as U
 use Rattle.cfi_unit.specs.declared.unit.Unit.TheVariants as V
 use Rattle.cfi_unit.specs.declared.unit.SystemOp.TheVariants as S
@@ -15,6 +17,11 @@ abbrev pub numbers_or_none : Option (List ℕ) → List ℕ
 numbers_or_none None = []
 numbers_or_none (Some calls) = calls
 
+-- the entry of stores behind a mask
+abbrev pub stores_entry : Mask → Entry
+stores_entry Shifts = E.Other
+stores_entry other = E.LeanStores
+
 -- the entry of a unit at an address, under a list
 abbrev pub entry_of : List ℕ → U.Unit → ℕ → Entry
 entry_of calls (V.Gate label) at = E.Gate label
@@ -26,11 +33,16 @@ entry_of calls V.Stop at = E.Stop
 entry_of calls (V.System S.Ecall) at = E.Ecall
 entry_of calls (V.System S.Ebreak) at = E.Other
 entry_of calls (V.Guarded numbers) at = E.Guarded (are_same numbers calls)
-entry_of calls (V.Stores rs1 imm members) at = E.Other
+entry_of calls (V.Stores mask rs1 imm members) at = stores_entry mask
 entry_of calls (V.Call target) at = E.Call (jump_offset (at + 28) target)
 entry_of calls (V.Ijump which rs1 imm label) at = E.Ijump which label
 entry_of calls (V.Icall rs1 imm label) at = E.Icall label
 entry_of calls V.Return at = E.Other
+entry_of calls (V.LinkCall target) at = E.LinkCall (jump_offset at target)
+entry_of calls V.Enter at = E.Enter
+entry_of calls (V.LeanIjump rs1 imm label) at = E.LeanIjump label
+entry_of calls (V.LeanIcall rs1 imm label) at = E.LeanIcall label
+entry_of calls V.LeafReturn at = E.LeafReturn
 
 -- a unit starts at a word with this entry
 abbrev pub is_unit : Entry → Bool

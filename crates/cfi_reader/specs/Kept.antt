@@ -11,6 +11,7 @@ use Rattle.cfi_unit.specs.declared.pattern.End.TheVariants as D
 use Rattle.cfi_unit.specs.UnitWords.{skip_offset}
 use Rattle.cfi_unit.specs.Shapes.{SHAPES, Shape}
 use Rattle.cfi_unit.specs.Opens.{Among, Opens}
+use Rattle.cfi_reader.specs.Entries.{stores_entry}
 use Rattle.cfi_reader.specs.declared.entry.Entry.{Entry}
 use Rattle.cfi_reader.specs.declared.entry.Entry.TheVariants as E
 
@@ -74,8 +75,11 @@ is_longer D.Call = true
 is_longer (D.Ijump which) = true
 is_longer D.Icall = true
 is_longer D.Guarded = true
-is_longer D.Full = true
+is_longer (D.Full mask) = true
 is_longer D.Return = true
+is_longer D.Enter = true
+is_longer D.LeanIjump = true
+is_longer D.LeanIcall = true
 is_longer _ = false
 
 -- the offset field of a jump
@@ -94,9 +98,14 @@ entry_by calls D.Call numbers label last = with_field E.Call (field_in last)
 entry_by calls (D.Ijump which) numbers label last = E.Ijump which label
 entry_by calls D.Icall numbers label last = E.Icall label
 entry_by calls D.Guarded numbers label last = E.Guarded (numbers == length calls)
+entry_by calls D.Enter numbers label last = E.Enter
+entry_by calls D.LeanIjump numbers label last = E.LeanIjump label
+entry_by calls D.LeanIcall numbers label last = E.LeanIcall label
+entry_by calls (D.Full mask) numbers label last = stores_entry mask
 entry_by calls _ numbers label last = E.Other
 
 -- and of one that ends before a word that might have gone on with it
 abbrev pub open_entry : End → Entry
 open_entry D.Over = E.Near skip_offset
+open_entry (D.Stores mask) = stores_entry mask
 open_entry _ = E.Other

@@ -37,6 +37,7 @@ same P.Jump P.Jump = true
 same P.Link P.Link = true
 same P.Label P.Label = true
 same P.Member P.Member = true
+same P.Masked P.Masked = true
 same one other = false
 
 -- two patterns that no word has both
@@ -83,7 +84,7 @@ lets p (r ∷ rs) = lets_one p r.end r.words && lets p rs
 -- a unit of this kind is one whatever follows
 abbrev pub is_alone : End → Bool
 is_alone D.Over = false
-is_alone D.Stores = false
+is_alone (D.Stores mask) = false
 is_alone _ = true
 
 -- none of them has ended

@@ -27,6 +27,18 @@ pub enum Entry {
     Ecall,
     /// A system call behind tests of its number; whether the numbers are the list's, in its order.
     Guarded(bool),
+    /// A call that leaves its site in x1, which has the field.
+    LinkCall(Immediate<20>),
+    /// An enter.
+    Enter,
+    /// A computed jump that makes the mask of stores again; its label.
+    LeanIjump(Immediate<20>),
+    /// A computed call that leaves its site in x1; its label.
+    LeanIcall(Immediate<20>),
+    /// A return to the site in x1.
+    LeafReturn,
+    /// Stores behind a mask by x4.
+    LeanStores,
     /// Any other unit.
     Other,
 }

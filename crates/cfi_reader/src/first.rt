@@ -7,11 +7,13 @@ ghost use Rattle.cfi_reader.specs.FirstStep.{
   at_node,
   branch_step,
   first_step,
+  is_leaf_return,
   is_number,
   jump_step,
   opens_address,
   opens_call,
   opens_return,
+  opens_stores,
   plain_step,
   upper_step,
 };
@@ -22,7 +24,7 @@ use crate::kept::count_on;
 use crate::reader::Reader;
 use cfi_unit::handlers::BAD_TARGET;
 use rv_code::decode;
-use rv_instr::{Immediate, ImmediateOp, Instr, LoadOp, Reg, ShiftOp, UpperOp};
+use rv_instr::{Immediate, ImmediateOp, Instr, LoadOp, Reg, RegisterOp, ShiftOp, UpperOp};
 use rv_word::{Numbers, sext};
 
 /// Where the first word of a unit leads.
@@ -63,7 +65,14 @@ fn first_instr(calls: &Numbers, instr: Instr, here: u64) -> First
 {
     match instr {
         Instr::Upper(op, rd, imm) => upper(op, rd, imm),
-        Instr::ShiftWord(_, rd, _, _) | Instr::Register(_, rd, _, _) => plain(rd),
+        Instr::ShiftWord(_, rd, _, _) => plain(rd),
+        Instr::Register(op, rd, _, rs2) => {
+            if opens_stores(op, rd, rs2) {
+                at_node(99)
+            } else {
+                plain(rd)
+            }
+        }
         Instr::Jal(rd, field) => jump(rd, field, here),
         Instr::Branch(_, _, _, field) => branch(field),
         Instr::Immediate(op, rd, rs1, imm) => {
@@ -89,7 +98,14 @@ fn first_instr(calls: &Numbers, instr: Instr, here: u64) -> First
         }
         Instr::Ecall => First::Done(Entry::Ecall),
         Instr::Fence(_) | Instr::Ebreak => First::Done(Entry::Other),
-        Instr::Jalr(..) | Instr::Store(..) => at_node(0),
+        Instr::Jalr(rd, rs1, imm) => {
+            if is_leaf_return(rd, rs1, imm) {
+                First::Done(Entry::LeafReturn)
+            } else {
+                at_node(0)
+            }
+        }
+        Instr::Store(..) => at_node(0),
     }
 }
 
@@ -126,11 +142,13 @@ fn branch(field: Immediate<12>) -> First
     }
 }
 
-/// A jump or a stop.
+/// A jump, a stop or a call that leaves its site in x1.
 fn jump(rd: Reg, field: Immediate<20>, here: u64) -> First
     ensures { result ≡ jump_step rd field here }
 {
-    if rd.number() != 0 {
+    if rd.number() == 1 {
+        First::Done(Entry::LinkCall(field))
+    } else if rd.number() != 0 {
         at_node(0)
     } else if here.wrapping_add(sext(u64::from(field.bits()) * 2, 21)) == BAD_TARGET {
         First::Done(Entry::Stop)
@@ -168,11 +186,25 @@ fn is_number(rs1: Reg, imm: Immediate<12>) -> bool
     rs1.number() == 0 && imm.bits() < 2048
 }
 
-/// Whether it is `slli x30,x3,48`, with which a call begins.
+/// Whether it is `slli x30,x3,48`, with which a call or an enter begins.
 fn opens_call(op: ShiftOp, rd: Reg, rs1: Reg, amount: Immediate<6>) -> bool
     ensures { result ≡ opens_call op rd rs1 amount }
 {
     op == ShiftOp::Slli && rd.number() == 30 && rs1.number() == 3 && amount.bits() == 48
+}
+
+/// Whether it is `and x31,rs1,x4`, a mask by x4.
+fn opens_stores(op: RegisterOp, rd: Reg, rs2: Reg) -> bool
+    ensures { result ≡ opens_stores op rd rs2 }
+{
+    op == RegisterOp::And && rd.number() == 31 && rs2.number() == 4
+}
+
+/// Whether it is `jalr x0,0(x1)`, a return to the site in x1.
+fn is_leaf_return(rd: Reg, rs1: Reg, imm: Immediate<12>) -> bool
+    ensures { result ≡ is_leaf_return rd rs1 imm }
+{
+    rd.number() == 0 && rs1.number() == 1 && imm.bits() == 0
 }
 
 /// Whether it is `ld x31,-8(x3)`, with which a return begins.

@@ -3,9 +3,10 @@
 ghost use Rattle.std.specs.Prelude.{◌≡◌};
 ghost use Rattle.rv_code.specs.Decode.{decoded};
 ghost use Rattle.cfi_reader.specs.Kept.{count_by, count_on, entry_by, field_in, label_after, open_entry};
+ghost use Rattle.cfi_reader.specs.Entries.{stores_entry};
 
 use crate::entry::Entry;
-use cfi_unit::{End, Pattern};
+use cfi_unit::{End, Mask, Pattern};
 use rv_code::decode;
 use rv_instr::{Immediate, Instr};
 use rv_word::Numbers;
@@ -58,6 +59,10 @@ pub(crate) fn entry_by(
         End::Ijump(which) => Entry::Ijump(which, label),
         End::Icall => Entry::Icall(label),
         End::Guarded => Entry::Guarded(numbers as usize == calls.len()),
+        End::Enter => Entry::Enter,
+        End::LeanIjump => Entry::LeanIjump(label),
+        End::LeanIcall => Entry::LeanIcall(label),
+        End::Full(mask) => stores_entry(mask),
         _ => Entry::Other,
     }
 }
@@ -94,6 +99,17 @@ pub(crate) fn open_entry(end: End) -> Entry
 {
     match end {
         End::Over => Entry::Near(Immediate::of(4)),
+        End::Stores(mask) => stores_entry(mask),
         _ => Entry::Other,
+    }
+}
+
+/// The entry of stores behind a mask.
+fn stores_entry(mask: Mask) -> Entry
+    ensures { result ≡ stores_entry mask }
+{
+    match mask {
+        Mask::Shifts => Entry::Other,
+        Mask::Short | Mask::Long => Entry::LeanStores,
     }
 }

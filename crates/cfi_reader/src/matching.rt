@@ -34,7 +34,8 @@ pub(crate) fn matches(pattern: Pattern, word: u32, here: u64) -> bool
         | Pattern::Skip
         | Pattern::Near
         | Pattern::Goto
-        | Pattern::Address => false,
+        | Pattern::Address
+        | Pattern::Masked => false,
     }
 }
 

@@ -8,7 +8,7 @@ ghost use Rattle.cfi_reader.specs.declared.node.Next.TheVariants as N;
 
 use Pattern::{Halt, Is, Jump, Label, Link, Member, Number};
 use cfi_unit::handlers::{BAD_RETURN, BAD_TARGET, DEEP};
-use cfi_unit::{End, Pattern, TargetWord};
+use cfi_unit::{End, Mask, Pattern, TargetWord};
 
 /// Where a word leads that is as a row says.
 #[derive(Clone, Copy)]
@@ -109,7 +109,7 @@ pub(crate) fn row_at(node: u8) -> Row
         9 => more(Is(0x011f_8863), 25).or_try(10),
         10 => more(Is(0x011f_8463), 27).or_try(11),
         11 => more(Is(0x024f_9f93), 29).or_try(12),
-        12 => more(Is(0xffcf_ff93), 53),
+        12 => more(Is(0xffcf_ff93), 53).or_try(82),
         13 => more(Number, 14),
         14 => more(Is(0x031f_8c63), 15),
         15 => more(Number, 16),
@@ -128,24 +128,24 @@ pub(crate) fn row_at(node: u8) -> Row
         28 => done(Is(0x0000_0073), End::Guarded),
         29 => more(Is(0x024f_df93), 30),
         30 => more(Member, 31),
-        31 => more(Member, 32).or_ended(End::Stores),
-        32 => more(Member, 33).or_ended(End::Stores),
-        33 => more(Member, 34).or_ended(End::Stores),
-        34 => more(Member, 35).or_ended(End::Stores),
-        35 => more(Member, 36).or_ended(End::Stores),
-        36 => more(Member, 37).or_ended(End::Stores),
-        37 => more(Member, 38).or_ended(End::Stores),
-        38 => more(Member, 39).or_ended(End::Stores),
-        39 => more(Member, 40).or_ended(End::Stores),
-        40 => more(Member, 41).or_ended(End::Stores),
-        41 => more(Member, 42).or_ended(End::Stores),
-        42 => more(Member, 43).or_ended(End::Stores),
-        43 => more(Member, 44).or_ended(End::Stores),
-        44 => more(Member, 45).or_ended(End::Stores),
-        45 => done(Member, End::Full).or_ended(End::Stores),
+        31 => more(Member, 32).or_ended(End::Stores(Mask::Shifts)),
+        32 => more(Member, 33).or_ended(End::Stores(Mask::Shifts)),
+        33 => more(Member, 34).or_ended(End::Stores(Mask::Shifts)),
+        34 => more(Member, 35).or_ended(End::Stores(Mask::Shifts)),
+        35 => more(Member, 36).or_ended(End::Stores(Mask::Shifts)),
+        36 => more(Member, 37).or_ended(End::Stores(Mask::Shifts)),
+        37 => more(Member, 38).or_ended(End::Stores(Mask::Shifts)),
+        38 => more(Member, 39).or_ended(End::Stores(Mask::Shifts)),
+        39 => more(Member, 40).or_ended(End::Stores(Mask::Shifts)),
+        40 => more(Member, 41).or_ended(End::Stores(Mask::Shifts)),
+        41 => more(Member, 42).or_ended(End::Stores(Mask::Shifts)),
+        42 => more(Member, 43).or_ended(End::Stores(Mask::Shifts)),
+        43 => more(Member, 44).or_ended(End::Stores(Mask::Shifts)),
+        44 => more(Member, 45).or_ended(End::Stores(Mask::Shifts)),
+        45 => done(Member, End::Full(Mask::Shifts)).or_ended(End::Stores(Mask::Shifts)),
         46 => more(Is(0x000f_1463), 47),
         47 => more(Halt(DEEP), 48),
-        48 => more(Is(0x0000_0f17), 49),
+        48 => more(Is(0x0000_0f17), 49).or_try(115),
         49 => more(Is(0x014f_0f13), 50),
         50 => more(Is(0x01e1_b023), 51),
         51 => more(Is(0x0081_8193), 52),
@@ -156,13 +156,13 @@ pub(crate) fn row_at(node: u8) -> Row
         56 => more(Is(0x000f_0463), 57),
         57 => more(Halt(BAD_TARGET), 58),
         58 => more(Is(0x000f_af03), 60).or_try(59),
-        59 => more(Is(0x004f_af03), 66),
+        59 => more(Is(0x004f_af03), 66).or_try(120),
         60 => more(Label, 61),
         61 => more(Is(0x0372_0213), 62),
         62 => more(Is(0x004f_0463), 63),
         63 => more(Halt(BAD_TARGET), 64),
         64 => done(Is(0x000f_8067), End::Ijump(TargetWord::First)).or_try(65),
-        65 => more(Is(0x0301_9f13), 71),
+        65 => more(Is(0x0301_9f13), 71).or_try(117),
         66 => more(Label, 67),
         67 => more(Is(0x0372_0213), 68),
         68 => more(Is(0x004f_0463), 69),
@@ -179,6 +179,53 @@ pub(crate) fn row_at(node: u8) -> Row
         79 => more(Is(0x001f_8463), 80),
         80 => more(Halt(BAD_RETURN), 81),
         81 => done(Is(0x000f_8067), End::Return),
+        82 => more(Is(0x004f_ffb3), 83),
+        83 => more(Member, 84),
+        84 => more(Member, 85).or_ended(End::Stores(Mask::Long)),
+        85 => more(Member, 86).or_ended(End::Stores(Mask::Long)),
+        86 => more(Member, 87).or_ended(End::Stores(Mask::Long)),
+        87 => more(Member, 88).or_ended(End::Stores(Mask::Long)),
+        88 => more(Member, 89).or_ended(End::Stores(Mask::Long)),
+        89 => more(Member, 90).or_ended(End::Stores(Mask::Long)),
+        90 => more(Member, 91).or_ended(End::Stores(Mask::Long)),
+        91 => more(Member, 92).or_ended(End::Stores(Mask::Long)),
+        92 => more(Member, 93).or_ended(End::Stores(Mask::Long)),
+        93 => more(Member, 94).or_ended(End::Stores(Mask::Long)),
+        94 => more(Member, 95).or_ended(End::Stores(Mask::Long)),
+        95 => more(Member, 96).or_ended(End::Stores(Mask::Long)),
+        96 => more(Member, 97).or_ended(End::Stores(Mask::Long)),
+        97 => more(Member, 98).or_ended(End::Stores(Mask::Long)),
+        98 => done(Member, End::Full(Mask::Long)).or_ended(End::Stores(Mask::Long)),
+        99 => more(Member, 100),
+        100 => more(Member, 101).or_ended(End::Stores(Mask::Short)),
+        101 => more(Member, 102).or_ended(End::Stores(Mask::Short)),
+        102 => more(Member, 103).or_ended(End::Stores(Mask::Short)),
+        103 => more(Member, 104).or_ended(End::Stores(Mask::Short)),
+        104 => more(Member, 105).or_ended(End::Stores(Mask::Short)),
+        105 => more(Member, 106).or_ended(End::Stores(Mask::Short)),
+        106 => more(Member, 107).or_ended(End::Stores(Mask::Short)),
+        107 => more(Member, 108).or_ended(End::Stores(Mask::Short)),
+        108 => more(Member, 109).or_ended(End::Stores(Mask::Short)),
+        109 => more(Member, 110).or_ended(End::Stores(Mask::Short)),
+        110 => more(Member, 111).or_ended(End::Stores(Mask::Short)),
+        111 => more(Member, 112).or_ended(End::Stores(Mask::Short)),
+        112 => more(Member, 113).or_ended(End::Stores(Mask::Short)),
+        113 => more(Member, 114).or_ended(End::Stores(Mask::Short)),
+        114 => done(Member, End::Full(Mask::Short)).or_ended(End::Stores(Mask::Short)),
+        115 => more(Is(0x0011_b023), 116),
+        116 => done(Is(0x0081_8193), End::Enter),
+        117 => more(Is(0x1000_0237), 118),
+        118 => more(Is(0xfff2_0213), 119),
+        119 => done(Is(0x000f_8067), End::LeanIjump),
+        120 => more(Is(0x008f_af03), 121),
+        121 => more(Label, 122),
+        122 => more(Is(0x0372_0213), 123),
+        123 => more(Is(0x004f_0463), 124),
+        124 => more(Halt(BAD_TARGET), 125),
+        125 => more(Is(0x1000_0237), 126).or_try(128),
+        126 => more(Is(0xfff2_0213), 127),
+        127 => done(Is(0x008f_80e7), End::LeanIcall),
+        128 => done(Is(0x000f_8067), End::Ijump(TargetWord::Third)),
         _ => Row {
             pattern: Is(0),
             yes: Next::More(0),
@@ -191,7 +238,7 @@ pub(crate) fn row_at(node: u8) -> Row
 const NONE: u64 = 1 << 32;
 
 /// Of each node the code with which alone a unit goes on to another one.
-const CODES: [u64; 82] = [
+const CODES: [u64; 129] = [
     NONE, NONE, NONE, 0x051f8063, 0x031f8c63, 0x031f8863, 0x031f8463, 0x031f8063, 0x011f8c63,
     0x011f8863, 0x011f8463, 0x024f9f93, 0xffcfff93, NONE, 0x031f8c63, NONE, 0x031f8863, NONE,
     0x031f8463, NONE, 0x031f8063, NONE, 0x011f8c63, NONE, 0x011f8863, NONE, 0x011f8463, NONE, NONE,
@@ -199,24 +246,29 @@ const CODES: [u64; 82] = [
     NONE, NONE, 0x000f1463, NONE, 0x00000f17, 0x014f0f13, 0x01e1b023, 0x00818193, NONE, 0x40000f37,
     0x41ef8f33, 0x014f5f13, 0x000f0463, NONE, 0x000faf03, 0x004faf03, NONE, 0x03720213, 0x004f0463,
     NONE, NONE, 0x03019f13, NONE, 0x03720213, 0x004f0463, NONE, NONE, 0x000f1463, NONE, 0x00000f17,
-    0x014f0f13, 0x01e1b023, 0x00818193, NONE, 0xff818193, 0x001f8463, NONE, NONE,
+    0x014f0f13, 0x01e1b023, 0x00818193, NONE, 0xff818193, 0x001f8463, NONE, NONE, 0x004fffb3, NONE,
+    NONE, NONE, NONE, NONE, NONE, NONE, NONE, NONE, NONE, NONE, NONE, NONE, NONE, NONE, NONE, NONE,
+    NONE, NONE, NONE, NONE, NONE, NONE, NONE, NONE, NONE, NONE, NONE, NONE, NONE, NONE, NONE,
+    0x0011b023, NONE, 0x10000237, 0xfff20213, NONE, 0x008faf03, NONE, 0x03720213, 0x004f0463, NONE,
+    0x10000237, 0xfff20213, NONE, NONE,
 ];
 
 /// The nodes to which these lead.
-const LEADS: [u8; 82] = [
+const LEADS: [u8; 129] = [
     0, 0, 0, 13, 15, 17, 19, 21, 23, 25, 27, 29, 53, 0, 15, 0, 17, 0, 19, 0, 21, 0, 23, 0, 25, 0,
     27, 0, 0, 30, 0, 0, 0, 0, 0, 0, 0, 0, 0, 0, 0, 0, 0, 0, 0, 0, 47, 0, 49, 50, 51, 52, 0, 54, 55,
     56, 57, 0, 60, 66, 0, 62, 63, 0, 0, 71, 0, 68, 69, 0, 0, 72, 0, 74, 75, 76, 77, 0, 79, 80, 0,
-    0,
+    0, 83, 0, 0, 0, 0, 0, 0, 0, 0, 0, 0, 0, 0, 0, 0, 0, 0, 0, 0, 0, 0, 0, 0, 0, 0, 0, 0, 0, 0, 0,
+    0, 0, 0, 116, 0, 118, 119, 0, 121, 0, 123, 124, 0, 126, 127, 0, 0,
 ];
 
 /// Where the word leads with which alone a unit goes on from a node, if it is that.
 #[inline(always)]
 pub(crate) fn led_by(node: u8, word: u32) -> Option<u8>
-    ensures { IfSome result (λ next. (node < 82) × (get_or CODES node 0 ≡ word) × (get_or LEADS node 0 ≡ next)) }
+    ensures { IfSome result (λ next. (node < 129) × (get_or CODES node 0 ≡ word) × (get_or LEADS node 0 ≡ next)) }
 {
     let index = node as usize;
-    if index < 82 && CODES[index] == u64::from(word) {
+    if index < 129 && CODES[index] == u64::from(word) {
         Some(LEADS[index])
     } else {
         None

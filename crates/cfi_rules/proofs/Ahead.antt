@@ -9,6 +9,7 @@ use Rattle.rv_instr.specs.declared.instr.Instr.{Instr}
 use Rattle.rv_instr.specs.declared.instr.Instr.TheVariants.{Jal, Store}
 use Rattle.rv_code.specs.Encode.{code_of}
 use Rattle.rv_code.proofs.ReadBack.{decoded-code_of}
+use Rattle.cfi_unit.specs.declared.mask.Mask.TheVariants.{Shifts, Short, Long}
 use Rattle.cfi_unit.specs.declared.unit.Unit as U
 use Rattle.cfi_unit.specs.declared.unit.Unit.TheVariants as V
 use Rattle.cfi_unit.specs.declared.unit.SystemOp.TheVariants as S
@@ -46,6 +47,9 @@ unit_opens (V.System S.Ecall) at f i e = (ap is_jump (sym e), ap member_of (sym 
 unit_opens (V.System S.Ebreak) at f i e = (ap is_jump (sym e), ap member_of (sym e))
 unit_opens (V.Guarded []) at f i e = absurd (let some = f.0.some in let none : length {A = ℕ} [] ≡ 0 = refl in omega arith)
 unit_opens (V.Guarded (n ∷ numbers)) at f i e = (ap is_jump (sym e), ap member_of (sym e))
+unit_opens (V.Stores Shifts rs1 imm members) at f i e = (ap is_jump (sym e), ap member_of (sym e))
+unit_opens (V.Stores Short rs1 imm members) at f i e = (ap is_jump (sym e), ap member_of (sym e))
+unit_opens (V.Stores Long rs1 imm members) at f i e = (ap is_jump (sym e), ap member_of (sym e))
 unit_opens other at f i e = (ap is_jump (sym e), ap member_of (sym e))
 
 first_opens : (is : List Instr) (rest : List ℕ) (jumps : Bool) → 1 ≤ length is → AreInstrs is →
@@ -76,7 +80,7 @@ precedes_unit (V.Near op rs1 rs2 target) v at next rest fits not_both =
       ]
       | inr far ↦ rw far refl
     ]
-precedes_unit (V.Stores rs1 imm members) v at next rest fits not_both =
+precedes_unit (V.Stores mask rs1 imm members) v at next rest fits not_both =
     rw (opens v next rest fits).1 (elim (cases_Bool (nat_le MOST_MEMBERS (length members))) [ inl most ↦ rw most refl | inr fewer ↦ rw fewer refl ])
 precedes_unit other v at next rest fits not_both = refl
 

@@ -15,6 +15,7 @@ use Rattle.cfi_graph.specs.declared.line.GraphLine.{GraphLine}
 use Rattle.cfi_graph.specs.declared.line.Sort.TheVariants as sorts
 use Rattle.cfi_graph.specs.declared.line.GraphLine.TheVariants.{Class, Site, Call}
 use Rattle.cfi_graph.specs.declared.line.SiteKind.TheVariants as K
+use Rattle.cfi_unit.specs.declared.mask.Mask.TheVariants.{Shifts}
 use Rattle.cfi_unit.specs.declared.unit.Unit as U
 use Rattle.cfi_unit.specs.declared.unit.Unit.TheVariants as V
 use Rattle.cfi_unit.specs.declared.target_word.TargetWord.TheVariants.{First, Second}
@@ -34,7 +35,7 @@ use Rattle.cfi_rules.proofs.PlacedRows.{all_from, one_member, sound_by}
 abbrev apart_with : U.Unit → U.Unit → U.Unit → List U.Unit
 apart_with jump first second =
     V.Plain (Immediate Addi 2 2 0xff0)
-    ∷ V.Stores 2 8 (record { op = Sd; value = 1; distance = 0 } ∷ [])
+    ∷ V.Stores Shifts 2 8 (record { op = Sd; value = 1; distance = 0 } ∷ [])
     ∷ V.Plain (Upper Lui 5 0x10)
     ∷ V.Plain (Load Ld 5 5 0)
     ∷ V.Icall 5 0 1
@@ -78,7 +79,7 @@ apart_lines = refl
 apart_fit : AllFit 0x40000040 apart_units
 unfolding AllFit
 apart_fit =
-    (((lit< tt, lit< tt, lit< tt), refl), ((lit< tt, lit< tt, one_member _ (lit< tt, lit< tt)), (((lit< tt, lit< tt), refl), (((lit< tt, lit< tt, lit< tt), refl), (((lit< tt, lit< tt, lit< tt, refl, refl), refl), (((lit< tt, lit< tt, lit< tt), refl), (((lit< tt, lit< tt, lit< tt), refl), (((lit< tt, lit< tt), refl), (((lit< tt, lit< tt, lit< tt), refl), ((lit< tt, lit< tt, lit< tt, refl, refl), (lit< tt, (((lit< tt, lit< tt, lit< tt), refl), (((lit< tt, lit< tt, lit< tt), refl), (refl, (((lit< tt, lit< tt, lit< tt), refl), (lit< tt, (((lit< tt, lit< tt, lit< tt), refl), (refl, (lit< tt, (lit< tt, (((lit< tt, lit< tt, lit< tt), refl), (refl, (refl, tt)))))))))))))))))))))))
+    (((lit< tt, lit< tt, lit< tt), refl), ((lit< tt, lit< tt, one_member _ (lit< tt, lit< tt), tt), (((lit< tt, lit< tt), refl), (((lit< tt, lit< tt, lit< tt), refl), (((lit< tt, lit< tt, lit< tt, refl, refl), refl), (((lit< tt, lit< tt, lit< tt), refl), (((lit< tt, lit< tt, lit< tt), refl), (((lit< tt, lit< tt), refl), (((lit< tt, lit< tt, lit< tt), refl), ((lit< tt, lit< tt, lit< tt, refl, refl), (lit< tt, (((lit< tt, lit< tt, lit< tt), refl), (((lit< tt, lit< tt, lit< tt), refl), (refl, (((lit< tt, lit< tt, lit< tt), refl), (lit< tt, (((lit< tt, lit< tt, lit< tt), refl), (refl, (lit< tt, (lit< tt, (((lit< tt, lit< tt, lit< tt), refl), (refl, (refl, tt)))))))))))))))))))))))
 
 apart_ahead : AllAhead 0x40000040 apart_units
 unfolding AllAhead code_from words_of decoded code_of

@@ -8,8 +8,9 @@ use Rattle.rv_word.specs.Numbers.{IsNumber, MOST_NUMBERS}
 use Rattle.rv_instr.specs.InRange.{IsInstr}
 use Rattle.rv_instr.specs.declared.instr.Instr.{Instr}
 use Rattle.rv_instr.specs.declared.instr.Instr.TheVariants.{Jal, Jalr, Ecall, Ebreak}
+use Rattle.cfi_unit.specs.declared.mask.Mask.TheVariants.{Shifts, Short, Long}
 use Rattle.cfi_unit.specs.declared.target_word.TargetWord.{TargetWord}
-use Rattle.cfi_unit.specs.declared.target_word.TargetWord.TheVariants.{First, Second}
+use Rattle.cfi_unit.specs.declared.target_word.TargetWord.TheVariants.{First, Second, Third}
 use Rattle.cfi_unit.specs.declared.unit.Unit as U
 use Rattle.cfi_unit.specs.declared.unit.Unit.TheVariants as V
 use Rattle.cfi_unit.specs.declared.unit.SystemOp.TheVariants as S
@@ -17,7 +18,7 @@ use Rattle.cfi_unit.specs.declared.members.Member.{Member}
 use Rattle.cfi_unit.specs.Guarded.{guards}
 use Rattle.cfi_unit.specs.Members.{IsMember, member_instr}
 use Rattle.cfi_unit.specs.Prologue.{call_at, closing_instrs, lone_set_up, opening_instrs, own_set_up, prologue_instrs, set_up}
-use Rattle.cfi_unit.specs.UnitWords.{BAD_TARGET, Fits, instrs_of, jump, jump_offset, push, check, past}
+use Rattle.cfi_unit.specs.UnitWords.{BAD_TARGET, Fits, instrs_of, jump, jump_offset, push, check, mask_made, past}
 use Rattle.cfi_unit.proofs.Jumps.{is_jump_instr}
 
 abbrev pub AreInstrs : List Instr → Type 0
@@ -53,6 +54,7 @@ push_instrs at = (
 past_small : (which : TargetWord) → past which < 2 ^ 12
 past_small First = lit< tt
 past_small Second = lit< tt
+past_small Third = lit< tt
 
 check_instrs : (at rs1 imm label : ℕ) (which : TargetWord) → rs1 < 32 → imm < 2 ^ 12 → label < 2 ^ 20 → AreInstrs (check at rs1 imm label which)
 check_instrs at rs1 imm label which r i l = (
@@ -93,6 +95,12 @@ jump_back rd low = ((low, lit< tt, lit< tt), tt)
 call_instrs : (at target : ℕ) → AreInstrs (instrs_of (V.Call target) at)
 call_instrs at target = append_instrs (push at) (Jal 1 (jump_offset (at + 28) target) ∷ []) (push_instrs at) (is_jump_instr 1 _ _ (lit< tt), tt)
 
+lean_instrs : (at rs1 imm label : ℕ) (which : TargetWord) (rd past : ℕ) → rs1 < 32 → imm < 2 ^ 12 → label < 2 ^ 20 → rd < 32 → past < 2 ^ 12 →
+    AreInstrs (check at rs1 imm label which ++ mask_made ++ Jalr rd 31 past ∷ [])
+lean_instrs at rs1 imm label which rd past r i l d p =
+    append_instrs (check at rs1 imm label which) (mask_made ++ Jalr rd 31 past ∷ []) (check_instrs at rs1 imm label which r i l)
+    ((lit< tt, lit< tt), ((lit< tt, lit< tt, lit< tt), ((d, lit< tt, p), tt)))
+
 members_instrs : (members : List Member) → AllByRecursion IsMember members → AreInstrs (map member_instr members)
 members_instrs [] all = tt
 members_instrs (m ∷ members) all = ((lit< tt, all.0.0, (let low = all.0.1 in omega arith)), members_instrs members all.1)
@@ -114,8 +122,10 @@ unit_instrs (V.System S.Ecall) at f = (tt, tt)
 unit_instrs (V.System S.Ebreak) at f = (tt, tt)
 unit_instrs (V.Guarded ns) at f =
     append_instrs (guards ns) (jump (at + 8 * length ns) BAD_TARGET ∷ Ecall ∷ []) (guards_instrs ns f.0.most f.0.each) (is_jump_instr 0 _ _ (lit< tt), (tt, tt))
-unit_instrs (V.Stores rs1 imm members) at f =
+unit_instrs (V.Stores Shifts rs1 imm members) at f =
     ((lit< tt, f.0, f.1), ((lit< tt, lit< tt, lit< tt), ((lit< tt, lit< tt, lit< tt), members_instrs members f.2.each)))
+unit_instrs (V.Stores Short rs1 imm members) at f = ((lit< tt, f.0, lit< tt), members_instrs members f.2.each)
+unit_instrs (V.Stores Long rs1 imm members) at f = ((lit< tt, f.0, f.1), ((lit< tt, lit< tt, lit< tt), members_instrs members f.2.each))
 unit_instrs (V.Call target) at f = call_instrs at target
 unit_instrs (V.Ijump which rs1 imm label) at f =
     append_instrs (check at rs1 imm label which) (Jalr 0 31 0 ∷ []) (check_instrs at rs1 imm label which f.0 f.1 f.2) (jump_back 0 (lit< tt))
@@ -125,6 +135,12 @@ unit_instrs (V.Icall rs1 imm label) at f =
     (jump_back 1 (lit< tt))
 unit_instrs V.Return at f =
     ((lit< tt, lit< tt, lit< tt), ((lit< tt, lit< tt, lit< tt), ((lit< tt, lit< tt, lit< tt), (is_jump_instr 0 _ _ (lit< tt), ((lit< tt, lit< tt, lit< tt), tt)))))
+unit_instrs (V.LinkCall target) at f = (is_jump_instr 1 _ _ (lit< tt), tt)
+unit_instrs V.Enter at f =
+    ((lit< tt, lit< tt, lit< tt), ((lit< tt, lit< tt, lit< tt), (is_jump_instr 0 _ _ (lit< tt), ((lit< tt, lit< tt, lit< tt), ((lit< tt, lit< tt, lit< tt), tt)))))
+unit_instrs (V.LeanIjump rs1 imm label) at f = lean_instrs at rs1 imm label First 0 0 f.0 f.1 f.2 (lit< tt) (lit< tt)
+unit_instrs (V.LeanIcall rs1 imm label) at f = lean_instrs at rs1 imm label Third 1 8 f.0 f.1 f.2 (lit< tt) (lit< tt)
+unit_instrs V.LeafReturn at f = ((lit< tt, lit< tt, lit< tt), tt)
 
 lone_instrs : AreInstrs lone_set_up
 lone_instrs = ((lit< tt, lit< tt), ((lit< tt, lit< tt), ((lit< tt, lit< tt, lit< tt), tt)))

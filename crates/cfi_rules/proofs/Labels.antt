@@ -10,7 +10,7 @@ use Rattle.rv_word.specs.Memory.{loaded, read}
 use Rattle.cfi_graph.specs.declared.line.SiteKind.{SiteKind}
 use Rattle.cfi_graph.specs.Graph.{GraphParts}
 use Rattle.cfi_unit.specs.declared.target_word.TargetWord.{TargetWord}
-use Rattle.cfi_unit.specs.declared.target_word.TargetWord.TheVariants.{First, Second}
+use Rattle.cfi_unit.specs.declared.target_word.TargetWord.TheVariants.{First, Second, Third}
 use Rattle.cfi_unit.specs.declared.unit.Unit.TheVariants as V
 use Rattle.cfi_unit.specs.Leads.{HasLabel}
 use Rattle.cfi_unit.specs.declared.place.Place.{Place}
@@ -49,12 +49,16 @@ call_fits p profile entry reaches =
 word_round : (which : TargetWord) (v : ℕ) → v % 4 ≡ 0 → (v + past which) % 4 ≡ 0
 word_round First v round = omega arith
 word_round Second v round = omega arith
+word_round Third v round = omega arith
 
 word_among : (which : TargetWord) (v : ℕ) (ts : List ℕ) → is_word_of which (v + past which) ts ≡ true → is_among v ts ≡ true
 word_among First v ts word = subst (λ (a : ℕ). is_among a ts ≡ true) (let same : v + 0 ≡ v = omega arith in same) word
 word_among Second v ts word =
     subst (λ (a : ℕ). is_among a ts ≡ true) (let same : v + 4 - 4 ≡ v = omega arith in same)
     (and_parts (nat_le 4 (v + 4)) (is_among (v + 4 - 4) ts) word).1
+word_among Third v ts word =
+    subst (λ (a : ℕ). is_among a ts ≡ true) (let same : v + 8 - 8 ≡ v = omega arith in same)
+    (and_parts (nat_le 8 (v + 8)) (is_among (v + 8 - 8) ts) word).1
 
 module _ (p : Profile) (profile : IsProfile p) (image : Contents) (graph : GraphParts) (bytes : AreBytes image) (formed : IsWellFormed p image graph) where
   the_prologue : PrologueStands p (loaded image) (prologue p profile image graph bytes formed).0

@@ -26,7 +26,7 @@ use Rattle.cfi_unit.specs.declared.target_word.TargetWord.TheVariants.{First}
 use Rattle.cfi_unit.specs.Prologue.{OPENING}
 use Rattle.cfi_unit.specs.Shadow.{MOST_PENDING}
 use Rattle.cfi_unit.specs.UnitWords.{BAD_TARGET, BAD_RETURN, DEEP, after_unit, gate, past}
-use Rattle.cfi_unit.proofs.Flows.{Suits, TestFits, is_untested, suits, test_fits, untested, direct_call, guarded_call, computed_jump, computed_call, turned_back}
+use Rattle.cfi_unit.proofs.Flows.{Suits, TestFits, by_caller, full_by_caller, is_untested, entered, linked_back, linking_call, linking_computed_call, suits, test_fits, untested, direct_call, guarded_call, computed_jump, computed_call, turned_back}
 use Rattle.cfi_unit.proofs.Labels.{word_small}
 use Rattle.cfi_rules.specs.Along.{Walk}
 use Rattle.cfi_rules.specs.Rules.{IsWellFormed, asked_by, asks, call_by, edge_by, halts_by, site_of, target_by}
@@ -37,9 +37,9 @@ use Rattle.cfi_rules.specs.declared.asks.Asks.{Asks}
 use Rattle.cfi_rules.proofs.Bytes.{loaded_small}
 use Rattle.cfi_rules.proofs.Find.{UnitHere, unit_here}
 use Rattle.cfi_rules.proofs.Labels.{label_in_class}
-use Rattle.cfi_rules.proofs.Leading.{class_parts}
+use Rattle.cfi_rules.proofs.Leading.{IsFullPlace, class_parts}
 use Rattle.cfi_rules.proofs.Places.{PlaceFacts, is_whole, unit_facts, at_unit, at_closing, at_bad_target, at_bad_return, at_deep}
-use Rattle.cfi_rules.proofs.RuleFacts.{edge_starts, call_starts, next_starts, target_bears, unit_borne, gate_borne, site_class}
+use Rattle.cfi_rules.proofs.RuleFacts.{edge_starts, call_starts, next_starts, target_bears, unit_borne, unit_full, gate_borne, site_class}
 use Rattle.cfi_rules.proofs.Standing.{unit_stands}
 
 module _ (p : Profile) (profile : IsProfile p) (image : Contents) (graph : GraphParts) (bytes : AreBytes image) (formed : IsWellFormed p image graph) where
@@ -209,28 +209,39 @@ module _ (p : Profile) (profile : IsProfile p) (image : Contents) (graph : Graph
     abbrev Steps : Flow → Type 0
     Steps f = FlowLeads (by_class graph.lines) f following pending r newer v × Settled v newer
 
-    flow_arrives : (f : Flow) → Suits f → Ruled f following → FlowLeads (by_label (loaded image)) f following pending r newer v → Steps f
-    flow_arrives f (untested exit act is) ruled l = (l, exit_arrives exit is ruled.next ruled.edge l)
-    flow_arrives f (direct_call target) ruled (inl l) =
+    flow_arrives : (f : Flow) → Suits f → by_caller f ≡ true → Ruled f following → FlowLeads (by_label (loaded image)) f following pending r newer v → Steps f
+    flow_arrives f (untested exit act is) full ruled l = (l, exit_arrives exit is ruled.next ruled.edge l)
+    flow_arrives f (direct_call target) full ruled (inl l) =
         (inl l, to_start target v newer (ruled.call target refl) l.2 (pushed following pending newer (ruled.next refl) inside l.0 l.1))
-    flow_arrives f (direct_call target) ruled (inr l) = (inr l, to_deep v pending newer inside l.1 l.2)
-    flow_arrives f (guarded_call numbers) ruled (inl l) = (inl l, goes_to following (ruled.next refl) l.1)
-    flow_arrives f (guarded_call numbers) ruled (inr l) = (inr l, halts l.1)
-    flow_arrives f (computed_jump which rs1 imm label) ruled (inl l) =
+    flow_arrives f (direct_call target) full ruled (inr l) = (inr l, to_deep v pending newer inside l.1 l.2)
+    flow_arrives f (guarded_call numbers) full ruled (inl l) = (inl l, goes_to following (ruled.next refl) l.1)
+    flow_arrives f (guarded_call numbers) full ruled (inr l) = (inr l, halts l.1)
+    flow_arrives f (computed_jump which rs1 imm label) full ruled (inl l) =
         let to = destination r rs1 imm in
         let target = ruled.class (asks K.Jump which label) to ruled.fits refl l.0 in
         (inl (target, l.1), to_target K.Jump which label to v newer target l.1.1 (same_body pending newer l.1.0 inside))
-    flow_arrives f (computed_jump which rs1 imm label) ruled (inr l) =
+    flow_arrives f (computed_jump which rs1 imm label) full ruled (inr l) =
         (inr ((λ target. l.0 (in_class_label K.Jump which label (destination r rs1 imm) target)), l.1), halts l.1)
-    flow_arrives f (computed_call rs1 imm label) ruled (inl (has, inl l)) =
+    flow_arrives f (computed_call rs1 imm label) full ruled (inl (has, inl l)) =
         let to = destination r rs1 imm in
         let target = ruled.class (asks K.Call First label) to ruled.fits refl has in
         (inl (target, inl l), to_target K.Call First label to v newer target l.2 (pushed following pending newer (ruled.next refl) inside l.0 l.1))
-    flow_arrives f (computed_call rs1 imm label) ruled (inl (has, inr l)) =
+    flow_arrives f (computed_call rs1 imm label) full ruled (inl (has, inr l)) =
         (inl (ruled.class (asks K.Call First label) (destination r rs1 imm) ruled.fits refl has, inr l), to_deep v pending newer inside l.1 l.2)
-    flow_arrives f (computed_call rs1 imm label) ruled (inr l) =
+    flow_arrives f (computed_call rs1 imm label) full ruled (inr l) =
         (inr ((λ target. l.0 (in_class_label K.Call First label (destination r rs1 imm) target)), l.1), halts l.1)
-    flow_arrives f turned_back ruled l = (l, return_arrives r pending v newer inside l)
+    flow_arrives f turned_back full ruled l = (l, return_arrives r pending v newer inside l)
+    flow_arrives f (linking_call target) full ruled l = absurd (cc)
+    flow_arrives f entered full ruled l = absurd (cc)
+    flow_arrives f (linking_computed_call rs1 imm label) full ruled l = absurd (cc)
+    flow_arrives f linked_back full ruled l = absurd (cc)
+
+  -- no unit is one of code whose callees save sites
+  pub full_place : (place : Place) (a : ℕ) → PlaceFacts p profile image graph bytes formed place a → IsFullPlace place
+  full_place handler a facts = tt
+  full_place (opening entry) a facts = tt
+  full_place closing a facts = tt
+  full_place (body unit) a facts = unit_full p image graph formed a unit facts.is
 
   -- where a place leads, the walk arrives
   pub arrive : (place : Place) (w : Walk) (v : ℕ) (newer : List ℕ) → place_at p W w.at ≡ Some place → PlaceFacts p profile image graph bytes formed place w.at →
@@ -246,5 +257,5 @@ module _ (p : Profile) (profile : IsProfile p) (image : Contents) (graph : Graph
       }
   arrive (opening entry) w v newer is facts stage (inr l) = let none = ap length stage in let full = l.0 in absurd (omega arith)
   arrive (body u) w v newer is facts stage leads =
-      let arrived = flow_arrives (after_unit u w.at) v w.regs w.pending newer stage (flow_of u) (suits u) (ruled u w.at is facts) leads in
+      let arrived = flow_arrives (after_unit u w.at) v w.regs w.pending newer stage (flow_of u) (suits u) (full_by_caller u (full_place (body u) w.at facts)) (ruled u w.at is facts) leads in
       record { leads = arrived.0; settled = arrived.1 }

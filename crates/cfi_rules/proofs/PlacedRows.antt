@@ -22,12 +22,13 @@ use Rattle.cfi_graph.specs.declared.line.Sort.TheVariants as sorts
 use Rattle.cfi_graph.specs.declared.line.GraphLine.TheVariants.{Class, Site, Edge, Call}
 use Rattle.cfi_graph.specs.Graph.{ClassLine, calls_in, class_in}
 use Rattle.cfi_graph.specs.declared.line.SiteKind.TheVariants as K
+use Rattle.cfi_unit.specs.declared.mask.Mask.TheVariants.{Shifts}
 use Rattle.cfi_unit.specs.declared.unit.Unit as U
 use Rattle.cfi_unit.specs.declared.unit.Unit.TheVariants as V
 use Rattle.cfi_unit.specs.declared.unit.SystemOp.TheVariants as S
 use Rattle.cfi_unit.specs.declared.place.Place.TheVariants.{Body as body}
 use Rattle.cfi_unit.specs.declared.target_word.TargetWord.{TargetWord}
-use Rattle.cfi_unit.specs.declared.target_word.TargetWord.TheVariants.{First, Second}
+use Rattle.cfi_unit.specs.declared.target_word.TargetWord.TheVariants.{First, Second, Third}
 use Rattle.cfi_unit.specs.Members.{AreMembers, IsMember}
 use Rattle.cfi_unit.specs.declared.members.Member.{Member}
 use Rattle.cfi_unit.specs.UnitWords.{after_unit, words_of}
@@ -44,7 +45,7 @@ use Rattle.cfi_rules.proofs.UnitIn.{in_here, in_later}
 abbrev p_units : List U.Unit
 p_units =
     V.Plain (Immediate Addi 2 2 0xff0)
-    ∷ V.Stores 2 8 (record { op = Sd; value = 1; distance = 0 } ∷ [])
+    ∷ V.Stores Shifts 2 8 (record { op = Sd; value = 1; distance = 0 } ∷ [])
     ∷ V.Plain (Upper Lui 5 0x10)
     ∷ V.Plain (Load Ld 5 5 0)
     ∷ V.Icall 5 0 1
@@ -102,7 +103,7 @@ deep_units =
     ∷ V.Jump 0x4000004c
     ∷ V.Branch Bne 10 0 0x40000094
     ∷ V.Plain (Immediate Addi 2 2 0xff0)
-    ∷ V.Stores 2 8 (record { op = Sd; value = 1; distance = 0 } ∷ [])
+    ∷ V.Stores Shifts 2 8 (record { op = Sd; value = 1; distance = 0 } ∷ [])
     ∷ V.Plain (Immediate Addi 10 10 0xfff)
     ∷ V.Call 0x4000004c
     ∷ V.Plain (Load Ld 1 2 8)
@@ -158,7 +159,7 @@ one_member m is =
 p_fit : AllFit 0x40000040 p_units
 unfolding AllFit
 p_fit =
-    (((lit< tt, lit< tt, lit< tt), refl), ((lit< tt, lit< tt, one_member _ (lit< tt, lit< tt)), (((lit< tt, lit< tt), refl), (((lit< tt, lit< tt, lit< tt), refl), (((lit< tt, lit< tt, lit< tt, refl, refl), refl), (((lit< tt, lit< tt, lit< tt), refl), (((lit< tt, lit< tt, lit< tt), refl), (refl, (lit< tt, (((lit< tt, lit< tt, lit< tt), refl), (refl, (lit< tt, (((lit< tt, lit< tt, lit< tt), refl), (refl, (refl, tt)))))))))))))))
+    (((lit< tt, lit< tt, lit< tt), refl), ((lit< tt, lit< tt, one_member _ (lit< tt, lit< tt), tt), (((lit< tt, lit< tt), refl), (((lit< tt, lit< tt, lit< tt), refl), (((lit< tt, lit< tt, lit< tt, refl, refl), refl), (((lit< tt, lit< tt, lit< tt), refl), (((lit< tt, lit< tt, lit< tt), refl), (refl, (lit< tt, (((lit< tt, lit< tt, lit< tt), refl), (refl, (lit< tt, (((lit< tt, lit< tt, lit< tt), refl), (refl, (refl, tt)))))))))))))))
 
 p_ahead : AllAhead 0x40000040 p_units
 unfolding AllAhead code_from words_of decoded code_of
@@ -237,6 +238,9 @@ bears us First a label borne = gate_is (unit_in us 0x40000040 a) label borne
 bears us Second a label borne =
     let parts = and_parts (is_some (unit_in us 0x40000040 a)) (is_label (option_and_then gate_of (unit_in us 0x40000040 (a + 4))) label) borne in
     (parts.0, gate_is (unit_in us 0x40000040 (a + 4)) label parts.1)
+bears us Third a label borne =
+    let parts = and_parts (is_some (unit_in us 0x40000040 a)) (is_label (option_and_then gate_of (unit_in us 0x40000040 (a + 8))) label) borne in
+    (parts.0, gate_is (unit_in us 0x40000040 (a + 8)) label parts.1)
 
 -- so units of which these tests hold are sound
 pub sound_by : (version : GraphVersion) (us : List U.Unit) (heads : List GraphLine) → AllFit 0x40000040 us → AllAhead 0x40000040 us → StartsIn version_1 us 0x40000040 →

@@ -18,7 +18,7 @@ use Rattle.cfi_unit.specs.declared.place.Place.{Place}
 use Rattle.cfi_unit.specs.declared.place.Place.TheVariants.{Handler as handler, Opening as opening, Closing as closing, Body as body}
 use Rattle.cfi_graph.specs.Graph.{ClassLine, GraphParts, calls_in}
 use Rattle.cfi_unit.specs.declared.target_word.TargetWord.{TargetWord}
-use Rattle.cfi_unit.specs.declared.target_word.TargetWord.TheVariants.{First, Second}
+use Rattle.cfi_unit.specs.declared.target_word.TargetWord.TheVariants.{First, Second, Third}
 use Rattle.cfi_unit.specs.Flow as F
 use Rattle.cfi_unit.specs.Flow.{Flow, flow_of}
 use Rattle.cfi_unit.specs.Prologue.{OPENING}
@@ -33,7 +33,7 @@ use Rattle.cfi_rules.specs.declared.asks.Asks.{Asks}
 use Rattle.cfi_rules.specs.declared.reject.Rule.{Rule}
 use Rattle.cfi_rules.specs.declared.reject.Rule.TheVariants as R
 use Rattle.cfi_unit.proofs.Counts.{some_word}
-use Rattle.cfi_unit.proofs.Flows.{Suits, suits, untested, direct_call, computed_jump, computed_call}
+use Rattle.cfi_unit.proofs.Flows.{Suits, suits, untested, direct_call, computed_jump, computed_call, linking_call, linking_computed_call}
 use Rattle.cfi_rules.proofs.PlacedLines.{calls_before, class_before, gates_stand, line_in, line_past, no_class, none_lacks}
 use Rattle.cfi_rules.proofs.Places.{not_handler}
 use Rattle.cfi_rules.proofs.PlacedSplit.{reaches_end, start_is, unit_is}
@@ -45,6 +45,7 @@ target_flow : (f : Flow) → Suits f → (begun : ℕ → Bool) → ((t : ℕ) �
 target_flow f (untested (F.either op rs1 rs2 met target) act is) begun starts = rw (starts target refl) refl
 target_flow f (untested (F.to target) act is) begun starts = rw (starts target refl) refl
 target_flow f (direct_call target) begun starts = rw (starts target refl) refl
+target_flow f (linking_call target) begun starts = rw (starts target refl) refl
 target_flow f other begun starts = refl
 
 abbrev line_with : Flow → ℕ → Option GraphLine
@@ -55,6 +56,7 @@ unlisted_flow : (f : Flow) → Suits f → (a : ℕ) →
 unlisted_flow f (untested (F.either op rs1 rs2 met target) act is) a = rw (eq-eqb target target refl) refl
 unlisted_flow f (untested (F.to target) act is) a = rw (eq-eqb target target refl) refl
 unlisted_flow f (direct_call target) a = rw (eq-eqb target target refl) refl
+unlisted_flow f (linking_call target) a = rw (eq-eqb target target refl) refl
 unlisted_flow f other a = refl
 
 unused_flow : (f : Flow) → Suits f → (place : Place) (a : ℕ) → edge_of place ≡ edge_by f.sites f.exit → call_of place ≡ call_by f.sites f.exit →
@@ -62,6 +64,7 @@ unused_flow : (f : Flow) → Suits f → (place : Place) (a : ℕ) → edge_of p
 unused_flow f (untested (F.either op rs1 rs2 met target) act is) place a edge call = ap (λ o. not (is_some o)) edge
 unused_flow f (untested (F.to target) act is) place a edge call = ap (λ o. not (is_some o)) edge
 unused_flow f (direct_call target) place a edge call = ap (λ o. not (is_some o)) call
+unused_flow f (linking_call target) place a edge call = ap (λ o. not (is_some o)) call
 unused_flow f other place a edge call = refl
 
 site_flow : (f : Flow) → Suits f → (place : Place) (a : ℕ) (lines : List GraphLine) → site_of place ≡ asked_by f.test f.sites →
@@ -69,6 +72,7 @@ site_flow : (f : Flow) → Suits f → (place : Place) (a : ℕ) (lines : List G
     holds_of (asked_by f.test f.sites) (λ (s : Asks). not (is_site_with (line_with f a) s && is_some (targets_for lines s.kind s.which s.label))) || holds_of (line_with f a) (is_lone_site (Some place)) ≡ false
 site_flow f (computed_jump which rs1 imm label) place a lines site known = rw (eq-eqb label label refl, known (asks K.Jump which label) refl, site) refl
 site_flow f (computed_call rs1 imm label) place a lines site known = rw (eq-eqb label label refl, known (asks K.Call First label) refl, site) refl
+site_flow f (linking_computed_call rs1 imm label) place a lines site known = rw (eq-eqb label label refl, known (asks K.Call Third label) refl, site) refl
 site_flow f (untested (F.either op rs1 rs2 met target) act is) place a lines site known = refl
 site_flow f (untested (F.to target) act is) place a lines site known = refl
 site_flow f other place a lines site known = refl
@@ -238,6 +242,8 @@ module _ (p : Profile) (words : List ℕ) (version : GraphVersion) (entry : ℕ)
   borne First a label bears = gate_there a label bears
   borne Second a label bears =
       and_from (has_unit p words a) (is_label (gate_label p words (a + 4)) label) (ap is_some (unit a) ∙ bears.0) (gate_there (a + 4) label bears.1)
+  borne Third a label bears =
+      and_from (has_unit p words a) (is_label (gate_label p words (a + 8)) label) (ap is_some (unit a) ∙ bears.0) (gate_there (a + 8) label bears.1)
 
   gate_holds : Holds p words the_graph R.Gate
   gate_holds a =

@@ -9,16 +9,18 @@ use Rattle.std.proofs.lemmas.Option.{none-some, same_Some}
 use Rattle.rv_word.proofs.Cases.{cases_Option, chosen}
 use Rattle.cfi_graph.specs.declared.line.GraphLine.{GraphLine}
 use Rattle.cfi_graph.specs.declared.line.SiteKind.{SiteKind}
-use Rattle.cfi_graph.specs.Graph.{ClassLine, GraphParts, class_in}
+use Rattle.cfi_graph.specs.Graph.{calls_in, ClassLine, GraphParts, class_in}
 use Rattle.cfi_unit.specs.declared.unit.Unit as U
 use Rattle.cfi_unit.specs.declared.unit.Unit.TheVariants as V
 use Rattle.cfi_unit.specs.declared.place.Place.{Place}
 use Rattle.cfi_unit.specs.declared.target_word.TargetWord.{TargetWord}
-use Rattle.cfi_unit.specs.declared.target_word.TargetWord.TheVariants.{First, Second}
+use Rattle.cfi_unit.specs.declared.target_word.TargetWord.TheVariants.{First, Second, Third}
+use Rattle.cfi_unit.specs.Flow.{flow_of}
+use Rattle.cfi_unit.specs.Templates.{is_full}
 use Rattle.cfi_unit.specs.UnitWords.{past, word_count}
 use Rattle.cfi_rules.specs.Lines.{holds_of, line_at, class_with, or_class, targets_for, is_among, is_beside, is_word_of, read_of}
 use Rattle.cfi_rules.specs.Split.{code_words, is_start, unit_at, place_at}
-use Rattle.cfi_rules.specs.Rules.{IsWellFormed, edge_of, call_of, site_of, gate_of, gate_label, has_unit, is_label, is_astray, is_borne, is_stop, is_bad_end, lacks_gate, is_lone_site, is_site_with}
+use Rattle.cfi_rules.specs.Rules.{admitted_in, is_of_version, may_call, test_is_of_version, IsWellFormed, edge_of, call_of, site_of, gate_of, gate_label, has_unit, is_label, is_astray, is_borne, is_stop, is_bad_end, lacks_gate, is_lone_site, is_site_with}
 use Rattle.cfi_rules.specs.declared.asks.Asks.{Asks}
 use Rattle.cfi_rules.specs.declared.reject.Rule.TheVariants as R
 use Rattle.cfi_rules.proofs.Find.{UnitHere}
@@ -68,14 +70,25 @@ pub unit_borne : (p : Profile) (words : List ℕ) (which : TargetWord) (v l : �
     (u : U.Unit) × (unit_at p words v ≡ Some u)
 unit_borne p words First v l borne = (V.Gate l, gate_is (unit_at p words v) l borne)
 unit_borne p words Second v l borne = some_is (unit_at p words v) (and_parts (has_unit p words v) (is_label (gate_label p words (v + 4)) l) borne).0
+unit_borne p words Third v l borne = some_is (unit_at p words v) (and_parts (has_unit p words v) (is_label (gate_label p words (v + 8)) l) borne).0
 
 pub gate_borne : (p : Profile) (words : List ℕ) (which : TargetWord) (v l : ℕ) → is_borne (has_unit p words) (gate_label p words) which v l ≡ true →
     unit_at p words (v + past which) ≡ Some (V.Gate l)
 gate_borne p words First v l borne = ap (unit_at p words) (let same : v + 0 ≡ v = omega arith in same) ∙ gate_is (unit_at p words v) l borne
 gate_borne p words Second v l borne =
     gate_is (unit_at p words (v + 4)) l (and_parts (has_unit p words v) (is_label (gate_label p words (v + 4)) l) borne).1
+gate_borne p words Third v l borne =
+    gate_is (unit_at p words (v + 8)) l (and_parts (has_unit p words v) (is_label (gate_label p words (v + 8)) l) borne).1
 
 module _ (p : Profile) (image : Contents) (graph : GraphParts) (formed : IsWellFormed p image graph) where
+  -- each unit is one of code whose callers save sites
+  pub unit_full : (a : ℕ) (u : U.Unit) → unit_at p (code_words image.code) a ≡ Some u → is_full u ≡ true
+  unit_full a u is =
+      let rule = (or_parts _ (holds_of (unit_at p (code_words image.code) a) (λ (v : U.Unit). not (admitted_in graph v))) (formed.rules R.Unit a)).1 in
+      let here : not (admitted_in graph u) ≡ false = sym (ap (λ o. holds_of o (λ (v : U.Unit). not (admitted_in graph v))) is) ∙ rule in
+      let version = (and_parts (is_of_version graph.version u) (may_call (calls_in graph.lines) u) (not_false (admitted_in graph u) here)).0 in
+      (and_parts (is_full u) (test_is_of_version graph.version (flow_of u).test (flow_of u).sites) version).0
+
   pub edge_starts : (a : ℕ) (place : Place) (t : ℕ) → place_at p (code_words image.code) a ≡ Some place → edge_of place ≡ Some t →
       is_start p (code_words image.code) t ≡ true
   edge_starts a place t here edge =

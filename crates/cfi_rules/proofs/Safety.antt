@@ -29,7 +29,8 @@ use Rattle.cfi_unit.specs.UnitLaw.{ActEnds, Ends, Outcome, stays, leaves, ends, 
 use Rattle.cfi_unit.proofs.Changed.{in_place_changed, IsReady, place_begins}
 use Rattle.cfi_unit.proofs.Context.{holds_same}
 use Rattle.cfi_unit.proofs.Events.{unit_events}
-use Rattle.cfi_unit.proofs.Flows.{is_single, single_word}
+use Rattle.cfi_unit.proofs.Flows.{full_asks, is_single, single_word}
+use Rattle.cfi_rules.proofs.RuleFacts.{unit_full}
 use Rattle.cfi_unit.proofs.Others.{other_part}
 use Rattle.cfi_unit.proofs.Parts.{own_is_part}
 use Rattle.cfi_unit.proofs.PlaceWords.{place_word}
@@ -145,7 +146,7 @@ module _ (p : Profile) (profile : IsProfile p) (image : Contents) (graph : Graph
   ready_of part (opening entry) at pending h facts stage e own x3 = own facts.0
   ready_of part closing at pending h facts stage e own x3 = tt
   ready_of part (body unit) at [] h facts stage e own x3 = absurd stage.sites
-  ready_of part (body unit) at (site ∷ pending) h facts stage e own (inl x3) = x3
+  ready_of part (body unit) at (site ∷ pending) h facts stage e own (inl x3) = (x3, full_asks unit h.regs (unit_full p image graph formed at unit facts.is))
   ready_of part (body unit) at (site ∷ pending) h facts stage e own (inr low) =
       let layout = laid_out p profile in let from = facts.low in absurd (omega arith)
 
@@ -170,6 +171,10 @@ module _ (p : Profile) (profile : IsProfile p) (image : Contents) (graph : Graph
       let facts = place_facts p profile image graph bytes formed h.pc place is in
       let may = may_stand p profile image graph bytes formed place h.pc pending facts (first_call place pending stage) in
       place_begins part (loaded image) h.pc h m p place pending may (ready_of part place h.pc pending h facts stage refl own x3) refl
+
+  pub pointed : {A B C : Type 0} → (A × B) ⊎ C → A ⊎ C
+  pointed (inl both) = inl both.0
+  pointed (inr other) = inr other
 
   pub past : {A : Type 0} {pc : ℕ} → A ⊎ (pc < OPENING) → A ⊎ (pc ≤ OPENING)
   past (inl x3) = inl x3
@@ -233,7 +238,7 @@ module _ (p : Profile) (profile : IsProfile p) (image : Contents) (graph : Graph
           let to = arrive p profile image graph bytes formed place w after.hart.pc newer is (place_facts p profile image graph bytes formed w.at place is) stage goes in
           ran place pc after.turn (Rest w after) (Left after) t
           (go_on (with_walk walks k w) (with_hart hs k after.hart) after.shared
-          (known_after w after newer c (arrived w place newer refl is to c.kept.held x3)))
+          (known_after w after newer c (arrived w place newer refl is to c.kept.held (pointed x3))))
       follows w place pc after is stage word (ends how kept) = ended p w.at pc after.turn (Rest w after) (Left after) kept.code place word how
 
       -- whatever it comes to, no byte outside of data and of the own part is written
@@ -331,7 +336,7 @@ well_formed_is_safe p image graph profile bytes formed =
     let words = code_words image.code in
     let (us, split, same) = code_is_split p image graph profile bytes formed in (
       us,
-      record { low = omega arith; round = laid.round; small = are_words image.code bytes.code; read = split_read us (unit_words p words) p.units_from split },
+      record { low = omega arith; round = laid.round; small = are_words image.code bytes.code; read = split_read us (unit_words p words) p.units_from (λ a u e. unit_full p image graph formed a u (same a ∙ e)) split },
       subst (λ (places : ℕ → Option Place). AllRunAlong p image places graph.lines) (places_same p words us same)
           (well_formed_along p profile image graph bytes formed),
     )

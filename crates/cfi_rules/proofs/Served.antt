@@ -10,7 +10,7 @@ use Rattle.cfi_graph.specs.declared.line.Sort.{Sort}
 use Rattle.cfi_graph.specs.declared.line.Sort.TheVariants.{Both, Calls, Jumps}
 use Rattle.cfi_graph.specs.Graph.{ClassLine}
 use Rattle.cfi_unit.specs.declared.target_word.TargetWord.{TargetWord}
-use Rattle.cfi_unit.specs.declared.target_word.TargetWord.TheVariants.{First, Second}
+use Rattle.cfi_unit.specs.declared.target_word.TargetWord.TheVariants.{First, Second, Third}
 use Rattle.cfi_rules.specs.Lines.{class_with, if_serves, read_of, serves, targets_for}
 
 -- the class that gives a transfer its targets
@@ -42,9 +42,12 @@ some_class lines kind which l e = by (class_with lines l) e
 pub reads_it : (sort : Sort) (kind : SiteKind) (which : TargetWord) → serves sort kind which ≡ true → read_of sort ≡ which
 reads_it Both kind First e = refl
 reads_it Both kind Second e = absurd (cc)
+reads_it Both kind Third e = absurd (cc)
 reads_it Calls K.Call First e = refl
 reads_it Calls K.Call Second e = absurd (cc)
+reads_it Calls K.Call Third e = absurd (cc)
 reads_it Calls K.Jump which e = absurd (cc)
 reads_it Jumps K.Jump Second e = refl
 reads_it Jumps K.Jump First e = absurd (cc)
+reads_it Jumps K.Jump Third e = absurd (cc)
 reads_it Jumps K.Call which e = absurd (cc)

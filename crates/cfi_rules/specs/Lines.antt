@@ -10,7 +10,7 @@ use Rattle.cfi_graph.specs.declared.line.Key.{Key}
 use Rattle.cfi_graph.specs.declared.line.Key.TheVariants.{Head, Label, Address}
 use Rattle.cfi_graph.specs.Graph.{ClassLine, class_in, key_of}
 use Rattle.cfi_unit.specs.declared.target_word.TargetWord.{TargetWord}
-use Rattle.cfi_unit.specs.declared.target_word.TargetWord.TheVariants.{First, Second}
+use Rattle.cfi_unit.specs.declared.target_word.TargetWord.TheVariants.{First, Second, Third}
 
 -- a test of a value that is there
 abbrev pub holds_of : {A : Type 0} → Option A → (A → Bool) → Bool
@@ -67,6 +67,7 @@ targets_for lines kind which l = option_and_then (if_serves kind which) (class_w
 abbrev pub is_word_of : TargetWord → ℕ → List ℕ → Bool
 is_word_of First a targets = is_among a targets
 is_word_of Second a targets = nat_le 4 a && is_among (a - 4) targets
+is_word_of Third a targets = nat_le 8 a && is_among (a - 8) targets
 
 -- at an address stands no word of a target that is to bear the class's label
 abbrev pub is_beside : ClassLine → ℕ → Bool

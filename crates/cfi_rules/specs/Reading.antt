@@ -3,6 +3,7 @@
 use Rattle.std.specs.Prelude.{◌≡◌, ◌≢◌, ℕ, ◌+◌, ◌*◌, ◌%◌, ◌≤◌, IsTrue, List, [], ◌∷◌, length, map, take, drop, Option, Some}
 use Rattle.rv_word.specs.MemoryMap.{CODE_START, Profile}
 use Rattle.rv_code.specs.Decode.{decoded}
+use Rattle.cfi_unit.specs.declared.mask.Mask.TheVariants.{Shifts}
 use Rattle.cfi_unit.specs.declared.place.Place.{Place}
 use Rattle.cfi_unit.specs.declared.unit.Unit as U
 use Rattle.cfi_unit.specs.declared.unit.Unit.TheVariants as V
@@ -13,7 +14,7 @@ use Rattle.cfi_unit.specs.UnitWords.{BAD_TARGET, BAD_RETURN, DEEP, IsNear, Reach
 use Rattle.cfi_rules.specs.Split.{place_by, unit_in, unit_words}
 
 -- what a unit's instructions do not tell: that its jumps lead to their targets, that its one instruction may stand
--- alone, how many numbers and stores there may be
+-- alone, how many numbers and stores there may be. Units whose callees save sites stand in no code that is read
 abbrev pub IsProper : U.Unit → ℕ → Type 0
 IsProper (V.Plain instr) at = IsTrue (is_plain instr)
 IsProper (V.Branch op rs1 rs2 target) at = Reaches (at + 4) target
@@ -21,11 +22,17 @@ IsProper (V.Near op rs1 rs2 target) at = IsNear at target
 IsProper (V.Jump target) at = (target ≢ BAD_TARGET) × Reaches at target
 IsProper V.Stop at = Reaches at BAD_TARGET
 IsProper (V.Guarded numbers) at = AreNumbers numbers × Reaches (at + 8 * length numbers) BAD_TARGET
-IsProper (V.Stores rs1 imm members) at = AreMembers members
+IsProper (V.Stores Shifts rs1 imm members) at = AreMembers members
+IsProper (V.Stores mask rs1 imm members) at = ⊥
 IsProper (V.Call target) at = Reaches (at + 8) DEEP × Reaches (at + 28) target
 IsProper (V.Ijump which rs1 imm label) at = Reaches (at + 24) BAD_TARGET × Reaches (at + 44) BAD_TARGET
 IsProper (V.Icall rs1 imm label) at = Reaches (at + 24) BAD_TARGET × Reaches (at + 44) BAD_TARGET × Reaches (at + 56) DEEP
 IsProper V.Return at = Reaches (at + 12) BAD_RETURN
+IsProper (V.LinkCall target) at = ⊥
+IsProper V.Enter at = ⊥
+IsProper (V.LeanIjump rs1 imm label) at = ⊥
+IsProper (V.LeanIcall rs1 imm label) at = ⊥
+IsProper V.LeafReturn at = ⊥
 IsProper other at = Unit {0}
 
 -- words from an address on begin with a unit: each decodes to its instruction, and what follows them may

@@ -22,10 +22,11 @@ use Rattle.cfi_unit.specs.declared.unit.SystemOp.TheVariants as S
 use Rattle.cfi_unit.specs.declared.place.Place.{Place}
 use Rattle.cfi_unit.specs.declared.place.Place.TheVariants.{Opening as opening, Body as body}
 use Rattle.cfi_unit.specs.declared.target_word.TargetWord.{TargetWord}
-use Rattle.cfi_unit.specs.declared.target_word.TargetWord.TheVariants.{First, Second}
+use Rattle.cfi_unit.specs.declared.target_word.TargetWord.TheVariants.{First, Second, Third}
 use Rattle.cfi_unit.specs.Flow as F
 use Rattle.cfi_unit.specs.Flow.{Act, Exit, Sites, Test, flow_of}
 use Rattle.cfi_unit.specs.Prologue.{prologue_instrs}
+use Rattle.cfi_unit.specs.Templates.{is_full}
 use Rattle.cfi_unit.specs.UnitWords.{after_unit}
 use Rattle.cfi_rules.specs.Lines.{holds_of, line_at, class_with, targets_for, is_among, is_beside, read_of}
 use Rattle.cfi_rules.specs.Split.{code_words, unit_words, unit_starts, is_start, unit_at, place_at}
@@ -41,13 +42,15 @@ target_by (F.either op rs1 rs2 met target) = Some target
 target_by (F.to target) = Some target
 target_by other = None
 
--- it is an edge's where no site is put on top, and a call's where one is
+-- it is a call's where the unit leaves the address after it as a site, and else an edge's
 abbrev pub edge_by : Sites → Exit → Option ℕ
 edge_by F.pushes exit = None
+edge_by F.links exit = None
 edge_by other exit = target_by exit
 
 abbrev pub call_by : Sites → Exit → Option ℕ
 call_by F.pushes exit = target_by exit
+call_by F.links exit = target_by exit
 call_by other exit = None
 
 -- where a branch or a jump leads
@@ -67,6 +70,7 @@ asks kind which label = record { kind = kind; which = which; label = label }
 
 abbrev pub kind_by : Sites → SiteKind
 kind_by F.pushes = K.Call
+kind_by F.links = K.Call
 kind_by other = K.Jump
 
 abbrev pub asked_by : Test → Sites → Option Asks
@@ -143,16 +147,17 @@ jump_word TwoLabels = Second
 abbrev pub same_word : TargetWord → TargetWord → Bool
 same_word First First = true
 same_word Second Second = true
+same_word Third Third = true
 same_word which other = false
 
--- a check before a jump reads that word; one that puts a site on top is a call's
+-- a check before a jump reads that word; one that puts a site on top is a call's. In such code callers save their sites
 abbrev pub test_is_of_version : GraphVersion → Test → Sites → Bool
 test_is_of_version version test F.pushes = true
 test_is_of_version version (F.borne which rs1 imm label) sites = same_word which (jump_word version)
 test_is_of_version version other sites = true
 
 abbrev pub is_of_version : GraphVersion → U.Unit → Bool
-is_of_version version unit = test_is_of_version version (flow_of unit).test (flow_of unit).sites
+is_of_version version unit = is_full unit && test_is_of_version version (flow_of unit).test (flow_of unit).sites
 
 -- with a list of system calls each `ecall` is guarded by just its numbers; without a list none is
 abbrev pub act_may_call : Option (List ℕ) → Test → Act → Bool
@@ -226,6 +231,7 @@ gate_label p words a = option_and_then gate_of (unit_at p words a)
 abbrev pub is_borne : (ℕ → Bool) → (ℕ → Option ℕ) → TargetWord → ℕ → ℕ → Bool
 is_borne starts gate First a label = is_label (gate a) label
 is_borne starts gate Second a label = starts a && is_label (gate (a + 4)) label
+is_borne starts gate Third a label = starts a && is_label (gate (a + 8)) label
 
 abbrev pub lacks_gate : (ℕ → Bool) → (ℕ → Option ℕ) → ℕ → GraphLine → Bool
 lacks_gate starts gate a line =

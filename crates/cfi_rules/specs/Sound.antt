@@ -12,7 +12,7 @@ use Rattle.cfi_unit.specs.declared.unit.Unit as U
 use Rattle.cfi_unit.specs.declared.unit.Unit.TheVariants as V
 use Rattle.cfi_unit.specs.declared.place.Place.TheVariants.{Body as body}
 use Rattle.cfi_unit.specs.declared.target_word.TargetWord.{TargetWord}
-use Rattle.cfi_unit.specs.declared.target_word.TargetWord.TheVariants.{First, Second}
+use Rattle.cfi_unit.specs.declared.target_word.TargetWord.TheVariants.{First, Second, Third}
 use Rattle.cfi_unit.specs.UnitWords.{Reaches}
 use Rattle.cfi_rules.specs.declared.asks.Asks.{Asks}
 use Rattle.cfi_rules.specs.Lines.{class_with, targets_for, is_among, is_word_of, read_of}
@@ -32,6 +32,7 @@ target_of unit = option_or (edge_of (body unit)) (call_of (body unit))
 abbrev pub Bears : Profile → List U.Unit → TargetWord → ℕ → ℕ → Type 0
 Bears p units First a label = unit_in units p.units_from a ≡ Some (V.Gate label)
 Bears p units Second a label = StartsIn p units a × (unit_in units p.units_from (a + 4) ≡ Some (V.Gate label))
+Bears p units Third a label = StartsIn p units a × (unit_in units p.units_from (a + 8) ≡ Some (V.Gate label))
 
 pub record IsSound (p : Profile) (version : GraphVersion) (entry : ℕ) (units : List U.Unit) (heads : List GraphLine) : Type 0 where
   -- each unit may stand where it does, before those that follow it, and in code of such a graph

@@ -25,6 +25,7 @@ InClass lines kind which label v = IsTrue (holds_of (targets_for lines kind whic
 -- the computed destinations that are legal for the walk: a transfer that puts its site on top is a call
 abbrev pub by_class : List GraphLine → Legal
 by_class lines F.pushes which label v = InClass lines K.Call which label v
+by_class lines F.links which label v = InClass lines K.Call which label v
 by_class lines other which label v = InClass lines K.Jump which label v
 
 abbrev pub is_some_target : List ℕ → Bool
@@ -64,13 +65,15 @@ ReturnGoes [] v after = To BAD_RETURN [] v after
 ReturnGoes (site ∷ pending) v after =
     To site pending v after ⊎ To BAD_RETURN (site ∷ pending) v after
 
--- to a target, with the site put on top where the unit does so
+-- to a target, with the site put on top where the unit does so. Units that save a site by x1 stand in no code that has a walk
 abbrev pub SitesGo : Sites → ℕ → List ℕ → ℕ → List ℕ → ℕ → Type 0
 SitesGo F.pushes following pending v after target = CallGoes following target pending v after
+SitesGo F.links following pending v after target = ⊥
+SitesGo F.saves following pending v after target = ⊥
 SitesGo other following pending v after target = To target pending v after
 
 abbrev pub ExitGoes : Exit → Sites → ℕ → List ℕ → ℕ → List ℕ → Type 0
-ExitGoes F.on sites following pending v after = To following pending v after
+ExitGoes F.on sites following pending v after = SitesGo sites following pending v after following
 ExitGoes (F.either op rs1 rs2 met target) sites following pending v after = To following pending v after ⊎ To target pending v after
 ExitGoes (F.to target) sites following pending v after = SitesGo sites following pending v after target
 ExitGoes (F.halts stop) sites following pending v after = To stop pending v after
@@ -80,6 +83,7 @@ ExitGoes other sites following pending v after = ⊥
 
 abbrev pub ClassGoes : List GraphLine → Sites → TargetWord → ℕ → ℕ → List ℕ → ℕ → List ℕ → Type 0
 ClassGoes lines F.pushes which label following pending v after = ComputedCallGoes lines following label pending v after
+ClassGoes lines F.links which label following pending v after = ⊥
 ClassGoes lines other which label following pending v after = JumpGoes lines which label pending v after
 
 -- a computed transfer goes by its class, whatever its destination

@@ -14,3 +14,4 @@ pub mod GroupStores
 pub mod Distances
 pub mod GroupMembers
 pub mod WorkedGroup
+pub mod WorkedLean

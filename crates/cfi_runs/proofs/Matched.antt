@@ -1,5 +1,5 @@
 -- A unit's flow, seen from the program: what the unit is left with matches what the program's own step leaves.
-use Rattle.std.proofs.Common.{◌≡◌, ◌≢◌, ℕ, zero, suc, ◌+◌, ◌-◌, ◌^◌, ◌==◌, ◌≤◌, ◌<◌, ◌||◌, Bool, true, false, List, [], ◌∷◌, length, inl, inr, if◌then◌else◌, refl, sym, ap, subst, ◌∙◌, arith}
+use Rattle.std.proofs.Common.{◌≡◌, ◌≢◌, ℕ, zero, suc, ◌+◌, ◌-◌, ◌*◌, ◌/◌, ◌^◌, ◌==◌, ◌≤◌, ◌<◌, ◌||◌, Bool, true, false, List, [], ◌∷◌, length, inl, inr, if◌then◌else◌, refl, sym, ap, subst, ◌∙◌, arith}
 use Rattle.std.specs.List.{AllByRecursion, list_any}
 use Rattle.std.proofs.lemmas.Bool.{cases_Bool, eqb-true, false≢true}
 use Rattle.rv_word.specs.MemoryMap.{Profile, SHADOW_START}
@@ -17,7 +17,7 @@ use Rattle.rv_code.specs.declared.turn.Turn.TheVariants.{Ran}
 use Rattle.rv_code.proofs.Frames.{write_outside}
 use Rattle.cfi_unit.specs.declared.members.Member.{Member}
 use Rattle.cfi_unit.specs.declared.target_word.TargetWord.{TargetWord}
-use Rattle.cfi_unit.specs.declared.target_word.TargetWord.TheVariants.{First}
+use Rattle.cfi_unit.specs.declared.target_word.TargetWord.TheVariants.{First, Third}
 use Rattle.cfi_unit.specs.declared.unit.Unit as U
 use Rattle.cfi_unit.specs.declared.unit.SystemOp.TheVariants as S
 use Rattle.cfi_unit.specs.Flow as F
@@ -28,14 +28,14 @@ use Rattle.cfi_unit.specs.Between.{Unchanged}
 use Rattle.cfi_unit.specs.UnitLaw.{ReturnsTo}
 use Rattle.cfi_unit.specs.Leads.{HasLabel, sum_of, destination}
 use Rattle.cfi_unit.specs.Leaving.{CallsAt, SameRegisters, LeftTo, Executes, StoresEach, masked, pushed, stored_at, with_memory}
-use Rattle.cfi_unit.specs.Effect.{ActDoes, CallDoes, ExitDoes, FlowDoes, ReturnDoes, UnitDoes}
+use Rattle.cfi_unit.specs.Effect.{ActDoes, CallDoes, EnterDoes, ExitDoes, FlowDoes, ReturnDoes, UnitDoes}
 use Rattle.cfi_unit.specs.EffectLaw.{Enters}
 use Rattle.cfi_unit.proofs.Counts.{some_word}
 use Rattle.cfi_unit.proofs.EffectSteps.{same_link}
-use Rattle.cfi_unit.proofs.Flows.{ActFits, Suits, act_fits, is_single, is_untested, single_word, suits, untested, direct_call, guarded_call, computed_jump, computed_call, turned_back}
+use Rattle.cfi_unit.proofs.Flows.{ActFits, Suits, act_fits, entered, is_single, is_untested, linked_back, linking_call, linking_computed_call, single_word, suits, untested, direct_call, guarded_call, computed_jump, computed_call, turned_back}
 use Rattle.cfi_runs.specs.MatchLaws as law
 use Rattle.cfi_runs.specs.Matching.{SameData, Matches, MatchesAfter}
-use Rattle.cfi_runs.specs.Own.{Own, calls, computed, executes, goes, own_act, own_exit, own_step, returns, stored_all}
+use Rattle.cfi_runs.specs.Own.{Own, calls, computed, executes, goes, links, own_act, own_exit, own_step, returns, saves, stored_all}
 use Rattle.cfi_runs.specs.OwnRuns.{SitesFit}
 use Rattle.cfi_runs.specs.Tame.{ActTame, ExitTame, IsTame, NamesNoReserved, ReturnTame, TestTame, act_names, exit_names}
 use Rattle.cfi_runs.proofs.Alike.{AlikeAfter, sum_same, is_self, or_first, or_second, plain_alike, break_alike}
@@ -224,6 +224,20 @@ module _ (p : Profile) (part : ℕ) (image base : Memory) (o : Own) (h : Hart) (
       (same_link o.regs h.regs site site refl same) (pushed_here site) after does.1
   called target target' site e room after (inr full) = let none = full.0 in absurd (omega arith)
 
+  -- where the callee saves sites
+  linked : (target target' site : ℕ) → target' ≡ target → (after : After) →
+      LeftTo part image base target' o.pending (set_reg h.regs 1 site) (Unchanged s) after → MatchesAfter part image base (links p o target site) after
+  linked target target' site e =
+      left_matches part image base (record o { pc = target; regs = set_reg o.regs 1 site }) target' (set_reg h.regs 1 site) s e
+      (same_link o.regs h.regs site site refl same) alike
+
+  saved : (next : ℕ) → length o.pending < MOST_PENDING → (after : After) → EnterDoes p part image base Unchanged h s next o.pending after →
+      MatchesAfter part image base (saves p o next) after
+  saved next room after (inl does) =
+      let here = subst (λ (site : ℕ). LeftTo part image base next (site ∷ o.pending) h.regs (Unchanged (pushed part (length o.pending) site s)) after) (same.same 1 refl) does.1 in
+      left_matches part image base (record o { pc = next; pending = o.regs 1 ∷ o.pending }) next h.regs _ refl same (pushed_here (o.regs 1)) after here
+  saved next room after (inr full) = let none = full.0 in absurd (omega arith)
+
   returned : (sites : List ℕ) → ReturnTame sites o.regs → (after : After) → ReturnDoes p part image base Unchanged h s sites after →
       MatchesAfter part image base (returns p o sites) after
   returned [] tame after does = absurd tame
@@ -232,7 +246,7 @@ module _ (p : Profile) (part : ℕ) (image base : Memory) (o : Own) (h : Hart) (
   returned (site ∷ sites) tame after (inr halts) = absurd (halts.0 (same.same 1 refl ∙ tame))
 
   exit_matches : (exit : Exit) (past : ℕ) → is_untested exit ≡ true → ((k : ℕ) → exit_names exit k ≡ true → is_reserved k ≡ false) →
-      ExitTame exit F.keeps o.pending → (after : After) → ExitDoes p part image base Unchanged h s exit F.keeps past o.pending after →
+      ExitTame exit F.keeps o.pending o.regs → (after : After) → ExitDoes p part image base Unchanged h s exit F.keeps past o.pending after →
       MatchesAfter part image base (own_exit p o exit F.keeps past) after
   exit_matches (F.either op rs1 rs2 true target) past is free tame after does =
       goes_so _ _ (ap (λ (b : Bool). if b then target else past) (taken_here op rs1 rs2 (first_free rs1 rs2 free) (second_free rs1 rs2 free))) after does
@@ -241,6 +255,8 @@ module _ (p : Profile) (part : ℕ) (image base : Memory) (o : Own) (h : Hart) (
   exit_matches (F.halts stop) past is free tame after does = absurd tame
   exit_matches (F.computed rs1 imm) past is free tame after does = absurd (cc)
   exit_matches F.back past is free tame after does = absurd (cc)
+  exit_matches (F.beyond rs1 imm) past is free tame after does = absurd (cc)
+  exit_matches F.linked past is free tame after does = absurd (cc)
   exit_matches other past is free tame after does = goes_so _ _ refl after does
 
   made : (past : ℕ) → 4 ≤ past → (after : After) → CallsAt p part image base (past - 4) o.pending h.regs (Unchanged s) after →
@@ -286,6 +302,14 @@ module _ (p : Profile) (part : ℕ) (image base : Memory) (o : Own) (h : Hart) (
   flow_matches f (computed_call rs1 imm label) past fits single some free tame after (inr halts) =
       absurd (halts.0 (bears First rs1 imm label (free rs1 (is_self rs1)) tame.0))
   flow_matches f turned_back past fits single some free tame after does = returned o.pending tame after does
+  flow_matches f (linking_call target) past fits single some free tame after does = linked _ _ _ refl after does
+  flow_matches f entered past fits single some free tame after does = saved past tame.0 after does
+  flow_matches f (linking_computed_call rs1 imm label) past fits single some free tame after (inl does) =
+      linked _ _ _ (ap (λ (v : ℕ). v + 8) (computed_here Third rs1 imm label (free rs1 (is_self rs1)) tame)) after does.1
+  flow_matches f (linking_computed_call rs1 imm label) past fits single some free tame after (inr halts) =
+      absurd (halts.0 (bears Third rs1 imm label (free rs1 (is_self rs1)) tame))
+  flow_matches f linked_back past fits single some free tame after does =
+      goes_so _ _ (ap (λ (v : ℕ). v / 2 * 2) (sum_here 1 0 refl)) after does
 
   unit_matches : (unit : U.Unit) → Fits unit o.pc → NamesNoReserved unit → IsTame image unit o.pending o.regs → (after : After) →
       UnitDoes p part image base Unchanged h s unit o.pc o.pending after → MatchesAfter part image base (own_step p o unit) after
@@ -310,6 +334,7 @@ unit_keeps_match p part image base unit o h s own bytes fit step_is m =
       context = m.context;
       pc = m.pc;
       pointer = m.pointer;
+      asks = step_is.asks h.regs m.regs;
     } in
     within_weaker p (UnitDoes p part image base Unchanged h s unit o.pc o.pending) (MatchesAfter part image base (own_step p o unit))
     (unit_matches p part image base o h s own.low m unit step_is.fits step_is.free step_is.tame)

@@ -11,7 +11,7 @@ use Rattle.cfi_unit.specs.Flow.{Act, Exit, Flow, flow_of}
 use Rattle.cfi_unit.specs.UnitWords.{after_unit, word_count}
 use Rattle.cfi_unit.specs.Shadow.{IsPart, MOST_PENDING}
 use Rattle.cfi_unit.proofs.Counts.{most_words, some_word}
-use Rattle.cfi_unit.proofs.Flows.{Suits, is_untested, suits, untested, direct_call, guarded_call, computed_jump, computed_call, turned_back}
+use Rattle.cfi_unit.proofs.Flows.{Suits, entered, is_untested, linked_back, linking_call, linking_computed_call, suits, untested, direct_call, guarded_call, computed_jump, computed_call, turned_back}
 use Rattle.cfi_runs.specs.MatchLaws as law
 use Rattle.cfi_runs.specs.MatchLaws.{ComesTo}
 use Rattle.cfi_runs.specs.Matching.{Matches, MatchesAfter}
@@ -29,6 +29,9 @@ one_word unit = let some = some_word unit in omega arith
 module _ (p : Profile) (image : Memory) (o : Own) (past : ℕ) (even : past % 2 ≡ 0) (small : past < 2 ^ 64) (fit : SitesFit o.pending) where
   called_fit : length o.pending < MOST_PENDING → SitesFit (past ∷ o.pending)
   called_fit room = let most = fit.most in record { each = ((even, small), fit.each); most = omega arith }
+
+  saved_fit : length o.pending < MOST_PENDING → o.regs 1 % 2 ≡ 0 → o.regs 1 < 2 ^ 64 → SitesFit (o.regs 1 ∷ o.pending)
+  saved_fit room whole short = let most = fit.most in record { each = ((whole, short), fit.each); most = omega arith }
 
   returned_fit : (sites : List ℕ) → ReturnTame sites o.regs → SitesFit sites → SitesFit (returns p o sites).state.pending
   returned_fit [] tame fit = absurd tame
@@ -51,8 +54,12 @@ module _ (p : Profile) (image : Memory) (o : Own) (past : ℕ) (even : past % 2 
   flow_fit f (computed_jump which rs1 imm label) tame = fit
   flow_fit f (computed_call rs1 imm label) tame = called_fit tame.1
   flow_fit f turned_back tame = returned_fit o.pending tame fit
+  flow_fit f (linking_call target) tame = fit
+  flow_fit f entered tame = saved_fit tame.0 tame.1 tame.2
+  flow_fit f (linking_computed_call rs1 imm label) tame = fit
+  flow_fit f linked_back tame = fit
 
--- a tame step leaves pending sites that fit: a call's lies in code
+-- a tame step leaves pending sites that fit: a call's lies in code, an enter's is an instruction's address
 pub sites_fit : (p : Profile) (image : Memory) (unit : U.Unit) (o : Own) → TameStep image unit o → SitesFit o.pending →
     SitesFit (own_step p o unit).state.pending
 sites_fit p image unit o now fit =

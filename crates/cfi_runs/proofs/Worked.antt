@@ -17,6 +17,7 @@ use Rattle.rv_instr.specs.declared.instr.StoreOp.TheVariants.{Sd}
 use Rattle.rv_code.specs.Decode.{decoded}
 use Rattle.rv_code.specs.State.{After}
 use Rattle.rv_code.specs.declared.turn.Turn.TheVariants.{Exit}
+use Rattle.cfi_unit.specs.declared.mask.Mask.TheVariants.{Shifts}
 use Rattle.cfi_unit.specs.declared.members.Member.{Member}
 use Rattle.cfi_unit.specs.declared.unit.Unit as U
 use Rattle.cfi_unit.specs.declared.unit.Unit.TheVariants as V
@@ -56,7 +57,7 @@ abbrev pub member : ℕ → Member
 member k = record { op = Sd; value = k + 4; distance = level (imm k) - low }
 
 abbrev pub saves : U.Unit
-saves = V.Stores 2 (field low) (members_from member 1 2)
+saves = V.Stores Shifts 2 (field low) (members_from member 1 2)
 
 opening_words : (k : ℕ) (i : Instr) → slice_get (opening_instrs version_1 entry) k ≡ Some i → decoded (read 4 (loaded image) (OPENING + 4 * k)) ≡ Some i
 unfolding loaded placed decoded
@@ -157,7 +158,8 @@ seven_steps = record {
   fits = ((lit< tt, lit< tt, lit< tt), refl);
   stands = record { round = refl; low = lit≤ tt; high = lit≤ tt; words = seven_word };
   free = seven_free;
-  some = lit< tt;
+  some = tt;
+  asks = λ r same. tt;
   tame = lit≤ tt;
 }
 
@@ -168,10 +170,11 @@ saved_free (suc (suc i)) below = absurd (omega arith)
 
 pub saves_steps : TameStep (loaded image) saves second
 saves_steps = record {
-  fits = (lit< tt, lit< tt, record { some = lit< tt; most = lit≤ tt; each = ((lit< tt, lit< tt), ((lit< tt, lit< tt), tt)) });
+  fits = (lit< tt, lit< tt, record { some = lit< tt; most = lit≤ tt; each = ((lit< tt, lit< tt), ((lit< tt, lit< tt), tt)) }, tt);
   stands = record { round = refl; low = lit≤ tt; high = lit≤ tt; words = saves_words };
   free = stores_free member 2 (field low) 1 2 refl saved_free;
-  some = lit< tt;
+  some = tt;
+  asks = λ r same. tt;
   tame = lit< tt;
 }
 
@@ -181,6 +184,7 @@ return_steps = record {
   stands = record { round = refl; low = lit≤ tt; high = lit≤ tt; words = return_words };
   free = λ k named. absurd (cc);
   some = lit< tt;
+  asks = λ r same. tt;
   tame = refl;
 }
 

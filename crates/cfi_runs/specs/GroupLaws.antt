@@ -4,6 +4,7 @@ use Rattle.std.specs.Prelude.{◌≡◌, ℕ, suc, ◌+◌, ◌^◌, ◌≤◌, 
 use Rattle.rv_word.specs.MemoryMap.{Profile}
 use Rattle.rv_word.specs.Memory.{Memory}
 use Rattle.rv_code.specs.declared.turn.Turn.TheVariants.{Ran}
+use Rattle.cfi_unit.specs.declared.mask.Mask.TheVariants.{Shifts}
 use Rattle.cfi_unit.specs.declared.members.Member.{Member}
 use Rattle.cfi_unit.specs.declared.unit.Unit.TheVariants as V
 use Rattle.cfi_unit.specs.UnitWords.{after_unit}
@@ -36,9 +37,9 @@ abbrev pub GroupIsOneStep : Type 0
 GroupIsOneStep =
     (p : Profile) (rs1 mask : ℕ) (member : ℕ → Member) (imm gate : ℕ → ℕ) (k n : ℕ) (o last : Own) (at index : ℕ) →
     ((i : ℕ) → i < n → IsPast mask (imm (k + i)) (member (k + i)).distance) → index < n → (member (k + index)).distance ≡ 0 →
-    gate (k + n) ≡ after_unit (V.Stores rs1 mask (members_from member k n)) at → StoresRun p rs1 member imm gate k n o last →
+    gate (k + n) ≡ after_unit (V.Stores Shifts rs1 mask (members_from member k n)) at → StoresRun p rs1 member imm gate k n o last →
     (sum_of o.regs rs1 mask < 2 ^ 28)
-    × (own_step p (record o { pc = at }) (V.Stores rs1 mask (members_from member k n)) ≡ record { state = last; turn = Ran })
+    × (own_step p (record o { pc = at }) (V.Stores Shifts rs1 mask (members_from member k n)) ≡ record { state = last; turn = Ran })
 
 -- offsets that lie no more than 2047 apart are masked by the least of them
 abbrev pub GroupsAreMasked : Type 0

@@ -1,6 +1,7 @@
 -- The program's own run, one instruction a step: what each unit stands for, on registers and memory in
--- which no word of a unit has a part. The pending sites are a list of their own, the newest first.
-use Rattle.std.specs.Prelude.{ℕ, ◌*◌, ◌/◌, true, false, if◌then◌else◌, List, [], ◌∷◌}
+-- which no word of a unit has a part. The pending sites are a list of their own, the newest first; where callees save sites, one is
+-- pending there from its enter on.
+use Rattle.std.specs.Prelude.{ℕ, ◌+◌, ◌*◌, ◌/◌, true, false, if◌then◌else◌, List, [], ◌∷◌}
 use Rattle.rv_word.specs.MemoryMap.{Profile}
 use Rattle.rv_instr.specs.Registers.{Registers, get_reg, set_reg}
 use Rattle.rv_instr.specs.declared.instr.Instr.{Instr}
@@ -53,14 +54,23 @@ module _ (p : Profile) (o : Own) where
   calls target site =
       record { state = record o { pc = target; regs = set_reg o.regs 1 site; pending = site ∷ o.pending }; turn = Ran }
 
+  -- a call that leaves its site to the callee, and the enter that saves it from x1
+  abbrev pub links : ℕ → ℕ → OwnAfter
+  links target site = record { state = record o { pc = target; regs = set_reg o.regs 1 site }; turn = Ran }
+
+  abbrev pub saves : ℕ → OwnAfter
+  saves next = record { state = record o { pc = next; pending = o.regs 1 ∷ o.pending }; turn = Ran }
+
   -- a return goes to the newest site; with none it is not tame
   abbrev pub returns : List ℕ → OwnAfter
   returns [] = goes BAD_RETURN
   returns (site ∷ pending) = record { state = record o { pc = site; pending = pending }; turn = Ran }
 
-  -- to a target, with the site put on top where the unit does so
+  -- to a target, with the site put on top, left in x1 or saved from there where the unit does so
   abbrev pub own_to : Sites → ℕ → ℕ → OwnAfter
   own_to F.pushes past target = calls target past
+  own_to F.links past target = links target past
+  own_to F.saves past target = saves target
   own_to other past target = goes target
 
   -- where a unit goes on; a stop is a section's end, where no step is tame
@@ -69,9 +79,12 @@ module _ (p : Profile) (o : Own) where
       goes (if branch_taken op (get_reg o.regs rs1) (get_reg o.regs rs2) then target else past)
   own_exit (F.either op rs1 rs2 false target) sites past =
       goes (if branch_taken op (get_reg o.regs rs1) (get_reg o.regs rs2) then past else target)
+  own_exit F.on sites past = own_to sites past past
   own_exit (F.to target) sites past = own_to sites past target
   own_exit (F.halts stop) sites past = goes stop
   own_exit (F.computed rs1 imm) sites past = own_to sites past (computed o.regs rs1 imm)
+  own_exit (F.beyond rs1 imm) sites past = own_to sites past (computed o.regs rs1 imm + 8)
+  own_exit F.linked sites past = goes (computed o.regs 1 0)
   own_exit F.back sites past = returns o.pending
   own_exit other sites past = goes past
 

@@ -1,8 +1,8 @@
 -- Which steps of the program's own its units keep: those that load in the window of data, [0, 2 ^ 28),
 -- store past an address in it, make no system call that is not listed where calls are, call no deeper
 -- than the shadow stack, go to a target of their class and return to their newest site, and name no
--- register that units keep for themselves.
-use Rattle.std.specs.Prelude.{◌≡◌, ℕ, ◌+◌, ◌^◌, ◌≤◌, ◌<◌, ◌==◌, ◌||◌, Bool, true, false, List, [], ◌∷◌, length}
+-- register that units keep for themselves. What a unit asks of the registers has to hold whatever those hold.
+use Rattle.std.specs.Prelude.{◌≡◌, ℕ, ◌+◌, ◌%◌, ◌^◌, ◌≤◌, ◌<◌, ◌==◌, ◌||◌, Bool, true, false, List, [], ◌∷◌, length}
 use Rattle.std.specs.List.{list_any}
 use Rattle.rv_word.specs.Memory.{Memory}
 use Rattle.rv_word.specs.Numbers.{is_listed}
@@ -20,6 +20,9 @@ use Rattle.cfi_unit.specs.UnitWords.{Fits, instrs_of}
 use Rattle.cfi_unit.specs.Shadow.{MOST_PENDING}
 use Rattle.cfi_unit.specs.Stand.{Stand}
 use Rattle.cfi_unit.specs.Leads.{HasLabel, sum_of}
+use Rattle.cfi_unit.specs.Leaving.{SameRegisters}
+use Rattle.cfi_unit.specs.EffectLaw.{AsksSite}
+use Rattle.cfi_unit.specs.Templates.{Asks}
 use Rattle.cfi_runs.specs.Own.{Own, computed}
 
 -- the end of the bytes that a load or a store touches
@@ -28,20 +31,21 @@ touched (Load op rd rs1 imm) r = sum_of r rs1 imm + load_size op
 touched (Store op rs1 rs2 imm) r = sum_of r rs1 imm + store_size op
 touched other r = 0
 
--- a site is put on top where there is room
-abbrev pub SitesTame : Sites → List ℕ → Type 0
-SitesTame F.pushes pending = length pending < MOST_PENDING
-SitesTame other pending = Unit {0}
+-- a site is put on top where there is room, from x1 where that is an instruction's address
+abbrev pub SitesTame : Sites → List ℕ → Registers → Type 0
+SitesTame F.pushes pending r = length pending < MOST_PENDING
+SitesTame F.saves pending r = (length pending < MOST_PENDING) × (r 1 % 2 ≡ 0) × (r 1 < 2 ^ 64)
+SitesTame other pending r = Unit {0}
 
 -- a stop is a section's end
-abbrev pub ExitTame : Exit → Sites → List ℕ → Type 0
-ExitTame (F.halts stop) sites pending = ⊥
-ExitTame other sites pending = SitesTame sites pending
+abbrev pub ExitTame : Exit → Sites → List ℕ → Registers → Type 0
+ExitTame (F.halts stop) sites pending r = ⊥
+ExitTame other sites pending r = SitesTame sites pending r
 
 abbrev pub ActTame : Act → Exit → Sites → List ℕ → Registers → Type 0
 ActTame (F.does instr) exit sites pending r = touched instr r ≤ 2 ^ 28
 ActTame (F.stores rs1 imm members) exit sites pending r = sum_of r rs1 imm < 2 ^ 28
-ActTame other exit sites pending r = ExitTame exit sites pending
+ActTame other exit sites pending r = ExitTame exit sites pending r
 
 abbrev pub LabelTame : Sites → List ℕ → Type 0 → Type 0
 LabelTame F.pushes pending borne = borne × (length pending < MOST_PENDING)
@@ -65,6 +69,7 @@ IsTame image unit pending r = TestTame image (flow_of unit).test (flow_of unit) 
 abbrev pub exit_names : Exit → ℕ → Bool
 exit_names (F.either op rs1 rs2 met target) k = rs1 == k || rs2 == k
 exit_names (F.computed rs1 imm) k = rs1 == k
+exit_names (F.beyond rs1 imm) k = rs1 == k
 exit_names other k = false
 
 abbrev pub act_names : Act → Exit → ℕ → Bool
@@ -78,10 +83,12 @@ own_names unit k = act_names (flow_of unit).act (flow_of unit).exit k
 abbrev pub NamesNoReserved : U.Unit → Type 0
 NamesNoReserved unit = (k : ℕ) → own_names unit k ≡ true → is_reserved k ≡ false
 
--- a unit whose words stand at the pc takes a tame step; something is pending until the closing is reached
+-- a unit whose words stand at the pc takes a tame step. What it asks of the registers the program's own tell: so no store is tame
+-- behind a mask that x4 holds
 pub record TameStep (image : Memory) (unit : U.Unit) (o : Own) : Type 0 where
   pub fits : Fits unit o.pc
   pub stands : Stand image o.pc (instrs_of unit o.pc)
   pub free : NamesNoReserved unit
-  pub some : 0 < length o.pending
+  pub some : AsksSite unit o.pending
+  pub asks : (r : Registers) → SameRegisters o.regs r → Asks unit r
   pub tame : IsTame image unit o.pending o.regs

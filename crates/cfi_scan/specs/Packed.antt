@@ -1,7 +1,7 @@
 -- Words of private contracts: entries in four bytes, the number of the kind times 2^20, and the field or label.
 -- The kinds that are no transfer, no gate and no system call come first.
 use Rattle.std.specs.Prelude.{◌≡◌, ℕ, ◌+◌, ◌*◌, ◌/◌, ◌%◌, ◌^◌, ◌==◌, true, false, if◌then◌else◌}
-use Rattle.cfi_unit.specs.declared.target_word.TargetWord.TheVariants.{First, Second}
+use Rattle.cfi_unit.specs.declared.target_word.TargetWord.TheVariants.{First, Second, Third}
 use Rattle.cfi_reader.specs.declared.entry.Entry.{Entry}
 use Rattle.cfi_reader.specs.declared.entry.Entry.TheVariants as E
 
@@ -20,6 +20,13 @@ packed (E.Gate label) = 10 * 2 ^ 20 + label
 packed E.Ecall = 11 * 2 ^ 20
 packed (E.Guarded false) = 12 * 2 ^ 20
 packed (E.Guarded true) = 13 * 2 ^ 20
+packed (E.LinkCall field) = 14 * 2 ^ 20 + field
+packed (E.LeanIjump label) = 15 * 2 ^ 20 + label
+packed (E.LeanIcall label) = 16 * 2 ^ 20 + label
+packed E.Enter = 17 * 2 ^ 20
+packed E.LeafReturn = 18 * 2 ^ 20
+packed E.LeanStores = 19 * 2 ^ 20
+packed (E.Ijump Third label) = 20 * 2 ^ 20 + label
 
 abbrev pub of_kind : ℕ → ℕ → Entry
 of_kind kind field =
@@ -36,7 +43,14 @@ of_kind kind field =
     else if kind == 10 then E.Gate field
     else if kind == 11 then E.Ecall
     else if kind == 12 then E.Guarded false
-    else E.Guarded true
+    else if kind == 13 then E.Guarded true
+    else if kind == 14 then E.LinkCall field
+    else if kind == 15 then E.LeanIjump field
+    else if kind == 16 then E.LeanIcall field
+    else if kind == 17 then E.Enter
+    else if kind == 18 then E.LeafReturn
+    else if kind == 19 then E.LeanStores
+    else E.Ijump Third field
 
 abbrev pub unpacked : ℕ → Entry
 unpacked word = of_kind (word / 2 ^ 20) (word % 2 ^ 20)

@@ -83,6 +83,12 @@ fn word_of(entry: Entry) -> u32
         Entry::Gate(label) => 10 * FIELDS + label.bits(),
         Entry::Ecall => 11 * FIELDS,
         Entry::Guarded(same) => guarded_word(same),
+        Entry::LinkCall(field) => 14 * FIELDS + field.bits(),
+        Entry::LeanIjump(label) => 15 * FIELDS + label.bits(),
+        Entry::LeanIcall(label) => 16 * FIELDS + label.bits(),
+        Entry::Enter => 17 * FIELDS,
+        Entry::LeafReturn => 18 * FIELDS,
+        Entry::LeanStores => 19 * FIELDS,
     }
 }
 
@@ -94,6 +100,7 @@ fn ijump_word(which: TargetWord, label: Immediate<20>) -> u32
     match which {
         TargetWord::First => 7 * FIELDS + label.bits(),
         TargetWord::Second => 9 * FIELDS + label.bits(),
+        TargetWord::Third => 20 * FIELDS + label.bits(),
     }
 }
 
@@ -149,7 +156,23 @@ fn entry_of(word: u32) -> Entry
         Entry::Gate(Immediate::of(field))
     } else if kind == 11 {
         Entry::Ecall
+    } else if kind == 12 {
+        Entry::Guarded(false)
+    } else if kind == 13 {
+        Entry::Guarded(true)
+    } else if kind == 14 {
+        Entry::LinkCall(Immediate::of(field))
+    } else if kind == 15 {
+        Entry::LeanIjump(Immediate::of(field))
+    } else if kind == 16 {
+        Entry::LeanIcall(Immediate::of(field))
+    } else if kind == 17 {
+        Entry::Enter
+    } else if kind == 18 {
+        Entry::LeafReturn
+    } else if kind == 19 {
+        Entry::LeanStores
     } else {
-        Entry::Guarded(kind != 12)
+        Entry::Ijump(TargetWord::Third, Immediate::of(field))
     }
 }

@@ -1,12 +1,12 @@
 -- The unit that begins a list of words has the shape of the table that is found there: of two shapes some word tells
 -- which it is, or the longer one goes on where the other has ended.
-use Rattle.std.proofs.Common.{◌≡◌, ℕ, ◌+◌, ◌==◌, ◌&&◌, ◌||◌, Bool, true, false, not, refl, ap, sym, ◌∙◌, inl, inr, lit<, List, [], ◌∷◌, ◌++◌, drop}
+use Rattle.std.proofs.Common.{◌≡◌, ℕ, ◌+◌, ◌==◌, ◌&&◌, ◌||◌, Bool, true, false, not, refl, ap, sym, ◌∙◌, inl, inr, lit<, List, [], ◌∷◌, ◌++◌, drop, arith}
 use Rattle.std.specs.Prelude.{Option, Some, None, if◌then◌else◌}
 use Rattle.std.specs.List.{list_all}
 use Rattle.std.proofs.lemmas.Bool.{and_from, and_parts, cases_Bool, eq-eqb, eqb-true, not-true, or_cases}
 use Rattle.rv_instr.specs.Reserved.{is_reserved}
 use Rattle.rv_instr.specs.declared.instr.Instr.{Instr}
-use Rattle.rv_instr.specs.declared.instr.Instr.TheVariants.{Upper, Jal, Branch, Load, Store, Immediate, Shift, Ecall, Ebreak}
+use Rattle.rv_instr.specs.declared.instr.Instr.TheVariants.{Upper, Jal, Jalr, Branch, Load, Store, Immediate, Shift, Register, Ecall, Ebreak}
 use Rattle.rv_instr.specs.declared.instr.UpperOp.TheVariants.{Lui}
 use Rattle.rv_code.specs.Decode.{decoded}
 use Rattle.rv_code.specs.Encode.{code_of}
@@ -18,7 +18,7 @@ use Rattle.cfi_unit.specs.declared.pattern.End.TheVariants as E
 use Rattle.cfi_unit.specs.declared.unit.Unit as U
 use Rattle.cfi_unit.specs.Reach.{led_to, reaches}
 use Rattle.cfi_unit.specs.UnitWords.{BAD_TARGET, Begins, is_plain, jump, jump_offset, word_count, words_of}
-use Rattle.cfi_unit.specs.Patterns.{decodes_to, has_form, is_addi, matches}
+use Rattle.cfi_unit.specs.Patterns.{decodes_to, has_form, is_addi, is_and, matches}
 use Rattle.cfi_unit.specs.Shapes.{SHAPES, Shape}
 use Rattle.cfi_unit.specs.ShapeOf.{shape_of}
 use Rattle.cfi_unit.specs.Opens.{Among, Opens}
@@ -39,6 +39,8 @@ sort Ebreak = 5
 sort (Immediate op rd rs1 imm) = if rd == 31 then 6 else 0
 sort (Shift op rd rs1 amount) = if rd == 30 then 7 else 0
 sort (Load op rd rs1 imm) = if rd == 31 then 8 else 0
+sort (Register op rd rs1 rs2) = if rd == 31 then 9 else 0
+sort (Jalr rd rs1 imm) = 10
 sort other = 0
 
 abbrev sort_in : Option Instr → ℕ
@@ -57,6 +59,7 @@ sort_of P.Skip = 3
 sort_of P.Near = 3
 sort_of P.Address = 6
 sort_of P.Number = 6
+sort_of P.Masked = 9
 sort_of other = 0
 
 -- a register that programs may write is none that units keep
@@ -72,7 +75,9 @@ plain_sort (Upper Lui rd imm) h = rw (not-true (rd == 0) (and_parts (not (is_res
 plain_sort (Load op rd rs1 imm) h = rw (free rd 31 h refl) refl
 plain_sort (Immediate op rd rs1 imm) h = rw (free rd 31 h refl) refl
 plain_sort (Shift op rd rs1 amount) h = rw (free rd 30 h refl) refl
+plain_sort (Register op rd rs1 rs2) h = rw (free rd 31 h refl) refl
 plain_sort (Jal rd imm) h = absurd (cc)
+plain_sort (Jalr rd rs1 imm) h = absurd (cc)
 plain_sort (Branch op rs1 rs2 imm) h = absurd (cc)
 plain_sort Ecall h = absurd (cc)
 plain_sort Ebreak h = absurd (cc)
@@ -89,6 +94,7 @@ form_sort P.Link here (Jal rd imm) e = refl
 form_sort P.Address here (Immediate op rd rs1 imm) e = rw (and_parts (is_addi op) (rd == 31) e).1 refl
 form_sort P.Number here (Immediate op rd rs1 imm) e = rw (and_parts (rd == 31) _ (and_parts (is_addi op) _ e).1).0 refl
 form_sort P.Member here (Store op rs1 rs2 imm) e = refl
+form_sort P.Masked here (Register op rd rs1 rs2) e = rw (and_parts (rd == 31) _ (and_parts (is_and op) _ e).1).0 refl
 form_sort P.Plain here i e = plain_sort i e
 form_sort p here i e = absurd (cc)
 
@@ -107,6 +113,8 @@ word_sort p w here m = option_sort p here (decoded w) m
 abbrev same_sort_apart : Pattern → Pattern → Bool
 same_sort_apart (P.Is a) (P.Is b) = not (a == b)
 same_sort_apart (P.Halt to) P.Goto = to == BAD_TARGET
+same_sort_apart (P.Halt to) P.Link = true
+same_sort_apart P.Goto P.Link = true
 same_sort_apart P.Near P.Skip = true
 same_sort_apart one other = false
 
@@ -117,6 +125,14 @@ skip_or_near : (here : ℕ) (o : Option Instr) → decodes_to (has_form P.Near h
 skip_or_near here None m n = cc
 skip_or_near here (Some (Branch op rs1 rs2 imm)) m n = let differs = not-true (imm == 4) m in cc
 skip_or_near here (Some other) m n = cc
+
+jump_or_link : (here : ℕ) (o : Option Instr) → decodes_to (has_form P.Goto here) o ≡ true → decodes_to (has_form P.Link here) o ≡ true → ⊥
+jump_or_link here None m n = cc
+jump_or_link here (Some (Jal rd imm)) m n =
+    let no = eqb-true rd 0 (and_parts (rd == 0) _ m).0 in
+    let one = eqb-true rd 1 n in
+    omega arith
+jump_or_link here (Some other) m n = cc
 
 never_same : (p q : Pattern) (w here : ℕ) → same_sort_apart p q ≡ true → matches p w here ≡ true → matches q w here ≡ true → ⊥
 never_same (P.Is a) (P.Is b) w here e m n =
@@ -132,6 +148,12 @@ never_same (P.Halt to) P.Goto w here e m n =
     let differs = not-true (led_to here (jump_offset here to) == BAD_TARGET) other in
     let equal = eq-eqb (led_to here (jump_offset here to)) BAD_TARGET (eqb-true (led_to here (jump_offset here to)) to halts.0 ∙ eqb-true to BAD_TARGET e) in
     cc
+never_same (P.Halt to) P.Link w here e m n =
+    let halts = and_parts (reaches here to) (w == code_of (jump here to)) m in
+    let is = decoded-code_of (jump here to) (is_jump_instr 0 here to (lit< tt)) in
+    let links = sym (ap (decodes_to (has_form P.Link here)) (ap decoded (eqb-true w (code_of (jump here to)) halts.1) ∙ is)) ∙ n in
+    cc
+never_same P.Goto P.Link w here e m n = jump_or_link here (decoded w) m n
 never_same P.Near P.Skip w here e m n = skip_or_near here (decoded w) m n
 never_same p q w here e m n = cc
 
@@ -153,7 +175,7 @@ tells (p ∷ ps) (q ∷ qs) end = are_apart p q || tells ps qs end
 
 pub goes : (end : End) (p : Pattern) (w : ℕ) (ws : List ℕ) (at : ℕ) → continues end p ≡ true → matches p w at ≡ true → goes_on end (w ∷ ws) at ≡ true
 goes E.Over P.Jump w ws at e m = m
-goes E.Stores P.Member w ws at e m = m
+goes (E.Stores mask) P.Member w ws at e m = m
 goes end p w ws at e m = absurd (cc)
 
 told_apart : (ps qs : List Pattern) (one other : End) (ws : List ℕ) (at : ℕ) → tells ps qs other ≡ true → begins_as ps one ws at ≡ true →

@@ -21,7 +21,7 @@ pub data AfterCall (part : ℕ) (image base : Memory) (at v : ℕ) (pending : Li
   call_inside : after.turn ≡ Ran → Context part image base pending after.shared → at < after.hart.pc →
       InCall part at v (length pending) after.hart after.shared.memory → AfterCall part image base at v pending target after
   call_leaves : (newer : List ℕ) → after.turn ≡ Ran → Context part image base newer after.shared →
-      (after.hart.regs 3 ≡ slot part (length newer)) ⊎ (after.hart.pc < OPENING) →
+      ((after.hart.regs 3 ≡ slot part (length newer)) × Unit {0}) ⊎ (after.hart.pc < OPENING) →
       Calls (at + 32) pending newer after.hart.pc target → AfterCall part image base at v pending target after
 
 module _ (part : ℕ) (image base : Memory) (at v : ℕ) (pending : List ℕ) (target : ℕ) (after : After) where
@@ -41,5 +41,5 @@ module _ (p : Profile) (part : ℕ) (image base : Memory) (at v : ℕ) (pending 
       at_word (AfterCall part image base at v pending target) p h c w 7 _ refl e
       (call_leaves ((at + 32) ∷ pending) refl
       (record { going = c.going; kept = kept_pending (at + 32) c.kept pushed.site_is })
-      (inl pushed.pointer)
+      (inl (pushed.pointer, tt))
       (inl (pushed.room, refl, jump_leads h.pc (at + 28) target e fits.1)))

@@ -59,7 +59,7 @@ module _ (p : Profile) (part : ℕ) (image base : Memory) (rs1 imm label at : �
         (omega arith) refl (stand_front (check at rs1 imm label which) _ w) c i)
     ijump_law which small fits w c (ijump_jump e checked) =
         at_word (Outcome p part image base _ at pending r) p h c w 12 _ refl e
-        (leaves pending refl c (inl checked.pointer)
+        (leaves pending refl c (inl (checked.pointer, tt))
         (inl (checked.legal, (refl, arrives h (destination r rs1 imm) checked.destination_is checked.legal))))
 
     pub icall_law : IsPart p part → length pending ≤ MOST_PENDING → ((k : ℕ) → image k < 2 ^ 8) → Fits (V.Icall rs1 imm label) at →
@@ -79,5 +79,5 @@ module _ (p : Profile) (part : ℕ) (image base : Memory) (rs1 imm label at : �
         at_word (Outcome p part image base _ at pending r) p h c w 19 _ refl e
         (leaves ((at + 80) ∷ pending) refl
         (record { going = c.going; kept = kept_pending (at + 80) c.kept pushed.site_is })
-        (inl pushed.pointer)
+        (inl (pushed.pointer, tt))
         (inl (legal, inl (pushed.room, refl, arrives h (destination r rs1 imm) pushed.kept legal))))

@@ -7,11 +7,15 @@ use Rattle.cfi_unit.specs.declared.unit.Unit.TheVariants as V
 use Rattle.cfi_unit.specs.UnitWords.{Fits, word_count}
 use Rattle.cfi_unit.specs.Shapes.{SHAPES}
 use Rattle.cfi_unit.specs.ShapeOf.{shape_of}
+use Rattle.cfi_unit.specs.declared.mask.Mask.TheVariants.{Shifts, Short, Long}
 use Rattle.cfi_unit.proofs.Listed.{each_among}
 use Rattle.cfi_unit.proofs.ShapedUnits.{counted, shape_among}
 
 pub some_word : (unit : U.Unit) → 1 ≤ word_count unit
 some_word V.Return = omega arith
+some_word (V.Stores Shifts rs1 imm members) = omega arith
+some_word (V.Stores Short rs1 imm members) = omega arith
+some_word (V.Stores Long rs1 imm members) = omega arith
 some_word other = omega arith
 
 pub most_words : (unit : U.Unit) (at : ℕ) → Fits unit at → word_count unit ≤ 20

@@ -121,5 +121,6 @@ module _ {may : Shared → Shared → Type 0} {p : Profile} {part : ℕ} {image 
       let executes = executes_call (exec p Ecall h' s') refl (after_call h' s') on in (
         inl (listed, record { hart = h'; here = omega arith; same = on.same; pointer = x3_is ∙ x3; executes = executes }),
         written n ns _ (executes.others 4 (λ is. absurd (cc)) ∙ x4) (executes.others 30 (λ is. absurd (cc)) ∙ x30),
+        tt,
       ))
-      (λ none h' s' to x4 x30 on. (inr (none, halts_at BAD_TARGET on to), written n ns h'.regs x4 x30)))
+      (λ none h' s' to x4 x30 on. (inr (none, halts_at BAD_TARGET on to), written n ns h'.regs x4 x30, tt)))

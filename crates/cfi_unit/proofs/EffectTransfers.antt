@@ -5,19 +5,22 @@ use Rattle.std.proofs.lemmas.Nat.Bits.{and_high_mask}
 use Rattle.rv_word.specs.MemoryMap.{Profile, CODE_START, CODE_SIZE, CODE_TAIL}
 use Rattle.rv_word.specs.Memory.{Memory, read}
 use Rattle.rv_instr.specs.Registers.{Registers, set_reg}
+use Rattle.rv_instr.specs.declared.instr.Instr.{Instr}
+use Rattle.rv_instr.specs.declared.instr.Instr.TheVariants.{Branch, Shift}
 use Rattle.rv_instr.specs.declared.instr.BranchOp.TheVariants.{Beq, Bne}
 use Rattle.rv_instr.specs.declared.instr.LoadOp.TheVariants.{Lw, Ld}
+use Rattle.rv_instr.specs.declared.instr.ShiftOp.TheVariants.{Slli}
 use Rattle.rv_instr.specs.declared.instr.StoreOp.TheVariants.{Sd}
 use Rattle.rv_code.specs.Arithmetic.{difference}
 use Rattle.rv_code.specs.State.{Hart, Shared, After}
 use Rattle.rv_code.specs.Step.{address, offset}
 use Rattle.rv_code.proofs.Frames.{read_same, read_write}
-use Rattle.rv_code.proofs.Within.{onward_then, within_then}
+use Rattle.rv_code.proofs.Within.{onward_then, within_now, within_then}
 use Rattle.cfi_unit.specs.declared.target_word.TargetWord.{TargetWord}
 use Rattle.cfi_unit.specs.declared.target_word.TargetWord.TheVariants.{First}
 use Rattle.cfi_unit.specs.declared.unit.Unit as U
 use Rattle.cfi_unit.specs.declared.unit.Unit.TheVariants as V
-use Rattle.cfi_unit.specs.UnitWords.{BAD_TARGET, BAD_RETURN, DEEP, CheckFits, Fits, MINUS_EIGHT, Reaches, check, instrs_of, past, push}
+use Rattle.cfi_unit.specs.UnitWords.{BAD_TARGET, BAD_RETURN, DEEP, CheckFits, Fits, MINUS_EIGHT, Reaches, check, instrs_of, jump, past, push, skip_offset}
 use Rattle.cfi_unit.specs.Shadow.{slot, MOST_PENDING}
 use Rattle.cfi_unit.specs.Stand.{Stand}
 use Rattle.cfi_unit.specs.Context.{Context}
@@ -30,6 +33,10 @@ use Rattle.cfi_unit.proofs.Labels.{word_small, same_word, word_same, past_near, 
 use Rattle.cfi_unit.proofs.Regions.{can_load_code, can_load_part, can_store_part}
 use Rattle.cfi_unit.proofs.EffectSteps.{Now, RunsOn, Runs, before, onto, onto_put, onto_branch, onto_jump, onto_load, onto_store, same_link}
 use Rattle.cfi_unit.proofs.EffectUnits.{halts_at}
+
+-- the words that test whether the shadow stack has a slot, and others behind them
+abbrev room_tested : ℕ → List Instr → List Instr
+room_tested at behind = Shift Slli 30 3 48 ∷ Branch Bne 30 0 skip_offset ∷ jump (at + 8) DEEP ∷ behind
 
 module _ {may : Shared → Shared → Type 0} {p : Profile} {part : ℕ} {image base : Memory} {pending : List ℕ} {r : Registers} {start : Shared} where
   -- what is known once a site is pushed
@@ -50,26 +57,53 @@ module _ {may : Shared → Shared → Type 0} {p : Profile} {part : ℕ} {image 
         same = same;
       }
 
-  module _ (at : ℕ) (Q : After → Type 0) (h : Hart) (s : Shared) (now : Now may p part image base pending r start h s) (most : length pending ≤ MOST_PENDING) (e : h.pc ≡ at) (x3 : h.regs 3 ≡ slot part (length pending)) (w : Stand image at (push at)) (deep : Reaches (at + 8) DEEP) where
+  module _ (at : ℕ) (Q : After → Type 0) (h : Hart) (s : Shared) (now : Now may p part image base pending r start h s) (most : length pending ≤ MOST_PENDING) (e : h.pc ≡ at) (x3 : h.regs 3 ≡ slot part (length pending)) (deep : Reaches (at + 8) DEEP) where
+    abbrev counter : ℕ
+    counter = slot part (length pending) * 2 ^ 48 % 2 ^ 64
+
+    abbrev counted : Registers
+    counted = set_reg h.regs 30 counter
+
+    -- where the shadow stack is full the handler is next: x4 and x31 stay
+    abbrev FullDoes : Type 0
+    FullDoes =
+        (h' : Hart) (s' : Shared) → length pending ≡ MOST_PENDING → h'.pc ≡ DEEP → h'.regs 4 ≡ h.regs 4 → h'.regs 31 ≡ h.regs 31 →
+        Now may p part image base pending r start h' s' → Q (before h' s')
+
+    has_slot : not (counter == 0) ≡ true → length pending < MOST_PENDING
+    has_slot taken = let own = now.own in let not_zero = eqb-false counter 0 (not-true _ taken) in omega arith
+
+    no_slot : not (counter == 0) ≡ false → length pending ≡ MOST_PENDING
+    no_slot not_taken = let own = now.own in let is_zero = eqb-true counter 0 (not-false _ not_taken) in omega arith
+
+    -- the words that test whether there is a slot: where there is, what stands behind them is next
+    pub room_does : (n : ℕ) (behind : List Instr) → Stand image at (room_tested at behind) →
+        ((pc : ℕ) (s' : Shared) → length pending < MOST_PENDING → pc ≡ at + 12 → Now may p part image base pending r start (record { pc = pc; regs = counted }) s' →
+        Runs may p r (suc n) Q (before (record { pc = pc; regs = counted }) s')) →
+        FullDoes → RunsOn may p r (suc (suc n)) Q (before h s)
+    room_does n behind w has_room is_full =
+        let own = now.own in
+        onto_put (suc (suc n)) Q now w 0 (omega arith) _ refl 30 _ counter refl (λ s1. refl) (omega arith)
+        (λ pc1 s1 e1 now1. inr (onto_branch (suc n) Q now1 w 1 e1 Bne 30 0 refl
+        (λ taken pc2 s2 e2 now2. has_room pc2 s2 (has_slot taken) (omega arith) now2)
+        (λ not_taken pc2 s2 e2 now2.
+        inr (onto_jump n Q now2 w 2 e2 (at + 8) DEEP refl (omega arith) deep
+        (λ pc3 s3 to now3. within_now (Inside r) may p n Q (before (record { pc = pc3; regs = counted }) s3) (is_full _ s3 (no_slot not_taken) to refl refl now3))))))
+
     -- a push: x4 and x31 stay
-    pub push_does :
+    pub push_does : Stand image at (push at) →
         ((h' : Hart) (s' : Shared) → length pending < MOST_PENDING → h'.pc ≡ at + 28 → h'.regs 3 ≡ slot part (suc (length pending)) → h'.regs 4 ≡ h.regs 4 → h'.regs 31 ≡ h.regs 31 →
         Now may p part image base ((at + 32) ∷ pending) r (pushed part (length pending) (at + 32) start) h' s' → Q (before h' s')) →
-        ((h' : Hart) (s' : Shared) → length pending ≡ MOST_PENDING → h'.pc ≡ DEEP → h'.regs 4 ≡ h.regs 4 → h'.regs 31 ≡ h.regs 31 → Now may p part image base pending r start h' s' → Q (before h' s')) →
-        RunsOn may p r 6 Q (before h s)
-    push_does has_room is_full =
+        FullDoes → RunsOn may p r 6 Q (before h s)
+    push_does w has_room is_full =
         let own = now.own in
         let low = w.low in
         let high = w.high in
         let n = length pending in
-        let counter = slot part n * 2 ^ 48 % 2 ^ 64 in
-        let counted = set_reg h.regs 30 counter in
-        onto_put 6 Q now w 0 (omega arith) _ refl 30 _ counter refl (λ s1. refl) (omega arith)
-        (λ pc1 s1 e1 now1. inr (onto_branch 5 Q now1 w 1 e1 Bne 30 0 refl
-        (λ taken pc2 s2 e2 now2.
-        let room : n < MOST_PENDING = has_slot taken in
+        room_does 4 _ w
+        (λ pc2 s2 room e2 now2.
         let can = can_store_part p part (slot part n) 8 own (omega arith) (omega arith) in
-        inr (onto_put 4 Q now2 w 3 e2 _ refl 30 _ (at + 12) refl (λ s3. refl) (omega arith)
+        inr (onto_put 4 Q now2 w 3 (omega arith) _ refl 30 _ (at + 12) refl (λ s3. refl) (omega arith)
         (λ pc3 s3 e3 now3. inr (onto_put 3 Q now3 w 4 e3 _ refl 30 _ (at + 32) refl (λ s4. refl) (omega arith)
         (λ pc4 s4 e4 now4.
         let regs = set_reg (set_reg counted 30 (at + 12)) 30 (at + 32) in
@@ -77,19 +111,24 @@ module _ {may : Shared → Shared → Type 0} {p : Profile} {part : ℕ} {image 
         (λ pc5 s5 e5 now5.
         inr (onto_put 1 Q (after_push (at + 32) _ (record { pc = pc5; regs = regs }) s5 room (omega arith) now5 now5.same) w 6 e5 _ refl 3 _ (slot part (suc n)) refl (λ s6. refl) (omega arith)
         (λ pc6 s6 e6 now6. inl (has_room _ s6 room (omega arith) refl refl refl now6))))))))))
-        (λ not_taken pc2 s2 e2 now2.
-        inr (onto_jump 4 Q now2 w 2 e2 (at + 8) DEEP refl (omega arith) deep
-        (λ pc3 s3 to now3. inl (is_full _ s3 (no_slot not_taken) to refl refl now3))))))
-      where
-        has_slot : not (slot part (length pending) * 2 ^ 48 % 2 ^ 64 == 0) ≡ true → length pending < MOST_PENDING
-        has_slot taken =
-            let own = now.own in
-            let not_zero = eqb-false (slot part (length pending) * 2 ^ 48 % 2 ^ 64) 0 (not-true _ taken) in omega arith
+        is_full
 
-        no_slot : not (slot part (length pending) * 2 ^ 48 % 2 ^ 64 == 0) ≡ false → length pending ≡ MOST_PENDING
-        no_slot not_taken =
-            let own = now.own in
-            let is_zero = eqb-true (slot part (length pending) * 2 ^ 48 % 2 ^ 64) 0 (not-false _ not_taken) in omega arith
+    -- the site in x1 is pushed: x4 and x31 stay
+    pub saved_does : r 1 < 2 ^ 64 → Stand image at (instrs_of V.Enter at) →
+        ((h' : Hart) (s' : Shared) → length pending < MOST_PENDING → h'.pc ≡ at + 20 → h'.regs 3 ≡ slot part (suc (length pending)) → h'.regs 4 ≡ h.regs 4 → h'.regs 31 ≡ h.regs 31 →
+        Now may p part image base (r 1 ∷ pending) r (pushed part (length pending) (r 1) start) h' s' → Q (before h' s')) →
+        FullDoes → RunsOn may p r 4 Q (before h s)
+    saved_does small w has_room is_full =
+        let own = now.own in
+        let n = length pending in
+        room_does 2 _ w
+        (λ pc2 s2 room e2 now2.
+        let can = can_store_part p part (slot part n) 8 own (omega arith) (omega arith) in
+        inr (onto_store 2 Q now2 w 3 (omega arith) Sd 3 1 0 refl (slot part n) (r 1) (omega arith) (now2.same.same 1 refl) can
+        (λ pc3 s3 e3 now3.
+        inr (onto_put 1 Q (after_push (r 1) _ (record { pc = pc3; regs = counted }) s3 room small now3 now3.same) w 4 e3 _ refl 3 _ (slot part (suc n)) refl (λ s4. refl) (omega arith)
+        (λ pc4 s4 e4 now4. inl (has_room _ s4 room (omega arith) refl refl refl now4))))))
+        is_full
 
 -- the low two bits cleared
 cleared : (sum : ℕ) → sum < 2 ^ 64 → bit_and sum (2 ^ 64 - 2 ^ 2) ≡ sum / 4 * 4
@@ -163,7 +202,7 @@ module _ {may : Shared → Shared → Type 0} {p : Profile} {part : ℕ} {image 
         let Q : After → Type 0 = Does (V.Call target) in
         let R : After → Type 0 = Runs may p h.regs 1 Q in
         onward_then (Inside h.regs) may p 6 1 R Q (before h s)
-        (push_does at R h s now most e x3 (stand_front (push at) _ w) fits.0
+        (push_does at R h s now most e x3 fits.0 (stand_front (push at) _ w)
         (λ h' s' room e' x3' x4 x31 now'.
         inr (onto 0 Q now' w 7 (omega arith) _ refl
         (λ s'' on. (
@@ -179,8 +218,9 @@ module _ {may : Shared → Shared → Type 0} {p : Profile} {part : ℕ} {image 
             },
           ),
           x30_written target _ x4 x31,
+          tt,
         ))))
-        (λ h' s' full to x4 x31 now'. inl (inr (full, halts_at DEEP now' to), x30_written target h'.regs x4 x31)))
+        (λ h' s' full to x4 x31 now'. inl (inr (full, halts_at DEEP now' to), x30_written target h'.regs x4 x31, tt)))
         (λ b on. on)
 
     module _ (rs1 imm label : ℕ) (small : (k : ℕ) → image k < 2 ^ 8) where
@@ -225,8 +265,9 @@ module _ {may : Shared → Shared → Type 0} {p : Profile} {part : ℕ} {image 
               },
             ),
             jump_writes which _,
+            tt,
           ))))
-          (λ h' s' illegal to now'. inl (inr (illegal, halts_at BAD_TARGET now' to), jump_writes which h'.regs)))
+          (λ h' s' illegal to now'. inl (inr (illegal, halts_at BAD_TARGET now' to), jump_writes which h'.regs, tt)))
           (λ b on. on)
 
       pub icall_does : Fits (V.Icall rs1 imm label) at → Stand image at (instrs_of (V.Icall rs1 imm label) at) →
@@ -241,8 +282,8 @@ module _ {may : Shared → Shared → Type 0} {p : Profile} {part : ℕ} {image 
           (check_does First at rs1 imm label R' h s now e x3 small fits.0 (stand_front (check at rs1 imm label First) _ w)
           (λ h' s' legal e' x3' x31 now'.
           within_then (Inside h.regs) may p 7 1 R Q (before h' s')
-          (inr (push_does (at + 48) R h' s' now' most e' x3' (stand_front (push (at + 48)) _ (stand_back (check at rs1 imm label First) _ w))
-          (subst (λ a. Reaches a DEEP) deep fits.1)
+          (inr (push_does (at + 48) R h' s' now' most e' x3' (subst (λ a. Reaches a DEEP) deep fits.1)
+          (stand_front (push (at + 48)) _ (stand_back (check at rs1 imm label First) _ w))
           (λ h2 s2 room e2 x3_2 x4_2 x31_2 now2.
           inr (onto 0 Q now2 w 19 (omega arith) _ refl
           (λ s3 on. (
@@ -261,10 +302,11 @@ module _ {may : Shared → Shared → Type 0} {p : Profile} {part : ℕ} {image 
               ),
             ),
             call_writes _,
+            tt,
           ))))
-          (λ h2 s2 full to x4_2 x31_2 now2. inl (inl (legal, inr (full, halts_at DEEP now2 to)), call_writes h2.regs))))
+          (λ h2 s2 full to x4_2 x31_2 now2. inl (inl (legal, inr (full, halts_at DEEP now2 to)), call_writes h2.regs, tt))))
           (λ b on. on))
-          (λ h' s' illegal to now'. inl (inr (illegal, halts_at BAD_TARGET now' to), call_writes h'.regs)))
+          (λ h' s' illegal to now'. inl (inr (illegal, halts_at BAD_TARGET now' to), call_writes h'.regs, tt)))
           (λ b on. on)
 
   module _ (at site : ℕ) (pending : List ℕ) (now : Now may p part image base (site ∷ pending) h.regs s h s) (e : h.pc ≡ at) (x3 : h.regs 3 ≡ slot part (suc (length pending))) (most : suc (length pending) ≤ MOST_PENDING) (even : site % 2 ≡ 0) (small : site < 2 ^ 64) where
@@ -294,6 +336,7 @@ module _ {may : Shared → Shared → Type 0} {p : Profile} {part : ℕ} {image 
             },
           ),
           record { x4 = λ free. refl; x30 = λ free. refl; x31 = λ free. absurd (cc) },
+          tt,
         ))))
         (λ other pc3 s3 e3 now3.
         let apart = eqb-false site (h.regs 1) other in
@@ -301,4 +344,5 @@ module _ {may : Shared → Shared → Type 0} {p : Profile} {part : ℕ} {image 
         (λ pc4 s4 to now4. inl (
           inr (λ is. apart (sym is), halts_at BAD_RETURN now4 to),
           record { x4 = λ free. refl; x30 = λ free. refl; x31 = λ free. absurd (cc) },
+          tt,
         ))))))))

@@ -45,7 +45,7 @@ spared rd k free reserved same =
     let f : not (is_reserved rd) ≡ false = ap not t in
     cc
 
-plain_spares : (i : Instr) → is_plain i ≡ true → (k : ℕ) → is_reserved k ≡ true → result_register i ≡ Some k → ⊥
+pub plain_spares : (i : Instr) → is_plain i ≡ true → (k : ℕ) → is_reserved k ≡ true → result_register i ≡ Some k → ⊥
 plain_spares (Upper Lui rd imm) plain k reserved same = spared rd k (and_parts _ _ plain).0 reserved same
 plain_spares (Upper Auipc rd imm) plain k reserved same = spared rd k (and_parts _ _ plain).0 reserved same
 plain_spares (Load op rd rs1 imm) plain k reserved same = spared rd k plain reserved same
@@ -190,8 +190,8 @@ module _ {may : Shared → Shared → Type 0} {p : Profile} {part : ℕ} {image 
 
   -- an instruction that is executed alone
   alone : (unit : List Instr) (i : Instr) (after : After) → ((k : ℕ) → is_reserved k ≡ true → result_register i ≡ Some k → ⊥) →
-      Executes p part image base i pending h (may s) after → Executes p part image base i pending h (may s) after × SameScratch unit h.regs after.hart.regs
-  alone unit i after spares does = (does, others_written unit i h.regs after.hart.regs does.others spares)
+      Executes p part image base i pending h (may s) after → Executes p part image base i pending h (may s) after × SameScratch unit h.regs after.hart.regs × Unit {0}
+  alone unit i after spares does = (does, others_written unit i h.regs after.hart.regs does.others spares, tt)
 
   pub plain_does : (i : Instr) → is_plain i ≡ true → Stand image at (instrs_of (V.Plain i) at) → RunsOn may p h.regs 0 (Does (V.Plain i)) (before h s)
   plain_does i plain w = onto 0 (Does (V.Plain i)) now w 0 (omega arith) i refl (λ s' on. alone (instrs_of (V.Plain i) at) i _ (plain_spares i plain) (executes_plain i plain on))
@@ -204,19 +204,19 @@ module _ {may : Shared → Shared → Type 0} {p : Profile} {part : ℕ} {image 
 
   pub stop_does : Fits V.Stop at → Stand image at (instrs_of V.Stop at) → RunsOn may p h.regs 0 (Does V.Stop) (before h s)
   stop_does fits w =
-      onto_jump 0 (Does V.Stop) now w 0 (omega arith) at BAD_TARGET refl (omega arith) fits (λ pc s' to on. (halts_at BAD_TARGET on to, none_written (instrs_of V.Stop at) h.regs))
+      onto_jump 0 (Does V.Stop) now w 0 (omega arith) at BAD_TARGET refl (omega arith) fits (λ pc s' to on. (halts_at BAD_TARGET on to, none_written (instrs_of V.Stop at) h.regs, tt))
 
   module _ (x3 : h.regs 3 ≡ slot part (length pending)) where
     pub gate_does : (label : ℕ) → Stand image at (instrs_of (V.Gate label) at) → RunsOn may p h.regs 0 (Does (V.Gate label)) (before h s)
     gate_does label w =
         onto 0 (Does (V.Gate label)) now w 0 (omega arith) _ refl
-        (λ s' on. (left_to (at + 4) (moved on (record { pc = h.pc + 4; regs = h.regs }) on.same) (omega arith) x3, none_written (instrs_of (V.Gate label) at) h.regs))
+        (λ s' on. (left_to (at + 4) (moved on (record { pc = h.pc + 4; regs = h.regs }) on.same) (omega arith) x3, none_written (instrs_of (V.Gate label) at) h.regs, tt))
 
     pub jump_does : (target : ℕ) → Fits (V.Jump target) at → Stand image at (instrs_of (V.Jump target) at) →
         RunsOn may p h.regs 0 (Does (V.Jump target)) (before h s)
     jump_does target fits w =
         onto_jump 0 (Does (V.Jump target)) now w 0 (omega arith) at target refl (omega arith) fits.1
-        (λ pc s' to on. (left_to target on to x3, none_written (instrs_of (V.Jump target) at) h.regs))
+        (λ pc s' to on. (left_to target on to x3, none_written (instrs_of (V.Jump target) at) h.regs, tt))
 
     pub near_does : (op : BranchOp) (rs1 rs2 target : ℕ) → Fits (V.Near op rs1 rs2 target) at →
         Stand image at (instrs_of (V.Near op rs1 rs2 target) at) → RunsOn may p h.regs 0 (Does (V.Near op rs1 rs2 target)) (before h s)
@@ -225,16 +225,16 @@ module _ {may : Shared → Shared → Type 0} {p : Profile} {part : ℕ} {image 
         (λ s' on.
         elim (cases_Bool (branch_taken op (get_reg h.regs rs1) (get_reg h.regs rs2))) [
           | inl taken ↦
-              rw taken (left_to target (moved on (record { pc = _; regs = h.regs }) on.same) (near_leads h.pc at target e fits.2) x3, none_written (instrs_of (V.Near op rs1 rs2 target) at) h.regs)
+              rw taken (left_to target (moved on (record { pc = _; regs = h.regs }) on.same) (near_leads h.pc at target e fits.2) x3, none_written (instrs_of (V.Near op rs1 rs2 target) at) h.regs, tt)
           | inr not_taken ↦
-              rw not_taken (left_to (at + 4) (moved on (record { pc = h.pc + 4; regs = h.regs }) on.same) (omega arith) x3, none_written (instrs_of (V.Near op rs1 rs2 target) at) h.regs)
+              rw not_taken (left_to (at + 4) (moved on (record { pc = h.pc + 4; regs = h.regs }) on.same) (omega arith) x3, none_written (instrs_of (V.Near op rs1 rs2 target) at) h.regs, tt)
         ])
 
     pub branch_does : (op : BranchOp) (rs1 rs2 target : ℕ) → Fits (V.Branch op rs1 rs2 target) at →
         Stand image at (instrs_of (V.Branch op rs1 rs2 target) at) → RunsOn may p h.regs 1 (Does (V.Branch op rs1 rs2 target)) (before h s)
     branch_does op rs1 rs2 target fits w =
         onto_branch 1 (Does (V.Branch op rs1 rs2 target)) now w 0 (omega arith) op rs1 rs2 refl
-        (λ taken pc s' to on. inl (rw taken (left_to (at + 8) on (omega arith) x3, none_written (instrs_of (V.Branch op rs1 rs2 target) at) h.regs)))
+        (λ taken pc s' to on. inl (rw taken (left_to (at + 8) on (omega arith) x3, none_written (instrs_of (V.Branch op rs1 rs2 target) at) h.regs, tt)))
         (λ not_taken pc s' to on.
         inr (onto_jump 0 (Does (V.Branch op rs1 rs2 target)) on w 1 to (at + 4) target refl (omega arith) fits.2
-        (λ pc' s'' goes there. rw not_taken (left_to target there goes x3, none_written (instrs_of (V.Branch op rs1 rs2 target) at) h.regs))))
+        (λ pc' s'' goes there. rw not_taken (left_to target there goes x3, none_written (instrs_of (V.Branch op rs1 rs2 target) at) h.regs, tt))))

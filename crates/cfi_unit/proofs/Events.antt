@@ -29,7 +29,7 @@ use Rattle.cfi_unit.specs.EventLaw.{Adds, EventLaw, MayCall, UnitMayCall, adds_n
 use Rattle.cfi_unit.proofs.Context.{at_word}
 use Rattle.cfi_unit.proofs.Gates.{place_length}
 use Rattle.cfi_unit.proofs.PlaceWords.{place_word}
-use Rattle.cfi_unit.proofs.Sought.{is_sought, lacks, members_lack, nowhere, opening_lacks, plain_lacks}
+use Rattle.cfi_unit.proofs.Sought.{is_sought, lacks, nowhere, opening_lacks, plain_lacks, stores_lack}
 
 -- a system call adds one event, with the number in x17
 pub record AddsOne (h : Hart) (s : Shared) (after : After) : Type 0 where
@@ -120,7 +120,7 @@ module _ (p : Profile) (part : ℕ) (image : Memory) (at : ℕ) (pending : List 
   unit_may (V.System S.Ebreak) fits i is = none_there (V.System S.Ebreak) refl is
   unit_may (V.Guarded ns) fits i is =
       let word = last_call ns (at + 8 * length ns) BAD_TARGET k is in guarded_may i (omega arith)
-  unit_may (V.Stores rs1 imm members) fits i is = none_there (V.Stores rs1 imm members) (members_lack false members) is
+  unit_may (V.Stores mask rs1 imm members) fits i is = none_there (V.Stores mask rs1 imm members) (stores_lack false mask rs1 imm members) is
   unit_may other fits i is = none_there other refl is
 
   pub place_may : (place : Place) → MayStand p place at pending → InPlace p part image place at pending r h m →

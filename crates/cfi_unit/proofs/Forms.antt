@@ -6,10 +6,11 @@ use Rattle.std.proofs.lemmas.Bool.{and_parts, eqb-false, eqb-true, ltb-true, not
 use Rattle.rv_word.specs.Numbers.{IsNumber}
 use Rattle.rv_instr.specs.InRange.{IsInstr}
 use Rattle.rv_instr.specs.declared.instr.Instr.{Instr}
-use Rattle.rv_instr.specs.declared.instr.Instr.TheVariants.{Upper, Jal, Branch, Store, Immediate}
+use Rattle.rv_instr.specs.declared.instr.Instr.TheVariants.{Upper, Jal, Branch, Store, Immediate, Register}
 use Rattle.rv_instr.specs.declared.instr.UpperOp.TheVariants.{Lui, Auipc}
 use Rattle.rv_instr.specs.declared.instr.ImmediateOp.TheVariants.{Addi}
 use Rattle.rv_instr.specs.declared.instr.BranchOp.{BranchOp}
+use Rattle.rv_instr.specs.declared.instr.RegisterOp.TheVariants.{And}
 use Rattle.rv_code.specs.Decode.{decoded}
 use Rattle.rv_code.specs.Encode.{code_of}
 use Rattle.rv_code.proofs.Inverse.{code_of-decoded, decoded-in_range}
@@ -144,6 +145,26 @@ address_form here w other e r code = absurd (cc)
 
 pub address_hole : (w here : ℕ) → w < 2 ^ 32 → matches P.Address w here ≡ true → IsAddress w
 address_hole w here small m = let f = formed (has_form P.Address here) w small m in address_form here w f.instr f.has f.fields f.code
+
+-- a short mask
+pub record IsMasked (w : ℕ) : Type 0 where
+  pub rs1 : ℕ
+  pub register : rs1 < 32
+  pub code : code_of (Register And 31 rs1 4) ≡ w
+
+masked_form : (here w : ℕ) (i : Instr) → has_form P.Masked here i ≡ true → IsInstr i → code_of i ≡ w → IsMasked w
+masked_form here w (Register And rd rs1 rs2) e r code =
+    let p = and_parts (rd == 31) (rs2 == 4) e in
+    record {
+      rs1 = rs1;
+      register = r.1;
+      code = ap (λ k. code_of (Register And 31 rs1 k)) (sym (eqb-true rs2 4 p.1)) ∙ ap (λ k. code_of (Register And k rs1 rs2)) (sym (eqb-true rd 31 p.0)) ∙ code;
+    }
+masked_form here w (Register other rd rs1 rs2) e r code = absurd (cc)
+masked_form here w other e r code = absurd (cc)
+
+pub masked_hole : (w here : ℕ) → w < 2 ^ 32 → matches P.Masked w here ≡ true → IsMasked w
+masked_hole w here small m = let f = formed (has_form P.Masked here) w small m in masked_form here w f.instr f.has f.fields f.code
 
 -- a number of a system call
 number_form : (here : ℕ) (i : Instr) → has_form P.Number here i ≡ true → (n : ℕ) × (IsNumber n × (i ≡ Immediate Addi 31 0 n))

@@ -17,9 +17,9 @@ use Rattle.cfi_unit.specs.UnitWords.{Fits, gate, instrs_of, word_count, words_of
 use Rattle.cfi_unit.specs.Place.{Place, handler, opening, closing, body, place_instrs, place_size}
 use Rattle.cfi_unit.specs.Stand.{Stand}
 use Rattle.cfi_unit.specs.UnitLaw.{MayStand}
-use Rattle.cfi_unit.proofs.Found.{words_counted}
 use Rattle.cfi_unit.proofs.Parts.{opening_length}
-use Rattle.cfi_unit.proofs.Sought.{lacks, members_lack, nowhere, opening_lacks, plain_lacks}
+use Rattle.cfi_unit.proofs.Sought.{lacks, nowhere, opening_lacks, plain_lacks, stores_lack}
+use Rattle.cfi_unit.proofs.UnitInList.{words_counted}
 
 -- the word that a check compares with is a gate
 pub gate_word : (word label : ℕ) → label < 2 ^ 20 → word ≡ label * 4096 + 55 → decoded word ≡ Some (gate label)
@@ -46,7 +46,8 @@ gate_unit (V.Plain instr) at k label fits is = other_unit (V.Plain instr) at k l
 gate_unit (V.System S.Ecall) at k label fits is = other_unit (V.System S.Ecall) at k label refl is
 gate_unit (V.System S.Ebreak) at k label fits is = other_unit (V.System S.Ebreak) at k label refl is
 gate_unit (V.Guarded numbers) at k label fits is = other_unit (V.Guarded numbers) at k label (guards_gate numbers _ refl) is
-gate_unit (V.Stores rs1 imm members) at k label fits is = other_unit (V.Stores rs1 imm members) at k label (members_lack true members) is
+gate_unit (V.Stores mask rs1 imm members) at k label fits is =
+    other_unit (V.Stores mask rs1 imm members) at k label (stores_lack true mask rs1 imm members) is
 gate_unit other at k label fits is = other_unit other at k label refl is
 
 gate_place : (p : Profile) (pending : List ℕ) (place : Place) (at k label : ℕ) → MayStand p place at pending →

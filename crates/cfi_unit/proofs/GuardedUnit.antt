@@ -54,7 +54,7 @@ module _ (p : Profile) (part : ℕ) (image base : Memory) (ns : List ℕ) (at : 
       h.pc ≡ at + 4 * (2 * length ns + 1) → h.regs 3 ≡ slot part (length pending) → is_listed (r 17) ns ≡ true → Result after
   call_so own after (answered t pc regs going same) c e x3 listed =
       leaves pending t (record { going = going; kept = kept_data own.low c.kept after.shared.memory (λ k high. same k (omega arith)) })
-      (inl (regs 3 (omega arith) ∙ x3)) (inl (listed, (refl, omega arith)))
+      (inl (regs 3 (omega arith) ∙ x3, tt)) (inl (listed, (refl, omega arith)))
   call_so own after (ended status t same) c e x3 listed = ends (status, t) (subst (Kept part image base pending) (sym same) c.kept)
 
   pub guarded_law : IsPart p part → Fits (V.Guarded ns) at → Stand image at (instrs_of (V.Guarded ns) at) →

@@ -3,11 +3,12 @@ use Rattle.std.proofs.Common.{◌≡◌, ℕ, ◌<◌, arith, inl, inr, refl, Li
 use Rattle.std.specs.Prelude.{None, slice_index_or}
 use Rattle.std.specs.List.{All}
 use Rattle.rv_word.proofs.Cases.{cases_Option}
+use Rattle.cfi_unit.specs.declared.mask.Mask.TheVariants.{Shifts, Short, Long}
 use Rattle.cfi_unit.specs.declared.pattern.End.{End}
 use Rattle.cfi_unit.specs.declared.pattern.End.TheVariants as E
 use Rattle.cfi_unit.specs.declared.recogniser.TheConstants as kinds
 use Rattle.cfi_unit.specs.declared.unit.Unit as U
-use Rattle.cfi_unit.specs.declared.target_word.TargetWord.TheVariants.{First, Second}
+use Rattle.cfi_unit.specs.declared.target_word.TargetWord.TheVariants.{First, Second, Third}
 use Rattle.cfi_unit.specs.Laws.{AreWords}
 use Rattle.cfi_unit.specs.NoneBegins.{NoneBegins}
 use Rattle.cfi_unit.specs.UnitWords.{Begins}
@@ -29,11 +30,21 @@ place E.Over = (8, (omega arith, refl))
 place E.Call = (9, (omega arith, refl))
 place (E.Ijump First) = (10, (omega arith, refl))
 place (E.Ijump Second) = (11, (omega arith, refl))
-place E.Icall = (12, (omega arith, refl))
-place E.Return = (13, (omega arith, refl))
-place E.Guarded = (14, (omega arith, refl))
-place E.Full = (15, (omega arith, refl))
-place E.Stores = (16, (omega arith, refl))
+place (E.Ijump Third) = (12, (omega arith, refl))
+place E.Icall = (13, (omega arith, refl))
+place E.Return = (14, (omega arith, refl))
+place E.Guarded = (15, (omega arith, refl))
+place (E.Full Shifts) = (16, (omega arith, refl))
+place (E.Stores Shifts) = (17, (omega arith, refl))
+place (E.Full Short) = (18, (omega arith, refl))
+place (E.Stores Short) = (19, (omega arith, refl))
+place (E.Full Long) = (20, (omega arith, refl))
+place (E.Stores Long) = (21, (omega arith, refl))
+place E.LinkCall = (22, (omega arith, refl))
+place E.Enter = (23, (omega arith, refl))
+place E.LeanIjump = (24, (omega arith, refl))
+place E.LeanIcall = (25, (omega arith, refl))
+place E.LeafReturn = (26, (omega arith, refl))
 
 pub none_begins : (ws : List ℕ) (at : ℕ) → All (λ end. NoneBegins end ws at) kinds.KINDS → (u : U.Unit) → Begins ws at u → ⊥
 none_begins ws at none u b = let (k, (few, is)) = place (shape_of u at).end in none k (shape_of u at).end few u b is

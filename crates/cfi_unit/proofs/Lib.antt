@@ -25,6 +25,8 @@ pub mod ReturnUnit
 pub mod Labels
 pub mod Check
 pub mod ComputedUnits
+pub mod EnterUnit
+pub mod LeanUnits
 pub mod Simple
 pub mod PrologueUnits
 pub mod UnitSteps
@@ -41,10 +43,14 @@ pub mod EffectUnits
 pub mod EffectStores
 pub mod EffectGuarded
 pub mod EffectTransfers
+pub mod EffectLean
+pub mod EffectMask
 pub mod EffectRows
 pub mod PrologueEffect
 pub mod EffectWorked
+pub mod EffectLeanWorked
 pub mod RegisterLaw
+pub mod MaskKept
 pub mod Holes
 pub mod Listed
 pub mod Forms

@@ -3,8 +3,10 @@ use Rattle.std.proofs.Common.{Bool, true, ap, ◌∙◌, ◌≡◌, ℕ, zero, s
 use Rattle.std.specs.Prelude.{Some, slice_get}
 use Rattle.std.proofs.lemmas.Bool.{and_parts, cases_eq}
 use Rattle.std.specs.List.{list_all}
+use Rattle.cfi_unit.specs.declared.mask.Mask.{Mask}
+use Rattle.cfi_unit.specs.declared.mask.Mask.TheVariants.{Shifts, Short, Long}
 use Rattle.cfi_unit.specs.declared.pattern.End.TheVariants as E
-use Rattle.cfi_unit.specs.Shapes.{Shape, each_guarded, each_stores, guarded, shape, stores}
+use Rattle.cfi_unit.specs.Shapes.{Shape, all_stores, each_guarded, each_stores, guarded, shape, stores}
 use Rattle.cfi_unit.specs.Opens.{Among}
 
 pub listed : (ss : List Shape) (k : ℕ) (s : Shape) → slice_get ss k ≡ Some s → Among s ss
@@ -38,11 +40,14 @@ each_among test (r ∷ ss) s all (inl e) = ap test e ∙ (and_parts (test r) (li
 each_among test (r ∷ ss) s all (inr a) = each_among test ss s (and_parts (test r) (list_all test ss) all).1 a
 
 -- the families
-pub stores_listed : (k n : ℕ) → suc k ≤ n → Among (shape E.Stores (stores (suc k))) (each_stores n)
+abbrev pub STORES : List Shape
+STORES = all_stores Shifts ++ all_stores Short ++ all_stores Long
+
+pub stores_listed : (m : Mask) (k n : ℕ) → suc k ≤ n → Among (shape (E.Stores m) (stores m (suc k))) (each_stores m n)
 unfolding Among
-stores_listed k zero few = absurd (omega arith)
-stores_listed k (suc n) few =
-    elim (cases_eq k n) [ inl same ↦ inl (rw same refl) | inr other ↦ inr (stores_listed k n (omega arith)) ]
+stores_listed m k zero few = absurd (omega arith)
+stores_listed m k (suc n) few =
+    elim (cases_eq k n) [ inl same ↦ inl (rw same refl) | inr other ↦ inr (stores_listed m k n (omega arith)) ]
 
 pub guarded_listed : (k n : ℕ) → suc k ≤ n → Among (shape E.Guarded (guarded (suc k))) (each_guarded n)
 unfolding Among
@@ -50,11 +55,11 @@ guarded_listed k zero few = absurd (omega arith)
 guarded_listed k (suc n) few =
     elim (cases_eq k n) [ inl same ↦ inl (rw same refl) | inr other ↦ inr (guarded_listed k n (omega arith)) ]
 
-pub stores_of : (s : Shape) (n : ℕ) → Among s (each_stores n) → (k : ℕ) × ((suc k ≤ n) × (s ≡ shape E.Stores (stores (suc k))))
+pub stores_of : (s : Shape) (m : Mask) (n : ℕ) → Among s (each_stores m n) → (k : ℕ) × ((suc k ≤ n) × (s ≡ shape (E.Stores m) (stores m (suc k))))
 unfolding Among
-stores_of s zero a = absurd a
-stores_of s (suc n) (inl e) = (n, (omega arith, e))
-stores_of s (suc n) (inr a) = let (k, (few, e)) = stores_of s n a in (k, (omega arith, e))
+stores_of s m zero a = absurd a
+stores_of s m (suc n) (inl e) = (n, (omega arith, e))
+stores_of s m (suc n) (inr a) = let (k, (few, e)) = stores_of s m n a in (k, (omega arith, e))
 
 pub guarded_of : (s : Shape) (n : ℕ) → Among s (each_guarded n) → (k : ℕ) × ((suc k ≤ n) × (s ≡ shape E.Guarded (guarded (suc k))))
 unfolding Among

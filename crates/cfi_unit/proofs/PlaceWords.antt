@@ -5,13 +5,15 @@ use Rattle.rv_word.specs.MemoryMap.{IsProfile, Profile}
 use Rattle.rv_word.specs.Memory.{Memory}
 use Rattle.rv_instr.specs.Registers.{Registers}
 use Rattle.rv_code.specs.State.{Hart}
+use Rattle.cfi_unit.specs.declared.mask.Mask.{Mask}
+use Rattle.cfi_unit.specs.declared.mask.Mask.TheVariants.{Shifts, Short, Long}
 use Rattle.cfi_unit.specs.declared.target_word.TargetWord.{TargetWord}
 use Rattle.cfi_unit.specs.declared.unit.Unit as U
 use Rattle.cfi_unit.specs.declared.unit.Unit.TheVariants as V
-use Rattle.cfi_unit.specs.UnitWords.{word_count}
+use Rattle.cfi_unit.specs.UnitWords.{mask_words, word_count}
 use Rattle.cfi_unit.specs.Prologue.{OPENING, call_at}
 use Rattle.cfi_unit.specs.Place.{Place, handler, opening, closing, body, IsWordOf}
-use Rattle.cfi_unit.specs.InPlace.{InWord, only, InBranch, branch_test, branch_jump, InGuarded, guarded_load, guarded_test, guarded_other, guarded_call, InStores, stores_addi, stores_slli, stores_srli, stores_store, InPush, push_slli, push_bne, push_deep, push_auipc, push_addi, push_store, push_grow, InCall, call_push, call_jump, InCheck, check_addi, check_andi, check_lui, check_sub, check_srli, check_region, check_outside, check_lw, check_label, check_opcode, check_word, check_other, InIjump, ijump_check, ijump_jump, InIcall, icall_check, icall_push, icall_jump, InReturn, return_ld, return_addi, return_beq, return_other, return_jump, InLoneSetUp, lone_stack, lone_shadow, lone_slot, InOwnSetUp, own_stack, own_stack_offset, own_stack_end, own_shadow, own_offset, own_part, own_slot, InOpening, opening_lone, opening_own, opening_call, InClosing, closing_number, closing_ecall, InUnit, InPlace}
+use Rattle.cfi_unit.specs.InPlace.{InWord, only, InBranch, branch_test, branch_jump, InGuarded, guarded_load, guarded_test, guarded_other, guarded_call, InMask, shifts_addi, shifts_slli, shifts_srli, short_and, long_addi, long_and, InStores, stores_mask, stores_store, InPush, push_slli, push_bne, push_deep, push_auipc, push_addi, push_store, push_grow, InCall, call_push, call_jump, InCheck, check_addi, check_andi, check_lui, check_sub, check_srli, check_region, check_outside, check_lw, check_label, check_opcode, check_word, check_other, InIjump, ijump_check, ijump_jump, InIcall, icall_check, icall_push, icall_jump, InLean, lean_check, lean_upper, lean_lower, lean_jump, InEnter, enter_slli, enter_bne, enter_deep, enter_store, enter_grow, InLeafReturn, leaf_jump, InReturn, return_ld, return_addi, return_beq, return_other, return_jump, InLoneSetUp, lone_stack, lone_shadow, lone_slot, InOwnSetUp, own_stack, own_stack_offset, own_stack_end, own_shadow, own_offset, own_part, own_slot, InOpening, opening_lone, opening_own, opening_call, InClosing, closing_number, closing_ecall, InUnit, InPlace}
 use Rattle.cfi_unit.specs.UnitLaw.{MayStand}
 use Rattle.cfi_unit.proofs.Parts.{call_site}
 
@@ -30,6 +32,14 @@ pub lone_word : {h : Hart} → InLoneSetUp h → Among 3 OPENING h.pc
 lone_word (lone_stack e) = (0, omega arith, e)
 lone_word (lone_shadow e) = (1, omega arith, e)
 lone_word (lone_slot e x3) = (2, omega arith, e)
+
+mask_word : (mask : Mask) (part at n : ℕ) (h : Hart) → InMask mask part at n h → Among (mask_words mask) at h.pc
+mask_word Shifts part at n h (shifts_addi e x3) = (0, omega arith, omega arith)
+mask_word Shifts part at n h (shifts_slli e x3) = (1, omega arith, e)
+mask_word Shifts part at n h (shifts_srli e x3 small) = (2, omega arith, e)
+mask_word Short part at n h (short_and e x3 x4) = (0, omega arith, omega arith)
+mask_word Long part at n h (long_addi e x3 x4) = (0, omega arith, omega arith)
+mask_word Long part at n h (long_and e x3 x4) = (1, omega arith, e)
 
 module _ {part : ℕ} {h : Hart} where
   pub own_word : InOwnSetUp part h → Among 7 OPENING h.pc
@@ -55,11 +65,13 @@ module _ {part : ℕ} {h : Hart} where
   guarded_word {ns = ns} (guarded_other e x3 none) = (2 * length ns, omega arith, e)
   guarded_word {ns = ns} (guarded_call e x3 x17 listed) = (2 * length ns + 1, omega arith, e)
 
-  stores_word : {at count n : ℕ} → InStores part at count n h → Among (3 + count) at h.pc
-  stores_word (stores_addi e x3) = (0, omega arith, omega arith)
-  stores_word (stores_slli e x3) = (1, omega arith, e)
-  stores_word (stores_srli e x3 small) = (2, omega arith, e)
-  stores_word (stores_store k below e x3 small) = (3 + k, omega arith, e)
+  stores_word : {mask : Mask} {at count n : ℕ} → InStores mask part at count n h → Among (mask_words mask + count) at h.pc
+  stores_word {mask = mask} {at = at} {n = n} (stores_mask i) =
+      let w = mask_word mask part at n h i in let below = w.1 in (w.0, omega arith, w.2)
+  stores_word {mask = mask} (stores_store k below e x3 small) = (mask_words mask + k, omega arith, e)
+
+  leaf_word : {at link n : ℕ} → InLeafReturn part at link n h → Among 1 at h.pc
+  leaf_word (leaf_jump e x3 x1) = (0, omega arith, omega arith)
 
   return_word : {at link site n : ℕ} → InReturn part at link site n h → Among 5 at h.pc
   return_word (return_ld e x3 x1) = (0, omega arith, omega arith)
@@ -87,6 +99,12 @@ module _ {part : ℕ} {h : Hart} where
     ijump_word (ijump_check i) = let w = check_words i in let below = w.1 in (w.0, omega arith, w.2)
     ijump_word (ijump_jump e checked) = (12, omega arith, e)
 
+    lean_word : InLean part image which at rs1 imm label sum v n h → Among 15 at h.pc
+    lean_word (lean_check i) = let w = check_words i in let below = w.1 in (w.0, omega arith, w.2)
+    lean_word (lean_upper e checked) = (12, omega arith, e)
+    lean_word (lean_lower e checked x4) = (13, omega arith, e)
+    lean_word (lean_jump e checked x4) = (14, omega arith, e)
+
   module _ {m : Memory} where
     push_word : {at v n : ℕ} → InPush part at v n h m → Among 7 at h.pc
     push_word (push_slli e x31 x3) = (0, omega arith, omega arith)
@@ -106,6 +124,13 @@ module _ {part : ℕ} {h : Hart} where
     icall_word {at = at} (icall_push legal i) = later 12 7 20 at h.pc (omega arith) (push_word i)
     icall_word (icall_jump e legal pushed) = (19, omega arith, e)
 
+    enter_word : {at link n : ℕ} → InEnter part at link n h m → Among 5 at h.pc
+    enter_word (enter_slli e x3 x1) = (0, omega arith, omega arith)
+    enter_word (enter_bne e x3 x1 x30) = (1, omega arith, e)
+    enter_word (enter_deep e x3 full) = (2, omega arith, e)
+    enter_word (enter_store e x3 x1 room) = (3, omega arith, e)
+    enter_word (enter_grow e x3 room stored) = (4, omega arith, e)
+
     -- one of the opening's first eleven words, or of its call's
     opening_word : (p : Profile) → IsProfile p → InOpening p part h m → (k : ℕ) × (4 * k < p.closing - OPENING) × (h.pc ≡ OPENING + 4 * k)
     opening_word p is (opening_lone version i) = let w = lone_word i in let below = w.1 in let site = call_site p is in (w.0, omega arith, w.2)
@@ -121,10 +146,14 @@ unit_word : (part : ℕ) (image : Memory) (unit : U.Unit) (at : ℕ) (pending : 
     InUnit part image unit at pending r h m → Among (word_count unit) at h.pc
 unit_word part image (V.Branch op rs1 rs2 target) at pending r h m i = branch_word i
 unit_word part image (V.Guarded numbers) at pending r h m i = guarded_word i
-unit_word part image (V.Stores rs1 imm members) at pending r h m i = stores_word i
+unit_word part image (V.Stores mask rs1 imm members) at pending r h m i = stores_word i
 unit_word part image (V.Call target) at pending r h m i = call_word i
 unit_word part image (V.Ijump which rs1 imm label) at pending r h m i = ijump_word i
 unit_word part image (V.Icall rs1 imm label) at pending r h m i = icall_word i
+unit_word part image V.Enter at pending r h m i = enter_word i.1
+unit_word part image (V.LeanIjump rs1 imm label) at pending r h m i = lean_word i
+unit_word part image (V.LeanIcall rs1 imm label) at pending r h m i = lean_word i
+unit_word part image V.LeafReturn at pending r h m i = leaf_word i
 unit_word part image V.Return at [] r h m i = absurd i
 unit_word part image V.Return at (site ∷ pending) r h m i = return_word i
 unit_word part image other at pending r h m i = only_word i

@@ -116,7 +116,7 @@ module _ (may : Shared → Shared → Type 0) (harmless : IsHarmless may) (p : P
     module _ (regs : Registers) (ready : Ready p entry hart h.regs regs) (pc : ℕ) (s' : Shared) (since : may s s') where
       from_call : (after : After) →
           UnitIsDone p (part_of hart) image base may (record { pc = pc; regs = regs }) s' (V.Call entry) (call_at p) [] after → Does after
-      from_call after (inl (room, left), scratch) = (
+      from_call after (inl (room, left), scratch, made) = (
         subst
             (λ (site : ℕ). LeftTo (part_of hart) image base entry (site ∷ []) (set_reg (set_reg h.regs 2 (stack_of hart)) 1 site) (may (pushed (part_of hart) 0 site s)) after)
             (call_site p i.is).0
@@ -132,7 +132,7 @@ module _ (may : Shared → Shared → Type 0) (harmless : IsHarmless may) (p : P
             }),
         ready.scratch after.hart.regs scratch,
       )
-      from_call after (inr (full, halts), scratch) = absurd (omega arith)
+      from_call after (inr (full, halts), scratch, made) = absurd (omega arith)
 
       called : pc ≡ call_at p → Within GoesOn may p 8 Does (before (record { pc = pc; regs = regs }) s')
       called e =

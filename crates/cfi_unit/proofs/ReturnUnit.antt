@@ -47,4 +47,4 @@ module _ (p : Profile) (part : ℕ) (image base : Memory) (at site : ℕ) (pendi
       leaves (site ∷ pending) refl c (inr (omega arith)) (inr (apart, (refl, to))))
   return_law own most reach even small w c (return_jump e x3 same x31) =
       at_word (Outcome p part image base _ at (site ∷ pending) r) p h c w 4 _ refl e
-      (leaves pending refl (record { going = c.going; kept = kept_popped site c.kept }) (inl x3) (inl (same, (refl, omega arith))))
+      (leaves pending refl (record { going = c.going; kept = kept_popped site c.kept }) (inl (x3, tt)) (inl (same, (refl, omega arith))))

@@ -6,14 +6,17 @@ use Rattle.std.proofs.lemmas.Bool.{cases_Bool, cases_eq, lt-ltb, ne_eqb}
 use Rattle.std.proofs.lemmas.Nat.{mod_below}
 use Rattle.rv_word.specs.Numbers.{IsNumber}
 use Rattle.rv_instr.specs.InRange.{IsInstr}
-use Rattle.rv_instr.specs.declared.instr.Instr.TheVariants.{Upper, Jal, Branch, Immediate}
+use Rattle.rv_instr.specs.declared.instr.Instr.TheVariants.{Upper, Jal, Branch, Immediate, Register}
 use Rattle.rv_instr.specs.declared.instr.UpperOp.TheVariants.{Lui}
 use Rattle.rv_instr.specs.declared.instr.ImmediateOp.TheVariants.{Addi}
+use Rattle.rv_instr.specs.declared.instr.RegisterOp.TheVariants.{And}
 use Rattle.rv_code.specs.Encode.{code_of}
+use Rattle.cfi_unit.specs.declared.mask.Mask.{Mask}
+use Rattle.cfi_unit.specs.declared.mask.Mask.TheVariants.{Shifts, Short, Long}
 use Rattle.cfi_unit.specs.declared.members.Member.{Member}
 use Rattle.cfi_unit.specs.declared.pattern.Pattern.TheVariants as P
 use Rattle.cfi_unit.specs.declared.pattern.End.TheVariants as E
-use Rattle.cfi_unit.specs.declared.target_word.TargetWord.TheVariants.{First, Second}
+use Rattle.cfi_unit.specs.declared.target_word.TargetWord.TheVariants.{First, Second, Third}
 use Rattle.cfi_unit.specs.declared.unit.Unit as U
 use Rattle.cfi_unit.specs.declared.unit.Unit.TheVariants as V
 use Rattle.cfi_unit.specs.declared.unit.SystemOp.TheVariants as S
@@ -21,7 +24,7 @@ use Rattle.cfi_unit.specs.Members.{IsMember, member_instr}
 use Rattle.cfi_unit.specs.Reach.{reaches}
 use Rattle.cfi_unit.specs.UnitWords.{BAD_RETURN, BAD_TARGET, DEEP, Fits, Reaches, gate, jump, jump_offset, near_offset, skip_offset, word_count, words_of}
 use Rattle.cfi_unit.specs.Patterns.{has_form, matches}
-use Rattle.cfi_unit.specs.Shapes.{SHAPES, all_stores, each_guarded, each_stores, guarded, shape, stores}
+use Rattle.cfi_unit.specs.Shapes.{SHAPES, Shape, all_stores, each_guarded, guarded, shape, stores}
 use Rattle.cfi_unit.specs.ShapeOf.{shape_of}
 use Rattle.cfi_unit.specs.Opens.{Among, Opens}
 use Rattle.cfi_unit.proofs.Forms.{passes}
@@ -29,7 +32,7 @@ use Rattle.cfi_unit.proofs.GuardedWords.{is_load}
 use Rattle.cfi_unit.proofs.Jumps.{is_jump_instr, tested}
 use Rattle.cfi_unit.proofs.UnitInList.{words_counted}
 use Rattle.cfi_unit.proofs.Holes.{Fill, filled_opens, opened_length}
-use Rattle.cfi_unit.proofs.Listed.{among_back, among_front, guarded_listed, listed, stores_listed}
+use Rattle.cfi_unit.proofs.Listed.{STORES, among_back, among_front, guarded_listed, listed, stores_listed}
 use Rattle.cfi_unit.proofs.UnitHoles.{holes_of, load_word, member_word, unit_filled}
 
 -- the two families
@@ -53,6 +56,9 @@ members_fill (m ∷ ms) at k all =
 
 address : (at rs1 imm : ℕ) → rs1 < 32 → imm < 2 ^ 12 → matches P.Address (code_of (Immediate Addi 31 rs1 imm)) at ≡ true
 address at rs1 imm r i = passes (has_form P.Address at) (Immediate Addi 31 rs1 imm) (lit< tt, r, i) refl
+
+masks : (at rs1 : ℕ) → rs1 < 32 → matches P.Masked (code_of (Register And 31 rs1 4)) at ≡ true
+masks at rs1 r = passes (has_form P.Masked at) (Register And 31 rs1 4) (lit< tt, r, lit< tt) refl
 
 labelled : (at label : ℕ) → label < 2 ^ 20 → matches P.Label (code_of (Upper Lui 4 label)) at ≡ true
 labelled at label low = passes (has_form P.Label at) (Upper Lui 4 label) (lit< tt, low) refl
@@ -86,7 +92,9 @@ unit_fill (V.System S.Ebreak) at f = tt
 unit_fill (V.Guarded numbers) at f =
     let e : at + 8 * length numbers ≡ at + (0 + 8 * length numbers) = omega arith in
     guards_fill numbers at 0 f.0.each (subst (λ (a : ℕ). reaches a BAD_TARGET ≡ true) e (tested (at + 8 * length numbers) BAD_TARGET f.1))
-unit_fill (V.Stores rs1 imm members) at f = (address (at + 0) rs1 imm f.0 f.1, members_fill members at 12 f.2.each)
+unit_fill (V.Stores Shifts rs1 imm members) at f = (address (at + 0) rs1 imm f.0 f.1, members_fill members at 12 f.2.each)
+unit_fill (V.Stores Short rs1 imm members) at f = (masks (at + 0) rs1 f.0, members_fill members at 4 f.2.each)
+unit_fill (V.Stores Long rs1 imm members) at f = (address (at + 0) rs1 imm f.0 f.1, members_fill members at 8 f.2.each)
 unit_fill (V.Call target) at f = (
   tested (at + 8) DEEP f.0,
   (passes (has_form P.Link (at + 28)) (Jal 1 (jump_offset (at + 28) target)) (is_jump_instr 1 (at + 28) target (lit< tt)) refl, tt),
@@ -103,6 +111,17 @@ unit_fill (V.Icall rs1 imm label) at f = (
   ),
 )
 unit_fill V.Return at f = (tested (at + 12) BAD_RETURN f, tt)
+unit_fill (V.LinkCall target) at f = (passes (has_form P.Link (at + 0)) (Jal 1 (jump_offset at target)) (is_jump_instr 1 at target (lit< tt)) refl, tt)
+unit_fill V.Enter at f = (tested (at + 8) DEEP f, tt)
+unit_fill (V.LeanIjump rs1 imm label) at f = (
+  address (at + 0) rs1 imm f.0 f.1,
+  (tested (at + 24) BAD_TARGET f.3, (labelled (at + 32) label f.2, (tested (at + 44) BAD_TARGET f.4, tt))),
+)
+unit_fill (V.LeanIcall rs1 imm label) at f = (
+  address (at + 0) rs1 imm f.0 f.1,
+  (tested (at + 24) BAD_TARGET f.3, (labelled (at + 32) label f.2, (tested (at + 44) BAD_TARGET f.4, tt))),
+)
+unit_fill V.LeafReturn at f = tt
 
 pub unit_opens : (u : U.Unit) (at : ℕ) → Fits u at → Opens ((shape_of u at).words) (words_of u at) at []
 unit_opens u at f =
@@ -115,20 +134,29 @@ unit_opens u at f =
 pub guarded_among : (n : ℕ) → 0 < n → n ≤ 8 → Among (shape E.Guarded (guarded n)) SHAPES
 guarded_among zero some most = absurd (omega arith)
 guarded_among (suc n) some most =
-    among_back (shape E.Guarded (guarded (suc n))) (take 14 SHAPES) (each_guarded 8 ++ all_stores)
-    (among_front (shape E.Guarded (guarded (suc n))) (each_guarded 8) all_stores (guarded_listed n 8 most))
+    among_back (shape E.Guarded (guarded (suc n))) (take 20 SHAPES) (each_guarded 8 ++ STORES)
+    (among_front (shape E.Guarded (guarded (suc n))) (each_guarded 8) STORES (guarded_listed n 8 most))
 
-pub stores_among : (n : ℕ) → 0 < n → n ≤ 16 → Among (shape (if n == 16 then E.Full else E.Stores) (stores n)) SHAPES
-stores_among zero some most = absurd (omega arith)
-stores_among (suc n) some most =
+stored_among : (m : Mask) (s : Shape) → Among s (all_stores m) → Among s STORES
+stored_among Shifts s a = among_front s (all_stores Shifts) (all_stores Short ++ all_stores Long) a
+stored_among Short s a =
+    among_back s (all_stores Shifts) (all_stores Short ++ all_stores Long) (among_front s (all_stores Short) (all_stores Long) a)
+stored_among Long s a =
+    among_back s (all_stores Shifts) (all_stores Short ++ all_stores Long) (among_back s (all_stores Short) (all_stores Long) a)
+
+counted_among : (m : Mask) (n : ℕ) → 0 < n → n ≤ 16 → Among (shape (if n == 16 then E.Full m else E.Stores m) (stores m n)) (all_stores m)
+unfolding Among
+counted_among m zero some most = absurd (omega arith)
+counted_among m (suc n) some most =
     elim (cases_eq (suc n) 16) [
-      | inl all ↦
-          subst (λ (m : ℕ). Among (shape (if m == 16 then E.Full else E.Stores) (stores m)) SHAPES) (sym all)
-          (listed SHAPES 22 (shape E.Full (stores 16)) refl)
-      | inr fewer ↦
-          rw (ne_eqb (suc n) 16 fewer)
-          (among_back (shape E.Stores (stores (suc n))) (take 23 SHAPES) (each_stores 15) (stores_listed n 15 (omega arith)))
+      | inl all ↦ inl (ap (λ (k : ℕ). shape (if k == 16 then E.Full m else E.Stores m) (stores m k)) all)
+      | inr fewer ↦ rw (ne_eqb (suc n) 16 fewer) (inr (stores_listed m n 15 (omega arith)))
     ]
+
+pub stores_among : (m : Mask) (n : ℕ) → 0 < n → n ≤ 16 → Among (shape (if n == 16 then E.Full m else E.Stores m) (stores m n)) SHAPES
+stores_among m n some most =
+    let s = shape (if n == 16 then E.Full m else E.Stores m) (stores m n) in
+    among_back s (take 28 SHAPES) STORES (stored_among m s (counted_among m n some most))
 
 pub shape_among : (u : U.Unit) (at : ℕ) → Fits u at → Among (shape_of u at) SHAPES
 shape_among (V.Gate label) at f = listed SHAPES 0 _ refl
@@ -144,12 +172,18 @@ shape_among V.Stop at f = listed SHAPES 2 _ refl
 shape_among (V.System S.Ecall) at f = listed SHAPES 4 _ refl
 shape_among (V.System S.Ebreak) at f = listed SHAPES 5 _ refl
 shape_among (V.Guarded numbers) at f = guarded_among (length numbers) f.0.some f.0.most
-shape_among (V.Stores rs1 imm members) at f = stores_among (length members) f.2.some f.2.most
+shape_among (V.Stores mask rs1 imm members) at f = stores_among mask (length members) f.2.some f.2.most
 shape_among (V.Call target) at f = listed SHAPES 9 _ refl
 shape_among (V.Ijump First rs1 imm label) at f = listed SHAPES 10 _ refl
 shape_among (V.Ijump Second rs1 imm label) at f = listed SHAPES 11 _ refl
-shape_among (V.Icall rs1 imm label) at f = listed SHAPES 12 _ refl
-shape_among V.Return at f = listed SHAPES 13 _ refl
+shape_among (V.Ijump Third rs1 imm label) at f = listed SHAPES 12 _ refl
+shape_among (V.Icall rs1 imm label) at f = listed SHAPES 13 _ refl
+shape_among V.Return at f = listed SHAPES 14 _ refl
+shape_among (V.LinkCall target) at f = listed SHAPES 15 _ refl
+shape_among V.Enter at f = listed SHAPES 16 _ refl
+shape_among (V.LeanIjump rs1 imm label) at f = listed SHAPES 17 _ refl
+shape_among (V.LeanIcall rs1 imm label) at f = listed SHAPES 18 _ refl
+shape_among V.LeafReturn at f = listed SHAPES 19 _ refl
 
 -- and it has as many patterns as the unit has words
 pub counted : (u : U.Unit) (at : ℕ) → Fits u at → word_count u ≡ length ((shape_of u at).words)

@@ -1,14 +1,16 @@
 -- Gates and system calls: either stands nowhere in instructions that lack it, as plain ones, stores and an opening do.
-use Rattle.std.proofs.Common.{◌≡◌, ℕ, zero, suc, ◌&&◌, Bool, true, false, not, inl, inr, List, [], ◌∷◌, Some, refl, sym, ap, subst, ◌∙◌}
+use Rattle.std.proofs.Common.{◌≡◌, ℕ, zero, suc, ◌&&◌, Bool, true, false, not, inl, inr, List, [], ◌∷◌, ◌++◌, Some, refl, sym, ap, subst, ◌∙◌}
 use Rattle.std.specs.Prelude.{map, slice_get}
 use Rattle.std.proofs.lemmas.Bool.{and_parts}
 use Rattle.rv_word.specs.MemoryMap.{IsProfile, Profile}
 use Rattle.rv_instr.specs.declared.instr.Instr.{Instr}
 use Rattle.rv_instr.specs.declared.instr.Instr.TheVariants.{Upper, Jal, Jalr, Branch, Load, Store, Immediate, Shift, ShiftWord, Register, Fence, Ecall, Ebreak}
 use Rattle.rv_instr.specs.declared.instr.UpperOp.TheVariants.{Lui, Auipc}
+use Rattle.cfi_unit.specs.declared.mask.Mask.{Mask}
+use Rattle.cfi_unit.specs.declared.mask.Mask.TheVariants.{Shifts, Short, Long}
 use Rattle.cfi_unit.specs.declared.members.Member.{Member}
 use Rattle.cfi_unit.specs.Members.{member_instr}
-use Rattle.cfi_unit.specs.UnitWords.{is_plain}
+use Rattle.cfi_unit.specs.UnitWords.{is_plain, mask_instrs}
 use Rattle.cfi_unit.specs.Prologue.{opening_instrs}
 
 -- whether an instruction is a gate, where gates are sought, or else a system call
@@ -62,9 +64,15 @@ plain_lacks gates (Fence word) plain = refl
 plain_lacks gates Ecall plain = absurd (cc)
 plain_lacks gates Ebreak plain = refl
 
-pub members_lack : (gates : Bool) (members : List Member) → lacks gates (map member_instr members) ≡ true
+members_lack : (gates : Bool) (members : List Member) → lacks gates (map member_instr members) ≡ true
 members_lack gates [] = refl
 members_lack gates (m ∷ members) = members_lack gates members
+
+pub stores_lack : (gates : Bool) (mask : Mask) (rs1 imm : ℕ) (members : List Member) →
+    lacks gates (mask_instrs mask rs1 imm ++ map member_instr members) ≡ true
+stores_lack gates Shifts rs1 imm members = members_lack gates members
+stores_lack gates Short rs1 imm members = members_lack gates members
+stores_lack gates Long rs1 imm members = members_lack gates members
 
 pub opening_lacks : (gates : Bool) (p : Profile) → IsProfile p → (entry : ℕ) → lacks gates (opening_instrs p entry) ≡ true
 opening_lacks gates p (inl e) entry = subst (λ (x : Profile). lacks gates (opening_instrs x entry) ≡ true) (sym e) refl

@@ -22,7 +22,7 @@ looks_on (V.Near op rs1 rs2 target) at rest e =
     kept : (b : Bool) → not b ≡ false → b ≡ true
     kept true e = refl
     kept false e = absurd (cc)
-looks_on (V.Stores rs1 imm members) at rest e =
+looks_on (V.Stores mask rs1 imm members) at rest e =
     leb-false MOST_MEMBERS (length members) (or_parts (nat_le MOST_MEMBERS (length members)) (is_none (member_of (instr_at rest 0))) e).0
 looks_on other at rest e = absurd (cc)
 
@@ -30,7 +30,7 @@ looks_on other at rest e = absurd (cc)
 pub precedes_nothing : (u : U.Unit) (at : ℕ) → may_precede u at [] ≡ true
 precedes_nothing (V.Near op rs1 rs2 target) at =
     elim (cases_Bool (near_offset at target == skip_offset)) [ inl skips ↦ rw skips refl | inr other ↦ rw other refl ]
-precedes_nothing (V.Stores rs1 imm members) at =
+precedes_nothing (V.Stores mask rs1 imm members) at =
     elim (cases_Bool (nat_le MOST_MEMBERS (length members))) [ inl most ↦ rw most refl | inr fewer ↦ rw fewer refl ]
 precedes_nothing other at = refl
 

@@ -3,11 +3,14 @@ use Rattle.std.proofs.Common.{◌≡◌, ℕ, suc, ◌+◌, ◌*◌, ◌==◌, r
 use Rattle.std.specs.Prelude.{drop, replicate, take}
 use Rattle.std.proofs.lemmas.Bool.{cases_Bool}
 use Rattle.std.proofs.lemmas.List.{map-append}
-use Rattle.rv_instr.specs.declared.instr.Instr.TheVariants.{Upper, Jal, Jalr, Branch, Immediate, Ecall}
+use Rattle.rv_instr.specs.declared.instr.Instr.TheVariants.{Upper, Jal, Jalr, Branch, Immediate, Register, Ecall}
 use Rattle.rv_instr.specs.declared.instr.UpperOp.TheVariants.{Lui}
 use Rattle.rv_instr.specs.declared.instr.ImmediateOp.TheVariants.{Addi}
 use Rattle.rv_instr.specs.declared.instr.BranchOp.TheVariants.{Beq}
+use Rattle.rv_instr.specs.declared.instr.RegisterOp.TheVariants.{And}
 use Rattle.rv_code.specs.Encode.{code_of}
+use Rattle.cfi_unit.specs.declared.mask.Mask.{Mask}
+use Rattle.cfi_unit.specs.declared.mask.Mask.TheVariants.{Shifts, Short, Long}
 use Rattle.cfi_unit.specs.declared.members.Member.{Member}
 use Rattle.cfi_unit.specs.declared.pattern.Pattern.TheVariants as P
 use Rattle.cfi_unit.specs.declared.target_word.TargetWord.TheVariants.{First}
@@ -16,7 +19,7 @@ use Rattle.cfi_unit.specs.declared.unit.Unit.TheVariants as V
 use Rattle.cfi_unit.specs.declared.unit.SystemOp.TheVariants as S
 use Rattle.cfi_unit.specs.Guarded.{guards}
 use Rattle.cfi_unit.specs.Members.{member_instr}
-use Rattle.cfi_unit.specs.UnitWords.{BAD_TARGET, DEEP, check, gate, jump, jump_offset, mask, near_offset, push, skip_offset, words_of}
+use Rattle.cfi_unit.specs.UnitWords.{BAD_TARGET, DEEP, check, gate, jump, jump_offset, mask_instrs, near_offset, push, skip_offset, words_of}
 use Rattle.cfi_unit.specs.Shapes.{guarded}
 use Rattle.cfi_unit.specs.ShapeOf.{shape_of}
 use Rattle.cfi_unit.proofs.Holes.{filled}
@@ -28,6 +31,12 @@ load_word n = code_of (Immediate Addi 31 0 n)
 abbrev pub member_word : Member → ℕ
 member_word m = code_of (member_instr m)
 
+-- the word that names a mask's register
+abbrev pub mask_word : Mask → ℕ → ℕ → ℕ
+mask_word Shifts rs1 imm = code_of (Immediate Addi 31 rs1 imm)
+mask_word Short rs1 imm = code_of (Register And 31 rs1 4)
+mask_word Long rs1 imm = code_of (Immediate Addi 31 rs1 imm)
+
 abbrev pub holes_of : U.Unit → ℕ → List ℕ
 holes_of (V.Gate label) at = code_of (gate label) ∷ []
 holes_of (V.Plain instr) at = code_of instr ∷ []
@@ -37,11 +46,16 @@ holes_of (V.Jump target) at = code_of (jump at target) ∷ []
 holes_of V.Stop at = []
 holes_of (V.System op) at = []
 holes_of (V.Guarded numbers) at = map load_word numbers
-holes_of (V.Stores rs1 imm members) at = code_of (Immediate Addi 31 rs1 imm) ∷ map member_word members
+holes_of (V.Stores mask rs1 imm members) at = mask_word mask rs1 imm ∷ map member_word members
 holes_of (V.Call target) at = code_of (Jal 1 (jump_offset (at + 28) target)) ∷ []
 holes_of (V.Ijump which rs1 imm label) at = code_of (Immediate Addi 31 rs1 imm) ∷ code_of (Upper Lui 4 label) ∷ []
 holes_of (V.Icall rs1 imm label) at = code_of (Immediate Addi 31 rs1 imm) ∷ code_of (Upper Lui 4 label) ∷ []
 holes_of V.Return at = []
+holes_of (V.LinkCall target) at = code_of (Jal 1 (jump_offset at target)) ∷ []
+holes_of V.Enter at = []
+holes_of (V.LeanIjump rs1 imm label) at = code_of (Immediate Addi 31 rs1 imm) ∷ code_of (Upper Lui 4 label) ∷ []
+holes_of (V.LeanIcall rs1 imm label) at = code_of (Immediate Addi 31 rs1 imm) ∷ code_of (Upper Lui 4 label) ∷ []
+holes_of V.LeafReturn at = []
 
 -- the two families
 pub guards_filled : (ns : List ℕ) (at k : ℕ) → filled (guarded (length ns)) at k (map load_word ns)
@@ -69,7 +83,9 @@ unit_filled (V.Guarded numbers) at =
     guards_filled numbers at 0
     ∙ ap (λ (a : ℕ). map code_of (guards numbers) ++ (code_of (jump a BAD_TARGET) ∷ code_of Ecall ∷ [])) e
     ∙ sym (map-append code_of (guards numbers) (jump (at + 8 * length numbers) BAD_TARGET ∷ Ecall ∷ []))
-unit_filled (V.Stores rs1 imm members) at = ap (λ l. map code_of (mask rs1 imm) ++ l) (members_filled members at 12)
+unit_filled (V.Stores Shifts rs1 imm members) at = ap (λ l. map code_of (mask_instrs Shifts rs1 imm) ++ l) (members_filled members at 12)
+unit_filled (V.Stores Short rs1 imm members) at = ap (λ l. map code_of (mask_instrs Short rs1 imm) ++ l) (members_filled members at 4)
+unit_filled (V.Stores Long rs1 imm members) at = ap (λ l. map code_of (mask_instrs Long rs1 imm) ++ l) (members_filled members at 8)
 unit_filled (V.Icall rs1 imm label) at =
     let e : at + 56 ≡ at + 48 + 8 = omega arith in
     ap

@@ -6,6 +6,7 @@ use Rattle.std.proofs.lemmas.Bool.Decides.{Decides-eqb}
 use Rattle.std.proofs.lemmas.List.{take-append-drop}
 use Rattle.std.proofs.lemmas.Slice.Eq.{starts_is}
 use Rattle.std.proofs.Math.Seq.{take-append_seam, drop-append_seam}
+use Rattle.cfi_unit.specs.declared.mask.Mask.TheVariants.{Shifts, Short, Long}
 use Rattle.cfi_unit.specs.declared.unit.Unit as U
 use Rattle.cfi_unit.specs.declared.unit.Unit.TheVariants as V
 use Rattle.cfi_unit.specs.UnitWords.{Begins, Fits, instr_at, may_precede, word_count, words_of}
@@ -15,7 +16,9 @@ use Rattle.cfi_unit.proofs.MemberWords.{members_counted}
 pub words_counted : (u : U.Unit) (at : ℕ) → length (words_of u at) ≡ word_count u
 unfolding words_of
 words_counted (V.Guarded ns) at = guarded_counted ns at
-words_counted (V.Stores rs1 imm members) at = let counted = members_counted members in omega arith
+words_counted (V.Stores Shifts rs1 imm members) at = let counted = members_counted members in omega arith
+words_counted (V.Stores Short rs1 imm members) at = let counted = members_counted members in omega arith
+words_counted (V.Stores Long rs1 imm members) at = let counted = members_counted members in omega arith
 words_counted other at = refl
 
 -- what follows a unit's words

@@ -21,7 +21,9 @@ use Rattle.cfi_unit.proofs.GuardedUnit.{guarded_law}
 use Rattle.cfi_unit.proofs.CallUnit.{AfterCall, call_inside, call_leaves, call_law}
 use Rattle.cfi_unit.proofs.ReturnUnit.{return_law}
 use Rattle.cfi_unit.proofs.ComputedUnits.{ijump_law, icall_law}
-use Rattle.cfi_unit.proofs.Simple.{plain_law, gate_law, jump_law, stop_law, branch_law, near_law, ecall_law, ebreak_law}
+use Rattle.cfi_unit.proofs.EnterUnit.{enter_law}
+use Rattle.cfi_unit.proofs.LeanUnits.{lean_ijump_law, lean_icall_law}
+use Rattle.cfi_unit.proofs.Simple.{plain_law, gate_law, jump_law, stop_law, link_call_law, leaf_return_law, branch_law, near_law, ecall_law, ebreak_law}
 use Rattle.cfi_unit.proofs.PrologueUnits.{handler_law, closing_law, opening_law}
 
 module _ (p : Profile) (part : ℕ) (image base : Memory) where
@@ -45,14 +47,21 @@ module _ (p : Profile) (part : ℕ) (image base : Memory) where
     body_law (V.System S.Ecall) at pending may most w c i = ecall_law p part image base at pending r h s own w c i
     body_law (V.System S.Ebreak) at pending may most w c i = ebreak_law p part image base at pending r h s w c i
     body_law (V.Guarded numbers) at pending may most w c i = guarded_law p part image base numbers at pending r h s own may.0 w c i
-    body_law (V.Stores rs1 imm members) at pending may most w c i =
-        stores_law p part image base rs1 imm members at pending r h s own may.0 w c i
+    body_law (V.Stores mask rs1 imm members) at pending may most w c i =
+        stores_law p part image base rs1 imm members at pending r h s mask own may.0 w c i
     body_law (V.Call target) at pending may most w c i =
         call_from at target pending r (step p h s) (call_law p part image base at (r 31) pending target h s own most may.0 w c i)
     body_law (V.Ijump which rs1 imm label) at pending may most w c i =
         ijump_law p part image base rs1 imm label at pending r h s which small may.0 w c i
     body_law (V.Icall rs1 imm label) at pending may most w c i =
         icall_law p part image base rs1 imm label at pending r h s own most small may.0 w c i
+    body_law (V.LinkCall target) at pending may most w c i = link_call_law p part image base at pending r h s target may.0 w c i
+    body_law V.Enter at pending may most w c i = enter_law p part image base at pending r h s own most may.0 i.0 w c i.1
+    body_law (V.LeanIjump rs1 imm label) at pending may most w c i =
+        lean_ijump_law p part image base rs1 imm label at pending r h s small may.0 w c i
+    body_law (V.LeanIcall rs1 imm label) at pending may most w c i =
+        lean_icall_law p part image base rs1 imm label at pending r h s small may.0 w c i
+    body_law V.LeafReturn at pending may most w c i = leaf_return_law p part image base at pending r h s w c i
     body_law V.Return at [] may most w c i = absurd i
     body_law V.Return at (site ∷ pending) may most w c i =
         return_law p part image base at site pending r h s own most may.0 may.1.0 may.1.1 w c i

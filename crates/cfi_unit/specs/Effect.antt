@@ -1,7 +1,7 @@
 -- What a unit does, a row a unit: where it is left to, with which registers and pending sites, and
 -- what harts then share. `h` and `s` are the hart and what is shared at the unit's first word, and
 -- `may` is what may happen between its words; `following` is the address after the unit.
-use Rattle.std.specs.Prelude.{◌≡◌, ◌≢◌, ℕ, ◌-◌, ◌<◌, ◌⊎◌, true, false, if◌then◌else◌, List, [], ◌∷◌, length}
+use Rattle.std.specs.Prelude.{◌≡◌, ◌≢◌, ℕ, ◌+◌, ◌-◌, ◌<◌, ◌⊎◌, true, false, if◌then◌else◌, List, [], ◌∷◌, length}
 use Rattle.rv_word.specs.MemoryMap.{Profile}
 use Rattle.rv_word.specs.Memory.{Memory}
 use Rattle.rv_instr.specs.Registers.{get_reg, set_reg}
@@ -12,7 +12,7 @@ use Rattle.cfi_unit.specs.UnitWords.{BAD_TARGET, BAD_RETURN, DEEP, after_unit, s
 use Rattle.cfi_unit.specs.Shadow.{MOST_PENDING}
 use Rattle.cfi_unit.specs.Flow as F
 use Rattle.cfi_unit.specs.Flow.{Act, Exit, Flow, Sites, flow_of}
-use Rattle.cfi_unit.specs.Leads.{Decides, by_label, destination}
+use Rattle.cfi_unit.specs.Leads.{Decides, by_label, destination, linked_to}
 use Rattle.cfi_unit.specs.Leaving.{LeftTo, HaltsAt, CallsAt, Executes, StoresEach, masked, pushed}
 
 module _ (p : Profile) (part : ℕ) (image base : Memory) (may : Shared → Shared → Type 0) (h : Hart) (s : Shared) where
@@ -22,6 +22,13 @@ module _ (p : Profile) (part : ℕ) (image base : Memory) (may : Shared → Shar
   CallDoes target site pending after =
       ((length pending < MOST_PENDING)
       × LeftTo part image base target (site ∷ pending) (set_reg h.regs 1 site) (may (pushed part (length pending) site s)) after)
+      ⊎ ((length pending ≡ MOST_PENDING) × HaltsAt part image base DEEP pending h.regs (may s) after)
+
+  -- an enter puts the site in x1 onto the shadow stack and goes on, or halts where the shadow stack is full
+  abbrev pub EnterDoes : ℕ → List ℕ → After → Type 0
+  EnterDoes following pending after =
+      ((length pending < MOST_PENDING)
+      × LeftTo part image base following (h.regs 1 ∷ pending) h.regs (may (pushed part (length pending) (h.regs 1) s)) after)
       ⊎ ((length pending ≡ MOST_PENDING) × HaltsAt part image base DEEP pending h.regs (may s) after)
 
   -- a return goes to the newest site and takes it off, or halts where x1 is another address
@@ -34,6 +41,8 @@ module _ (p : Profile) (part : ℕ) (image base : Memory) (may : Shared → Shar
   -- to a target, with the sites as the unit leaves them
   abbrev pub SitesDo : Sites → ℕ → List ℕ → After → ℕ → Type 0
   SitesDo F.pushes following pending after target = CallDoes target following pending after
+  SitesDo F.links following pending after target = LeftTo part image base target pending (set_reg h.regs 1 following) (may s) after
+  SitesDo F.saves following pending after target = EnterDoes target pending after
   SitesDo other following pending after target = LeftTo part image base target pending h.regs (may s) after
 
   -- a branch over a jump goes to its target where its condition is not met, a near one where it is
@@ -44,8 +53,11 @@ module _ (p : Profile) (part : ℕ) (image base : Memory) (may : Shared → Shar
       LeftTo part image base (if branch_taken op (get_reg h.regs rs1) (get_reg h.regs rs2) then following else target) pending h.regs (may s) after
   ExitDoes (F.to target) sites following pending after = SitesDo sites following pending after target
   ExitDoes (F.halts stop) sites following pending after = HaltsAt part image base stop pending h.regs (may s) after
+  ExitDoes F.on sites following pending after = SitesDo sites following pending after following
   ExitDoes (F.computed rs1 imm) sites following pending after = SitesDo sites following pending after (destination h.regs rs1 imm)
+  ExitDoes (F.beyond rs1 imm) sites following pending after = SitesDo sites following pending after (destination h.regs rs1 imm + 8)
   ExitDoes F.back sites following pending after = ReturnDoes pending after
+  ExitDoes F.linked sites following pending after = LeftTo part image base (linked_to h.regs) pending h.regs (may s) after
   ExitDoes other sites following pending after = LeftTo part image base following pending h.regs (may s) after
 
   abbrev pub ActDoes : Act → Exit → Sites → ℕ → List ℕ → After → Type 0

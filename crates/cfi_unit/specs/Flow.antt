@@ -5,7 +5,7 @@ use Rattle.rv_instr.specs.declared.instr.BranchOp.{BranchOp}
 use Rattle.rv_instr.specs.declared.instr.Instr.{Instr}
 use Rattle.cfi_unit.specs.declared.members.Member.{Member}
 use Rattle.cfi_unit.specs.declared.target_word.TargetWord.{TargetWord}
-use Rattle.cfi_unit.specs.declared.target_word.TargetWord.TheVariants.{First}
+use Rattle.cfi_unit.specs.declared.target_word.TargetWord.TheVariants.{First, Third}
 use Rattle.cfi_unit.specs.declared.unit.SystemOp.{SystemOp}
 use Rattle.cfi_unit.specs.declared.unit.Unit as U
 use Rattle.cfi_unit.specs.declared.unit.Unit.TheVariants as V
@@ -33,8 +33,12 @@ pub data Exit : Type 0 where
   halts : ℕ → Exit
   -- to a computed destination, past a register
   computed : ℕ → ℕ → Exit
+  -- eight bytes past one
+  beyond : ℕ → ℕ → Exit
   -- to the newest pending site
   back : Exit
+  -- to the address in x1
+  linked : Exit
   -- to the next unit after a system call, and nowhere after a break
   after : SystemOp → Exit
 
@@ -45,6 +49,10 @@ pub data Sites : Type 0 where
   pushes : Sites
   -- the newest is taken off
   pops : Sites
+  -- they stay, and the address after the unit is put into x1
+  links : Sites
+  -- the address in x1 is put on top, where there is room
+  saves : Sites
 
 -- what it does besides
 pub data Act : Type 0 where
@@ -77,8 +85,13 @@ flow_of (V.Jump target) = flow always (to target) keeps none
 flow_of V.Stop = flow always (halts BAD_TARGET) keeps none
 flow_of (V.System op) = flow always (after op) keeps (system op)
 flow_of (V.Guarded numbers) = flow (listed numbers) on keeps calls
-flow_of (V.Stores rs1 imm members) = flow always on keeps (stores rs1 imm members)
+flow_of (V.Stores mask rs1 imm members) = flow always on keeps (stores rs1 imm members)
 flow_of (V.Call target) = flow always (to target) pushes none
 flow_of (V.Ijump which rs1 imm label) = flow (borne which rs1 imm label) (computed rs1 imm) keeps none
 flow_of (V.Icall rs1 imm label) = flow (borne First rs1 imm label) (computed rs1 imm) pushes none
 flow_of V.Return = flow newest back pops none
+flow_of (V.LinkCall target) = flow always (to target) links none
+flow_of V.Enter = flow always on saves none
+flow_of (V.LeanIjump rs1 imm label) = flow (borne First rs1 imm label) (computed rs1 imm) keeps none
+flow_of (V.LeanIcall rs1 imm label) = flow (borne Third rs1 imm label) (beyond rs1 imm) links none
+flow_of V.LeafReturn = flow always linked keeps none

@@ -11,12 +11,12 @@ use Rattle.cfi_unit.specs.Shapes.{SHAPES, Shape}
 -- a word goes on with a unit of this kind: a jump with a branch over the next word, a store with fewer than sixteen
 abbrev pub continues : End → Pattern → Bool
 continues E.Over P.Jump = true
-continues E.Stores P.Member = true
+continues (E.Stores mask) P.Member = true
 continues end p = false
 
 abbrev pub goes_on : End → List ℕ → ℕ → Bool
 goes_on E.Over (w ∷ words) at = matches P.Jump w at
-goes_on E.Stores (w ∷ words) at = matches P.Member w at
+goes_on (E.Stores mask) (w ∷ words) at = matches P.Member w at
 goes_on end words at = false
 
 -- the first of these words are as patterns say, and all of a unit of this kind

@@ -10,11 +10,13 @@ use Rattle.rv_instr.specs.Registers.{Registers}
 use Rattle.rv_code.specs.Arithmetic.{difference}
 use Rattle.rv_code.specs.State.{Hart}
 use Rattle.rv_code.specs.Step.{offset}
+use Rattle.cfi_unit.specs.declared.mask.Mask.{Mask}
+use Rattle.cfi_unit.specs.declared.mask.Mask.TheVariants.{Shifts, Short, Long}
 use Rattle.cfi_unit.specs.declared.target_word.TargetWord.{TargetWord}
-use Rattle.cfi_unit.specs.declared.target_word.TargetWord.TheVariants.{First}
+use Rattle.cfi_unit.specs.declared.target_word.TargetWord.TheVariants.{First, Third}
 use Rattle.cfi_unit.specs.declared.unit.Unit as U
 use Rattle.cfi_unit.specs.declared.unit.Unit.TheVariants as V
-use Rattle.cfi_unit.specs.UnitWords.{past}
+use Rattle.cfi_unit.specs.UnitWords.{STORE_MASK, mask_words, past}
 use Rattle.cfi_unit.specs.Prologue.{OPENING, call_at}
 use Rattle.cfi_unit.specs.Place.{Place, handler, opening, closing, body}
 use Rattle.cfi_unit.specs.Shadow.{slot, MOST_PENDING}
@@ -39,13 +41,29 @@ pub data InGuarded (part at : ℕ) (numbers : List ℕ) (x n : ℕ) (h : Hart) :
   guarded_call : h.pc ≡ at + 4 * (2 * length numbers + 1) → h.regs 3 ≡ slot part n → h.regs 17 ≡ x → is_listed x numbers ≡ true →
       InGuarded part at numbers x n h
 
+-- the words of a mask
+pub data InShifts (part at n : ℕ) (h : Hart) : Type 0 where
+  shifts_addi : h.pc ≡ at → h.regs 3 ≡ slot part n → InShifts part at n h
+  shifts_slli : h.pc ≡ at + 4 → h.regs 3 ≡ slot part n → InShifts part at n h
+  shifts_srli : h.pc ≡ at + 8 → h.regs 3 ≡ slot part n → h.regs 31 < 2 ^ 64 → InShifts part at n h
+
+pub data InShort (part at n : ℕ) (h : Hart) : Type 0 where
+  short_and : h.pc ≡ at → h.regs 3 ≡ slot part n → h.regs 4 ≡ STORE_MASK → InShort part at n h
+
+pub data InLong (part at n : ℕ) (h : Hart) : Type 0 where
+  long_addi : h.pc ≡ at → h.regs 3 ≡ slot part n → h.regs 4 ≡ STORE_MASK → InLong part at n h
+  long_and : h.pc ≡ at + 4 → h.regs 3 ≡ slot part n → h.regs 4 ≡ STORE_MASK → InLong part at n h
+
+abbrev pub InMask : Mask → ℕ → ℕ → ℕ → Hart → Type 0
+InMask Shifts part at n h = InShifts part at n h
+InMask Short part at n h = InShort part at n h
+InMask Long part at n h = InLong part at n h
+
 -- stores: as many as `count` say
-pub data InStores (part at count n : ℕ) (h : Hart) : Type 0 where
-  stores_addi : h.pc ≡ at → h.regs 3 ≡ slot part n → InStores part at count n h
-  stores_slli : h.pc ≡ at + 4 → h.regs 3 ≡ slot part n → InStores part at count n h
-  stores_srli : h.pc ≡ at + 8 → h.regs 3 ≡ slot part n → h.regs 31 < 2 ^ 64 → InStores part at count n h
-  stores_store : (k : ℕ) → k < count → h.pc ≡ at + 4 * (3 + k) → h.regs 3 ≡ slot part n → h.regs 31 < 2 ^ 28 →
-      InStores part at count n h
+pub data InStores (mask : Mask) (part at count n : ℕ) (h : Hart) : Type 0 where
+  stores_mask : InMask mask part at n h → InStores mask part at count n h
+  stores_store : (k : ℕ) → k < count → h.pc ≡ at + 4 * (mask_words mask + k) → h.regs 3 ≡ slot part n → h.regs 31 < 2 ^ 28 →
+      InStores mask part at count n h
 
 -- the push of a site: x31 keeps `v` meanwhile
 pub data InPush (part at v n : ℕ) (h : Hart) (m : Memory) : Type 0 where
@@ -123,6 +141,27 @@ pub data InIcall (part : ℕ) (image : Memory) (at rs1 imm label sum v n : ℕ) 
   icall_jump : h.pc ≡ at + 76 → HasLabel image First label v → Pushed part (at + 80) v n h m →
       InIcall part image at rs1 imm label sum v n h m
 
+-- a computed transfer that makes the mask of stores again behind its check
+pub data InLean (part : ℕ) (image : Memory) (which : TargetWord) (at rs1 imm label sum v n : ℕ) (h : Hart) : Type 0 where
+  lean_check : InCheck part image which at rs1 imm label sum v n h → InLean part image which at rs1 imm label sum v n h
+  lean_upper : h.pc ≡ at + 48 → Checked part image which label v n h → InLean part image which at rs1 imm label sum v n h
+  lean_lower : h.pc ≡ at + 52 → Checked part image which label v n h → h.regs 4 ≡ STORE_MASK + 1 →
+      InLean part image which at rs1 imm label sum v n h
+  lean_jump : h.pc ≡ at + 56 → Checked part image which label v n h → h.regs 4 ≡ STORE_MASK →
+      InLean part image which at rs1 imm label sum v n h
+
+-- an enter: `link` is x1
+pub data InEnter (part at link n : ℕ) (h : Hart) (m : Memory) : Type 0 where
+  enter_slli : h.pc ≡ at → h.regs 3 ≡ slot part n → h.regs 1 ≡ link → InEnter part at link n h m
+  enter_bne : h.pc ≡ at + 4 → h.regs 3 ≡ slot part n → h.regs 1 ≡ link → h.regs 30 ≡ wrap (slot part n * 2 ^ 48) → InEnter part at link n h m
+  enter_deep : h.pc ≡ at + 8 → h.regs 3 ≡ slot part n → n ≡ MOST_PENDING → InEnter part at link n h m
+  enter_store : h.pc ≡ at + 12 → h.regs 3 ≡ slot part n → h.regs 1 ≡ link → n < MOST_PENDING → InEnter part at link n h m
+  enter_grow : h.pc ≡ at + 16 → h.regs 3 ≡ slot part n → n < MOST_PENDING → read 8 m (slot part n) ≡ link → InEnter part at link n h m
+
+-- a return to the site in x1
+pub data InLeafReturn (part at link n : ℕ) (h : Hart) : Type 0 where
+  leaf_jump : h.pc ≡ at → h.regs 3 ≡ slot part n → h.regs 1 ≡ link → InLeafReturn part at link n h
+
 -- a return: `link` is x1 at its start, `site` the newest site, and `n` counts the older ones
 pub data InReturn (part at link site n : ℕ) (h : Hart) : Type 0 where
   return_ld : h.pc ≡ at → h.regs 3 ≡ slot part (suc n) → h.regs 1 ≡ link → InReturn part at link site n h
@@ -164,12 +203,18 @@ pub data InClosing (at : ℕ) (h : Hart) : Type 0 where
 abbrev pub InUnit : ℕ → Memory → U.Unit → ℕ → List ℕ → Registers → Hart → Memory → Type 0
 InUnit part image (V.Branch op rs1 rs2 target) at pending r h m = InBranch part at (length pending) h
 InUnit part image (V.Guarded numbers) at pending r h m = InGuarded part at numbers (r 17) (length pending) h
-InUnit part image (V.Stores rs1 imm members) at pending r h m = InStores part at (length members) (length pending) h
+InUnit part image (V.Stores mask rs1 imm members) at pending r h m = InStores mask part at (length members) (length pending) h
 InUnit part image (V.Call target) at pending r h m = InCall part at (r 31) (length pending) h m
 InUnit part image (V.Ijump which rs1 imm label) at pending r h m =
     InIjump part image which at rs1 imm label (sum_of r rs1 imm) (destination r rs1 imm) (length pending) h
 InUnit part image (V.Icall rs1 imm label) at pending r h m =
     InIcall part image at rs1 imm label (sum_of r rs1 imm) (destination r rs1 imm) (length pending) h m
+InUnit part image V.Enter at pending r h m = (r 1 < 2 ^ 64) × InEnter part at (r 1) (length pending) h m
+InUnit part image (V.LeanIjump rs1 imm label) at pending r h m =
+    InLean part image First at rs1 imm label (sum_of r rs1 imm) (destination r rs1 imm) (length pending) h
+InUnit part image (V.LeanIcall rs1 imm label) at pending r h m =
+    InLean part image Third at rs1 imm label (sum_of r rs1 imm) (destination r rs1 imm) (length pending) h
+InUnit part image V.LeafReturn at pending r h m = InLeafReturn part at (r 1) (length pending) h
 InUnit part image V.Return at [] r h m = ⊥
 InUnit part image V.Return at (site ∷ pending) r h m = InReturn part at (r 1) site (length pending) h
 InUnit part image other at pending r h m = InWord part at (length pending) h

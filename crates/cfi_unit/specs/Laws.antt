@@ -45,7 +45,7 @@ EmittedRecognised =
 -- may be more
 abbrev pub IsOpen : U.Unit → ℕ → Type 0
 IsOpen (V.Near op rs1 rs2 target) at = near_offset at target ≡ skip_offset
-IsOpen (V.Stores rs1 imm members) at = length members < MOST_MEMBERS
+IsOpen (V.Stores mask rs1 imm members) at = length members < MOST_MEMBERS
 IsOpen other at = ⊥
 
 -- no unit's words are a prefix of another's, but those of a near branch over the next word, and those of

@@ -62,18 +62,25 @@ Returns r (site ∷ pending) after next =
     ((r 1 ≡ site) × Goes pending after next site)
     ⊎ ((r 1 ≢ site) × Goes (site ∷ pending) after next BAD_RETURN)
 
+-- where the address in a register leads, which is a multiple of two
+abbrev pub linked_to : Registers → ℕ
+linked_to r = sum_of r 1 0 / 2 * 2
+
 -- to a target, with the sites as the unit leaves them
-abbrev pub SitesLead : Sites → ℕ → List ℕ → List ℕ → ℕ → ℕ → Type 0
-SitesLead F.pushes following pending after next target = Calls following pending after next target
-SitesLead other following pending after next target = Goes pending after next target
+abbrev pub SitesLead : Sites → ℕ → List ℕ → Registers → List ℕ → ℕ → ℕ → Type 0
+SitesLead F.pushes following pending r after next target = Calls following pending after next target
+SitesLead F.saves following pending r after next target = Calls (r 1) pending after next target
+SitesLead other following pending r after next target = Goes pending after next target
 
 abbrev pub ExitLeads : Exit → Sites → ℕ → List ℕ → Registers → List ℕ → ℕ → Type 0
-ExitLeads F.on sites following pending r after next = Goes pending after next following
+ExitLeads F.on sites following pending r after next = SitesLead sites following pending r after next following
 ExitLeads (F.either op rs1 rs2 met target) sites following pending r after next =
     Goes pending after next following ⊎ Goes pending after next target
-ExitLeads (F.to target) sites following pending r after next = SitesLead sites following pending after next target
+ExitLeads (F.to target) sites following pending r after next = SitesLead sites following pending r after next target
 ExitLeads (F.halts stop) sites following pending r after next = Goes pending after next stop
-ExitLeads (F.computed rs1 imm) sites following pending r after next = SitesLead sites following pending after next (destination r rs1 imm)
+ExitLeads (F.computed rs1 imm) sites following pending r after next = SitesLead sites following pending r after next (destination r rs1 imm)
+ExitLeads (F.beyond rs1 imm) sites following pending r after next = SitesLead sites following pending r after next (destination r rs1 imm + 8)
+ExitLeads F.linked sites following pending r after next = Goes pending after next (linked_to r)
 ExitLeads F.back sites following pending r after next = Returns r pending after next
 ExitLeads (F.after S.Ecall) sites following pending r after next = Goes pending after next following
 ExitLeads (F.after S.Ebreak) sites following pending r after next = ⊥

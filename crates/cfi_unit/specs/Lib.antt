@@ -15,6 +15,7 @@ pub mod Split
 pub mod Laws
 pub mod Prologue
 pub mod Place
+pub mod Templates
 pub mod Shadow
 pub mod Stand
 pub mod Context
@@ -27,5 +28,6 @@ pub mod Leaving
 pub mod Effect
 pub mod EffectLaw
 pub mod EventLaw
+pub mod MaskLaw
 pub mod Results
 pub mod PrologueEffect

@@ -37,6 +37,8 @@ last_result (V.System S.Ecall) = Some 10
 last_result (V.Guarded numbers) = Some 10
 last_result (V.Call target) = Some 1
 last_result (V.Icall rs1 imm label) = Some 1
+last_result (V.LinkCall target) = Some 1
+last_result (V.LeanIcall rs1 imm label) = Some 1
 last_result other = None
 
 -- no word of a unit but the last puts a result into a register of the program

@@ -1,12 +1,12 @@
--- The units as lists of patterns: one shape for each number of stores, of numbers that are tested and for
--- each word that a check reads.
+-- The units as lists of patterns: one shape for each mask and number of stores, of numbers that are tested and
+-- for each word that a check reads.
 use Rattle.std.specs.Prelude.{ℕ, zero, suc, ◌*◌, List, [], ◌∷◌, ◌++◌, replicate}
 use Rattle.rv_instr.specs.declared.instr.Instr.{Instr}
 use Rattle.rv_instr.specs.declared.instr.Instr.TheVariants.{Upper, Jalr, Branch, Load, Store, Immediate, Shift, Register, Ecall, Ebreak}
 use Rattle.rv_instr.specs.declared.instr.UpperOp.TheVariants.{Lui, Auipc}
 use Rattle.rv_instr.specs.declared.instr.ImmediateOp.TheVariants.{Addi, Andi}
 use Rattle.rv_instr.specs.declared.instr.ShiftOp.TheVariants.{Slli, Srli}
-use Rattle.rv_instr.specs.declared.instr.RegisterOp.TheVariants.{Sub}
+use Rattle.rv_instr.specs.declared.instr.RegisterOp.TheVariants.{And, Sub}
 use Rattle.rv_instr.specs.declared.instr.BranchOp.TheVariants.{Beq, Bne}
 use Rattle.rv_instr.specs.declared.instr.LoadOp.TheVariants.{Lw, Ld}
 use Rattle.rv_instr.specs.declared.instr.StoreOp.TheVariants.{Sd}
@@ -16,8 +16,10 @@ use Rattle.cfi_unit.specs.declared.pattern.Pattern.TheVariants as P
 use Rattle.cfi_unit.specs.declared.pattern.End.{End}
 use Rattle.cfi_unit.specs.declared.pattern.End.TheVariants as E
 use Rattle.cfi_unit.specs.declared.target_word.TargetWord.{TargetWord}
-use Rattle.cfi_unit.specs.declared.target_word.TargetWord.TheVariants.{First, Second}
-use Rattle.cfi_unit.specs.UnitWords.{BAD_TARGET, BAD_RETURN, DEEP, MINUS_EIGHT, MINUS_FOUR, past, skip_offset}
+use Rattle.cfi_unit.specs.declared.mask.Mask.{Mask}
+use Rattle.cfi_unit.specs.declared.mask.Mask.TheVariants.{Shifts, Short, Long}
+use Rattle.cfi_unit.specs.declared.target_word.TargetWord.TheVariants.{First, Second, Third}
+use Rattle.cfi_unit.specs.UnitWords.{BAD_TARGET, BAD_RETURN, DEEP, MINUS_EIGHT, MINUS_FOUR, MINUS_ONE, past, skip_offset}
 
 -- this instruction
 abbrev pub is : Instr → Pattern
@@ -58,8 +60,13 @@ check which =
     ∷ P.Halt BAD_TARGET
     ∷ []
 
-abbrev pub mask : List Pattern
-mask = P.Address ∷ is (Shift Slli 31 31 36) ∷ is (Shift Srli 31 31 36) ∷ []
+abbrev pub mask : Mask → List Pattern
+mask Shifts = P.Address ∷ is (Shift Slli 31 31 36) ∷ is (Shift Srli 31 31 36) ∷ []
+mask Short = P.Masked ∷ []
+mask Long = P.Address ∷ is (Register And 31 31 4) ∷ []
+
+abbrev pub mask_made : List Pattern
+mask_made = is (Upper Lui 4 0x10000) ∷ is (Immediate Addi 4 4 MINUS_ONE) ∷ []
 
 -- the tests of so many numbers
 abbrev pub tests : ℕ → List Pattern
@@ -69,8 +76,8 @@ tests (suc n) = P.Number ∷ is (Branch Beq 31 17 (4 * suc n)) ∷ tests n
 abbrev pub guarded : ℕ → List Pattern
 guarded n = tests n ++ (P.Halt BAD_TARGET ∷ is Ecall ∷ [])
 
-abbrev pub stores : ℕ → List Pattern
-stores n = mask ++ replicate n P.Member
+abbrev pub stores : Mask → ℕ → List Pattern
+stores m n = mask m ++ replicate n P.Member
 
 abbrev pub call : List Pattern
 call = push ++ P.Link ∷ []
@@ -90,13 +97,28 @@ return =
     ∷ is (Jalr 0 31 0)
     ∷ []
 
--- from so many on down to one
-abbrev pub each_stores : ℕ → List Shape
-each_stores zero = []
-each_stores (suc n) = shape E.Stores (stores (suc n)) ∷ each_stores n
+abbrev pub enter : List Pattern
+enter =
+    is (Shift Slli 30 3 48)
+    ∷ is (Branch Bne 30 0 skip_offset)
+    ∷ P.Halt DEEP
+    ∷ is (Store Sd 3 1 0)
+    ∷ is (Immediate Addi 3 3 8)
+    ∷ []
 
-abbrev pub all_stores : List Shape
-all_stores = shape E.Full (stores 16) ∷ each_stores 15
+abbrev pub lean_ijump : List Pattern
+lean_ijump = check First ++ mask_made ++ is (Jalr 0 31 0) ∷ []
+
+abbrev pub lean_icall : List Pattern
+lean_icall = check Third ++ mask_made ++ is (Jalr 1 31 8) ∷ []
+
+-- from so many on down to one
+abbrev pub each_stores : Mask → ℕ → List Shape
+each_stores m zero = []
+each_stores m (suc n) = shape (E.Stores m) (stores m (suc n)) ∷ each_stores m n
+
+abbrev pub all_stores : Mask → List Shape
+all_stores m = shape (E.Full m) (stores m 16) ∷ each_stores m 15
 
 abbrev pub each_guarded : ℕ → List Shape
 each_guarded zero = []
@@ -117,6 +139,12 @@ SHAPES =
     ∷ shape E.Call call
     ∷ shape (E.Ijump First) (ijump First)
     ∷ shape (E.Ijump Second) (ijump Second)
+    ∷ shape (E.Ijump Third) (ijump Third)
     ∷ shape E.Icall icall
     ∷ shape E.Return return
-    ∷ (each_guarded 8 ++ all_stores)
+    ∷ shape E.LinkCall (P.Link ∷ [])
+    ∷ shape E.Enter enter
+    ∷ shape E.LeanIjump lean_ijump
+    ∷ shape E.LeanIcall lean_icall
+    ∷ shape E.LeafReturn (is (Jalr 0 1 0) ∷ [])
+    ∷ (each_guarded 8 ++ all_stores Shifts ++ all_stores Short ++ all_stores Long)

@@ -23,6 +23,7 @@ use Rattle.cfi_unit.specs.Stand.{Stand}
 use Rattle.cfi_unit.specs.Context.{Kept, Context}
 use Rattle.cfi_unit.specs.Leads.{Leads, by_label}
 use Rattle.cfi_unit.specs.InPlace.{InPlace}
+use Rattle.cfi_unit.specs.Templates.{LeftWith}
 
 abbrev pub Exits : Turn → Type 0
 Exits turn = (status : ℕ) × (turn ≡ Exit status)
@@ -47,14 +48,14 @@ Ends (opening entry) at turn = ⊥
 Ends closing at turn = Exits turn
 Ends (body unit) at turn = UnitEnds unit at turn
 
--- a step from a word of what stands at `at`: x3 is past the newest site wherever the step leaves to,
--- but at a handler
+-- a step from a word of what stands at `at`: wherever the step leaves to, but at a handler, x3 is past the newest site, and x1 and x4
+-- are as that leaves them
 pub data Outcome (p : Profile) (part : ℕ) (image base : Memory) (place : Place) (at : ℕ) (pending : List ℕ) (r : Registers) (after : After) : Type 0 where
   stays : after.turn ≡ Ran → Context part image base pending after.shared → at < after.hart.pc →
       InPlace p part image place at pending r after.hart after.shared.memory →
       Outcome p part image base place at pending r after
   leaves : (newer : List ℕ) → after.turn ≡ Ran → Context part image base newer after.shared →
-      (after.hart.regs 3 ≡ slot part (length newer)) ⊎ (after.hart.pc < OPENING) →
+      ((after.hart.regs 3 ≡ slot part (length newer)) × LeftWith place at after.hart.regs) ⊎ (after.hart.pc < OPENING) →
       Leads p (by_label image) place at pending r newer after.hart.pc → Outcome p part image base place at pending r after
   ends : Ends place at after.turn → Kept part image base pending after.shared.memory →
       Outcome p part image base place at pending r after

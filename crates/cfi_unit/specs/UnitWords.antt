@@ -1,5 +1,5 @@
 -- The units: what instructions each is, at an address. x3 points to the shadow stack; x4, x30 and
--- x31 are scratch; no plain unit's instruction writes one of these four.
+-- x31 are scratch, but that x4 holds the mask of stores where units use it so; no plain unit's instruction writes one of these four.
 use Rattle.std.specs.Prelude.{◌≡◌, ℕ, ◌+◌, ◌-◌, ◌*◌, ◌/◌, ◌%◌, ◌^◌, ◌<◌, ◌==◌, ◌&&◌, ◌||◌, Bool, true, false, is_none, length, nat_le, not, IsTrue, List, [], ◌∷◌, ◌++◌, map, take, drop, ◌≢◌, Option, Some, slice_get, option_and_then}
 use Rattle.rv_word.specs.Bits.{wrap}
 use Rattle.rv_word.specs.declared.unit_words.TheConstants as counts
@@ -11,7 +11,7 @@ use Rattle.rv_instr.specs.declared.instr.UpperOp.{UpperOp}
 use Rattle.rv_instr.specs.declared.instr.UpperOp.TheVariants.{Lui, Auipc}
 use Rattle.rv_instr.specs.declared.instr.ImmediateOp.TheVariants.{Addi, Andi}
 use Rattle.rv_instr.specs.declared.instr.ShiftOp.TheVariants.{Slli, Srli}
-use Rattle.rv_instr.specs.declared.instr.RegisterOp.TheVariants.{Sub}
+use Rattle.rv_instr.specs.declared.instr.RegisterOp.TheVariants.{And, Sub}
 use Rattle.rv_instr.specs.declared.instr.BranchOp.TheVariants.{Beq, Bne}
 use Rattle.rv_instr.specs.declared.instr.LoadOp.TheVariants.{Lw, Ld}
 use Rattle.rv_instr.specs.declared.instr.StoreOp.TheVariants.{Sd}
@@ -22,7 +22,10 @@ use Rattle.cfi_unit.specs.Members.{AreMembers, MOST_MEMBERS, member_instr, membe
 use Rattle.cfi_unit.specs.Guarded.{AreNumbers, guards}
 use Rattle.cfi_unit.specs.declared.handlers.TheConstants as handlers
 use Rattle.cfi_unit.specs.declared.target_word.TargetWord.{TargetWord}
-use Rattle.cfi_unit.specs.declared.target_word.TargetWord.TheVariants.{First, Second}
+use Rattle.cfi_unit.specs.declared.lean_words.TheConstants as lean
+use Rattle.cfi_unit.specs.declared.mask.Mask.{Mask}
+use Rattle.cfi_unit.specs.declared.mask.Mask.TheVariants.{Shifts, Short, Long}
+use Rattle.cfi_unit.specs.declared.target_word.TargetWord.TheVariants.{First, Second, Third}
 use Rattle.cfi_unit.specs.declared.unit.Unit as U
 use Rattle.cfi_unit.specs.declared.unit.Unit.TheVariants as V
 use Rattle.cfi_unit.specs.declared.unit.SystemOp.{SystemOp}
@@ -89,6 +92,7 @@ push at =
 abbrev pub past : TargetWord → ℕ
 past First = 0
 past Second = 4
+past Third = 8
 
 -- the check of a computed transfer: clear the low two bits of the destination, halt unless it lies
 -- in code, halt unless the word there, or the one behind it, is `lui x0, label`
@@ -108,13 +112,33 @@ check at rs1 imm label which =
     ∷ jump (at + 44) BAD_TARGET
     ∷ []
 
+-- the constant -1 as a 12-bit field
+abbrev pub MINUS_ONE : ℕ
+MINUS_ONE = 0xfff
+
+-- what x4 holds where units mask by it: 2^28 - 1
+abbrev pub STORE_MASK : ℕ
+STORE_MASK = 2 ^ 28 - 1
+
+-- the two words that put it there
+abbrev pub mask_made : List Instr
+mask_made = Upper Lui 4 0x10000 ∷ Immediate Addi 4 4 MINUS_ONE ∷ []
+
 -- an address modulo 2^28, into x31
-abbrev pub mask : ℕ → ℕ → List Instr
-mask rs1 imm =
-    Immediate Addi 31 rs1 imm
-    ∷ Shift Slli 31 31 36
-    ∷ Shift Srli 31 31 36
-    ∷ []
+abbrev pub mask_instrs : Mask → ℕ → ℕ → List Instr
+mask_instrs Shifts rs1 imm = Immediate Addi 31 rs1 imm ∷ Shift Slli 31 31 36 ∷ Shift Srli 31 31 36 ∷ []
+mask_instrs Short rs1 imm = Register And 31 rs1 4 ∷ []
+mask_instrs Long rs1 imm = Immediate Addi 31 rs1 imm ∷ Register And 31 31 4 ∷ []
+
+abbrev pub mask_words : Mask → ℕ
+mask_words Shifts = 3
+mask_words Short = 1
+mask_words Long = 2
+
+-- a short mask has no offset
+abbrev pub MaskFits : Mask → ℕ → Type 0
+MaskFits Short imm = imm ≡ 0
+MaskFits other imm = Unit {0}
 
 abbrev pub system_instr : SystemOp → Instr
 system_instr S.Ecall = Ecall
@@ -130,7 +154,7 @@ instrs_of (V.Jump target) at = jump at target ∷ []
 instrs_of V.Stop at = jump at BAD_TARGET ∷ []
 instrs_of (V.System op) at = system_instr op ∷ []
 instrs_of (V.Guarded numbers) at = guards numbers ++ (jump (at + 8 * length numbers) BAD_TARGET ∷ Ecall ∷ [])
-instrs_of (V.Stores rs1 imm members) at = mask rs1 imm ++ map member_instr members
+instrs_of (V.Stores mask rs1 imm members) at = mask_instrs mask rs1 imm ++ map member_instr members
 instrs_of (V.Call target) at = push at ++ Jal 1 (jump_offset (at + 28) target) ∷ []
 instrs_of (V.Ijump which rs1 imm label) at = check at rs1 imm label which ++ Jalr 0 31 0 ∷ []
 instrs_of (V.Icall rs1 imm label) at = check at rs1 imm label First ++ push (at + 48) ++ Jalr 1 31 0 ∷ []
@@ -141,6 +165,17 @@ instrs_of V.Return at =
     ∷ jump (at + 12) BAD_RETURN
     ∷ Jalr 0 31 0
     ∷ []
+instrs_of (V.LinkCall target) at = Jal 1 (jump_offset at target) ∷ []
+instrs_of V.Enter at =
+    Shift Slli 30 3 48
+    ∷ Branch Bne 30 0 skip_offset
+    ∷ jump (at + 8) DEEP
+    ∷ Store Sd 3 1 0
+    ∷ Immediate Addi 3 3 8
+    ∷ []
+instrs_of (V.LeanIjump rs1 imm label) at = check at rs1 imm label First ++ mask_made ++ Jalr 0 31 0 ∷ []
+instrs_of (V.LeanIcall rs1 imm label) at = check at rs1 imm label Third ++ mask_made ++ Jalr 1 31 8 ∷ []
+instrs_of V.LeafReturn at = Jalr 0 1 0 ∷ []
 
 -- the words of a unit at an address
 unfoldable pub words_of : U.Unit → ℕ → List ℕ
@@ -182,11 +217,16 @@ Fits (V.Jump target) at = (target ≢ BAD_TARGET) × Reaches at target
 Fits V.Stop at = Reaches at BAD_TARGET
 Fits (V.System op) at = Unit {0}
 Fits (V.Guarded numbers) at = AreNumbers numbers × Reaches (at + 8 * length numbers) BAD_TARGET
-Fits (V.Stores rs1 imm members) at = (rs1 < 32) × (imm < 2 ^ 12) × AreMembers members
+Fits (V.Stores mask rs1 imm members) at = (rs1 < 32) × (imm < 2 ^ 12) × AreMembers members × MaskFits mask imm
 Fits (V.Call target) at = Reaches (at + 8) DEEP × Reaches (at + 28) target
 Fits (V.Ijump which rs1 imm label) at = CheckFits at rs1 imm label
 Fits (V.Icall rs1 imm label) at = CheckFits at rs1 imm label × Reaches (at + 56) DEEP
 Fits V.Return at = Reaches (at + 12) BAD_RETURN
+Fits (V.LinkCall target) at = Reaches at target
+Fits V.Enter at = Reaches (at + 8) DEEP
+Fits (V.LeanIjump rs1 imm label) at = CheckFits at rs1 imm label
+Fits (V.LeanIcall rs1 imm label) at = CheckFits at rs1 imm label
+Fits V.LeafReturn at = Unit {0}
 
 -- how many words a unit has
 abbrev pub word_count : U.Unit → ℕ
@@ -198,11 +238,16 @@ word_count (V.Jump target) = 1
 word_count V.Stop = 1
 word_count (V.System op) = 1
 word_count (V.Guarded numbers) = 2 + 2 * length numbers
-word_count (V.Stores rs1 imm members) = 3 + length members
+word_count (V.Stores mask rs1 imm members) = mask_words mask + length members
 word_count (V.Call target) = counts.CALL_WORDS
 word_count (V.Ijump which rs1 imm label) = counts.IJUMP_WORDS
 word_count (V.Icall rs1 imm label) = counts.ICALL_WORDS
 word_count V.Return = counts.RETURN_WORDS
+word_count (V.LinkCall target) = 1
+word_count V.Enter = lean.ENTER_WORDS
+word_count (V.LeanIjump rs1 imm label) = lean.LEAN_TRANSFER_WORDS
+word_count (V.LeanIcall rs1 imm label) = lean.LEAN_TRANSFER_WORDS
+word_count V.LeafReturn = 1
 
 -- the address after it
 abbrev pub after_unit : U.Unit → ℕ → ℕ
@@ -225,7 +270,7 @@ skips_jump imm next = (imm == skip_offset) && is_jump next
 -- other unit, and to stores of which there may be more belongs the store that comes next
 abbrev pub may_precede : U.Unit → ℕ → List ℕ → Bool
 may_precede (V.Near op rs1 rs2 target) at rest = not (skips_jump (near_offset at target) (instr_at rest 0))
-may_precede (V.Stores rs1 imm members) at rest = nat_le MOST_MEMBERS (length members) || is_none (member_of (instr_at rest 0))
+may_precede (V.Stores mask rs1 imm members) at rest = nat_le MOST_MEMBERS (length members) || is_none (member_of (instr_at rest 0))
 may_precede other at rest = true
 
 -- a unit begins a list of words at an address

@@ -9,7 +9,7 @@ ghost use Rattle.cfi_unit.specs.PrologueEffect.{
 
 /// What a unit does where nothing is changed between its words: within as many steps as it has words
 /// it is left as its row says, or has ended the run; of x4, x30 and x31 those are as before that no
-/// instruction of the unit writes.
+/// instruction of the unit writes, and x4 holds the mask of stores behind a check that makes it again.
 pub fn unit_effect()
     ensures { UnitEffect }
 {}

@@ -3,13 +3,15 @@
 ghost use Rattle.std.specs.Prelude.{◌≡◌, ◌+◌, ◌*◌, ◌<◌, ◌↔◌, ◌++◌, IfOk, IsTrue, List, Some, length, ℕ};
 ghost use Rattle.rv_word.specs.MemoryMap.{CODE_START, CODE_SIZE};
 ghost use Rattle.cfi_unit.specs.Recognise.{recognised};
-ghost use Rattle.cfi_unit.specs.UnitWords.{BAD_TARGET, Fits, Reaches, is_plain, may_precede, word_count, words_of};
+ghost use Rattle.cfi_unit.specs.UnitWords.{BAD_TARGET, Fits, MaskFits, Reaches, is_plain, mask_words, may_precede, word_count, words_of};
 
 use crate::handlers::{BAD_RETURN, BAD_TARGET, DEEP};
 use crate::jump::{is_close, is_reached};
+use crate::lean_words::{ENTER_WORDS, LEAN_TRANSFER_WORDS};
+use crate::mask::Mask;
 use crate::template::unit_code;
 use crate::unit::Unit;
-use rv_instr::{Instr, UpperOp};
+use rv_instr::{Immediate, Instr, UpperOp};
 use rv_word::unit_words::{BRANCH_WORDS, CALL_WORDS, ICALL_WORDS, IJUMP_WORDS, RETURN_WORDS};
 use rv_word::{NoMemory, Numbers};
 use std::alloc::Global;
@@ -45,14 +47,30 @@ pub(crate) fn count(unit: &Unit) -> u32
         | Unit::Near(..)
         | Unit::Jump(_)
         | Unit::Stop
-        | Unit::System(_) => 1,
+        | Unit::System(_)
+        | Unit::LinkCall(_)
+        | Unit::LeafReturn => 1,
         Unit::Branch(..) => BRANCH_WORDS,
         Unit::Guarded(numbers) => 2 + 2 * numbers.len() as u32,
-        Unit::Stores(_, _, members) => 3 + members.len() as u32,
+        Unit::Stores(mask, _, _, members) => mask_words(*mask) + members.len() as u32,
         Unit::Return => RETURN_WORDS,
         Unit::Call(_) => CALL_WORDS,
         Unit::Ijump(..) => IJUMP_WORDS,
         Unit::Icall(..) => ICALL_WORDS,
+        Unit::Enter => ENTER_WORDS,
+        Unit::LeanIjump(..) | Unit::LeanIcall(..) => LEAN_TRANSFER_WORDS,
+    }
+}
+
+/// How many words a mask has.
+pub(crate) fn mask_words(mask: Mask) -> u32
+    ensures value { result ≡ mask_words mask }
+    ensures small { result < 4 }
+{
+    match mask {
+        Mask::Shifts => 3,
+        Mask::Short => 1,
+        Mask::Long => 2,
     }
 }
 
@@ -64,18 +82,30 @@ pub fn fits(unit: &Unit, at: u64) -> bool
 {
     unit.in_range();
     match *unit {
-        Unit::Gate(_) | Unit::System(_) => true,
+        Unit::Gate(_) | Unit::System(_) | Unit::LeafReturn => true,
         Unit::Guarded(numbers) => guards_reach(&numbers, at),
-        Unit::Stores(_, _, members) => members.len() > 0,
+        Unit::Stores(mask, _, imm, members) => members.len() > 0 && may_offset(mask, imm),
         Unit::Plain(instr) => may_stand_alone(&instr),
         Unit::Branch(_, _, _, target) => is_reached(at + 4, target),
         Unit::Near(_, _, _, target) => is_close(at, target),
         Unit::Jump(target) => target != BAD_TARGET && is_reached(at, target),
+        Unit::LinkCall(target) => is_reached(at, target),
+        Unit::Enter => is_reached(at + 8, DEEP),
         Unit::Stop => is_reached(at, BAD_TARGET),
         Unit::Call(target) => is_reached(at + 8, DEEP) && is_reached(at + 28, target),
-        Unit::Ijump(..) => halts_reach(at),
+        Unit::Ijump(..) | Unit::LeanIjump(..) | Unit::LeanIcall(..) => halts_reach(at),
         Unit::Icall(..) => halts_reach(at) && is_reached(at + 56, DEEP),
         Unit::Return => is_reached(at + 12, BAD_RETURN),
+    }
+}
+
+/// Whether a mask has room for an offset: a short one has none.
+fn may_offset(mask: Mask, imm: Immediate<12>) -> bool
+    ensures { IsTrue result ↔ MaskFits mask imm }
+{
+    match mask {
+        Mask::Shifts | Mask::Long => true,
+        Mask::Short => imm.bits() == 0,
     }
 }
 

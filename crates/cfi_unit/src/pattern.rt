@@ -1,5 +1,6 @@
 //! What a word of a unit may be, and of which kind a unit is that ends.
 
+use crate::mask::Mask;
 use crate::target_word::TargetWord;
 
 /// What a word of a unit may be, at its address.
@@ -31,6 +32,8 @@ pub enum Pattern {
     Label,
     /// A store off x31, at a distance below 2^11.
     Member,
+    /// `and x31,rs1,x4`: a short mask.
+    Masked,
 }
 
 /// Of which kind a unit is.
@@ -62,10 +65,20 @@ pub enum End {
     Ebreak,
     /// A system call behind tests of its number.
     Guarded,
-    /// Stores of which there may be more.
-    Stores,
+    /// Stores of which there may be more, behind such a mask.
+    Stores(Mask),
     /// As many stores as there may be.
-    Full,
+    Full(Mask),
     /// A return.
     Return,
+    /// A call that leaves its site in x1.
+    LinkCall,
+    /// An enter.
+    Enter,
+    /// A computed jump that makes the mask of stores again.
+    LeanIjump,
+    /// A computed call that leaves its site in x1.
+    LeanIcall,
+    /// A return to the site in x1.
+    LeafReturn,
 }

@@ -5,12 +5,14 @@ ghost use Rattle.std.specs.List.{All};
 ghost use Rattle.rv_word.specs.MemoryMap.{CODE_START, CODE_SIZE};
 ghost use Rattle.rv_word.specs.Numbers.{IsNumber};
 ghost use Rattle.cfi_unit.specs.Members.{MOST_MEMBERS, member_of};
-ghost use Rattle.cfi_unit.specs.UnitWords.{Begins, instr_at, is_jump, may_precede, skips_jump, word_count};
+ghost use Rattle.cfi_unit.specs.UnitWords.{Begins, instr_at, is_jump, mask_words, may_precede, skips_jump, word_count};
 ghost use Rattle.cfi_unit.specs.Reach.{target_in};
 ghost use Rattle.cfi_unit.specs.Recognise.{
   address_in,
+  base_in,
   branch_in,
   label_in,
+  masked_in,
   members_in,
   near_in,
   number_in,
@@ -23,8 +25,9 @@ ghost use Rattle.cfi_unit.specs.Recognise.{
 ghost use Rattle.cfi_unit.specs.NoneBegins.{NoneBegins};
 ghost use Rattle.cfi_unit.specs.declared.unit.Unit as U;
 
-use crate::emission::{count, fits};
+use crate::emission::{count, fits, mask_words};
 use crate::jump::{led, led_near, near_between};
+use crate::mask::Mask;
 use crate::members::{MOST_MEMBERS, Member, Members};
 use crate::pattern::End;
 use crate::target_word::TargetWord;
@@ -35,7 +38,7 @@ use rv_instr::{Immediate, Instr, Reg, StoreOp};
 use rv_word::Numbers;
 
 /// The kinds of units.
-const KINDS: [End; 17] = [
+const KINDS: [End; 27] = [
     End::Gate,
     End::Plain,
     End::Stop,
@@ -48,11 +51,21 @@ const KINDS: [End; 17] = [
     End::Call,
     End::Ijump(TargetWord::First),
     End::Ijump(TargetWord::Second),
+    End::Ijump(TargetWord::Third),
     End::Icall,
     End::Return,
     End::Guarded,
-    End::Full,
-    End::Stores,
+    End::Full(Mask::Shifts),
+    End::Stores(Mask::Shifts),
+    End::Full(Mask::Short),
+    End::Stores(Mask::Short),
+    End::Full(Mask::Long),
+    End::Stores(Mask::Long),
+    End::LinkCall,
+    End::Enter,
+    End::LeanIjump,
+    End::LeanIcall,
+    End::LeafReturn,
 ];
 
 /// The unit that begins a list of words at an address, and how many words it has. A branch is read with
@@ -142,7 +155,18 @@ fn read(end: End, words: &[u32], at: u64) -> Option<Unit>
         }
         End::Return => Some(Unit::Return),
         End::Guarded => Some(Unit::Guarded(numbers_tested(words))),
-        End::Stores | End::Full => stores(words),
+        End::Stores(mask) | End::Full(mask) => stores(mask, words),
+        End::LinkCall => Some(Unit::LinkCall(target(at, instr(words, 0))?)),
+        End::Enter => Some(Unit::Enter),
+        End::LeanIjump => {
+            let (rs1, imm, label) = transfer(words)?;
+            Some(Unit::LeanIjump(rs1, imm, label))
+        }
+        End::LeanIcall => {
+            let (rs1, imm, label) = transfer(words)?;
+            Some(Unit::LeanIcall(rs1, imm, label))
+        }
+        End::LeafReturn => Some(Unit::LeafReturn),
     }
 }
 
@@ -153,18 +177,18 @@ fn is_kept(unit: &Unit, at: u64, words: &[u32]) -> bool
 {
     match *unit {
         Unit::Near(_, _, _, target) => !skips(near_between(at, target), instr(words, 1)),
-        Unit::Stores(_, _, members) => is_whole(members.len(), words),
+        Unit::Stores(mask, _, _, members) => is_whole(mask, members.len(), words),
         _ => true,
     }
 }
 
 /// Whether no more stores belong to so many that begin the list behind their mask.
 #[tactic(auto, using(crate::proofs::UnitInList::next_instr))]
-fn is_whole(count: usize, words: &[u32]) -> bool
+fn is_whole(mask: Mask, count: usize, words: &[u32]) -> bool
     requires { count ≤ MOST_MEMBERS }
-    ensures { result ≡ (nat_le MOST_MEMBERS count || is_none (member_of (instr_at (drop (3 + count) words.now) 0))) }
+    ensures { result ≡ (nat_le MOST_MEMBERS count || is_none (member_of (instr_at (drop (mask_words mask + count) words.now) 0))) }
 {
-    count >= MOST_MEMBERS || member(instr(words, 3 + count)).is_none()
+    count >= MOST_MEMBERS || member(instr(words, mask_words(mask) as usize + count)).is_none()
 }
 
 /// Whether a branch leads over the next instruction, and that is a jump.
@@ -215,11 +239,31 @@ fn transfer(words: &[u32]) -> Option<(Reg, Immediate<12>, Immediate<20>)>
 }
 
 /// Stores behind a mask.
-fn stores(words: &[u32]) -> Option<Unit>
-    ensures { result ≡ stores_in words.now }
+fn stores(mask: Mask, words: &[u32]) -> Option<Unit>
+    ensures { result ≡ stores_in mask words.now }
 {
-    let (rs1, imm) = address(instr(words, 0))?;
-    Some(Unit::Stores(rs1, imm, members_behind(words)))
+    let (rs1, imm) = masked(mask, instr(words, 0))?;
+    Some(Unit::Stores(mask, rs1, imm, members_behind(mask, words)))
+}
+
+/// The register and the offset that a mask begins with.
+fn masked(mask: Mask, first: Option<Instr>) -> Option<(Reg, Immediate<12>)>
+    ensures { result ≡ masked_in mask first }
+{
+    match mask {
+        Mask::Shifts | Mask::Long => address(first),
+        Mask::Short => Some((base(first)?, Immediate::of(0))),
+    }
+}
+
+/// The first operand of an instruction on two registers.
+fn base(and: Option<Instr>) -> Option<Reg>
+    ensures { result ≡ base_in and }
+{
+    match and? {
+        Instr::Register(_, _, rs1, _) => Some(rs1),
+        _ => None,
+    }
 }
 
 /// The register and the offset of an address.
@@ -243,12 +287,13 @@ fn target(at: u64, jump: Option<Instr>) -> Option<u64>
 }
 
 /// The stores behind a mask that begins the list: as many as follow, up to sixteen.
-fn members_behind(words: &[u32]) -> Members
-    ensures { result ≡ members_in words.now }
+fn members_behind(mask: Mask, words: &[u32]) -> Members
+    ensures { result ≡ members_in mask words.now }
 {
+    let first = mask_words(mask) as usize;
     let mut members = Members::new();
-    for index in 3..19 {
-        match member(instr(words, index)) {
+    for index in 0..16 {
+        match member(instr(words, first + index)) {
             Some(member) => members.push(member),
             None => return members,
         }

@@ -1,4 +1,5 @@
 ghost use Rattle.cfi_unit.specs.EventLaw.{EventLaw};
+ghost use Rattle.cfi_unit.specs.MaskLaw.{MaskStays};
 ghost use Rattle.cfi_unit.specs.Results.{RegistersStay};
 ghost use Rattle.cfi_unit.specs.UnitLaw.{UnitLaw};
 
@@ -18,4 +19,10 @@ pub fn unit_events()
 /// that word puts its result. Nothing is computed.
 pub fn registers_stay()
     ensures { RegistersStay }
+{}
+
+/// A step from a word of a unit that tests no computed destination leaves x4 as it was, so what it masks
+/// stores by. Nothing is computed.
+pub fn mask_stays()
+    ensures { MaskStays }
 {}

@@ -7,4 +7,6 @@ pub enum TargetWord {
     First,
     /// The word after that.
     Second,
+    /// The word after that one, behind a jump over the enter.
+    Third,
 }

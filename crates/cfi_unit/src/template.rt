@@ -7,11 +7,12 @@ ghost use Rattle.rv_word.specs.MemoryMap.{CODE_START, CODE_SIZE};
 ghost use Rattle.rv_word.specs.Numbers.{IsNumber, MOST_NUMBERS};
 ghost use Rattle.cfi_unit.specs.Guarded.{guards};
 ghost use Rattle.cfi_unit.specs.Members.{member_instr};
-ghost use Rattle.cfi_unit.specs.UnitWords.{check, gate, instrs_of, mask, past, push, system_instr, words_of};
+ghost use Rattle.cfi_unit.specs.UnitWords.{check, gate, instrs_of, mask_instrs, mask_made, past, push, system_instr, words_of};
 ghost use Rattle.cfi_unit.specs.declared.unit.Unit.TheVariants as V;
 
 use crate::handlers::{BAD_RETURN, BAD_TARGET, DEEP};
 use crate::jump::{field_between, jump_between, near_between};
+use crate::mask::Mask;
 use crate::members::Member;
 use crate::target_word::TargetWord;
 use crate::unit::{SystemOp, Unit};
@@ -42,8 +43,8 @@ pub(crate) fn unit_code(unit: &Unit, at: u64) -> UnitCode
         Unit::Stop => code.put(&[jump_between(at, BAD_TARGET)]),
         Unit::System(op) => code.put(&[system(op)]),
         Unit::Guarded(numbers) => put_guarded(&mut code, &numbers, at),
-        Unit::Stores(rs1, imm, members) => {
-            code.put(&mask(rs1, imm));
+        Unit::Stores(mask, rs1, imm, members) => {
+            put_mask(&mut code, mask, rs1, imm);
             put_members(&mut code, members.as_slice());
         }
         Unit::Call(target) => {
@@ -60,6 +61,19 @@ pub(crate) fn unit_code(unit: &Unit, at: u64) -> UnitCode
             code.put(&[transfer(1)]);
         }
         Unit::Return => code.put(&returns(at)),
+        Unit::LinkCall(target) => {
+            code.put(&[Instr::Jal(Reg::of(1), field_between(at, target))]);
+        }
+        Unit::Enter => code.put(&enters(at)),
+        Unit::LeanIjump(rs1, imm, label) => {
+            put_lean_check(&mut code, at, rs1, imm, label, TargetWord::First);
+            code.put(&[transfer(0)]);
+        }
+        Unit::LeanIcall(rs1, imm, label) => {
+            put_lean_check(&mut code, at, rs1, imm, label, TargetWord::Third);
+            code.put(&[jump_past(1, 8)]);
+        }
+        Unit::LeafReturn => code.put(&[Instr::Jalr(Reg::of(0), Reg::of(1), Immediate::of(0))]),
     }
     code
 }
@@ -92,7 +106,16 @@ fn transfer(rd: u32) -> Instr
     requires { rd < 32 }
     ensures { result ≡ Instr.Jalr rd 31 0 }
 {
-    Instr::Jalr(Reg::of(rd), Reg::of(31), Immediate::of(0))
+    jump_past(rd, 0)
+}
+
+/// `jalr rd,imm(x31)`.
+fn jump_past(rd: u32, imm: u32) -> Instr
+    requires register { rd < 32 }
+    requires field { imm < 2 ^ 12 }
+    ensures { result ≡ Instr.Jalr rd 31 imm }
+{
+    Instr::Jalr(Reg::of(rd), Reg::of(31), Immediate::of(imm))
 }
 
 fn addi(rd: u32, rs1: u32, imm: u32) -> Instr
@@ -125,14 +148,53 @@ fn address(rs1: Reg, imm: Immediate<12>) -> Instr
     Instr::Immediate(ImmediateOp::Addi, Reg::of(31), rs1, imm)
 }
 
-/// An address modulo 2^28, into x31.
-fn mask(rs1: Reg, imm: Immediate<12>) -> [Instr; 3]
-    ensures { result ≡ mask rs1 imm }
+/// `and x31,rs1,x4`.
+fn masked(rs1: Reg) -> Instr
+    ensures { result ≡ Instr.Register RegisterOp.And 31 rs1 4 }
+{
+    Instr::Register(RegisterOp::And, Reg::of(31), rs1, Reg::of(4))
+}
+
+/// Puts the words at the end that put an address modulo 2^28 into x31.
+fn put_mask(code: &mut UnitCode, mask: Mask, rs1: Reg, imm: Immediate<12>)
+    requires { length code.old ≡ 0 }
+    ensures { code.new ≡ code.old ++ map code_of (mask_instrs mask rs1 imm) }
+{
+    match mask {
+        Mask::Shifts => code.put(&[
+            address(rs1, imm),
+            shift(ShiftOp::Slli, 31, 31, 36),
+            shift(ShiftOp::Srli, 31, 31, 36),
+        ]),
+        Mask::Short => code.put(&[masked(rs1)]),
+        Mask::Long => code.put(&[address(rs1, imm), masked(Reg::of(31))]),
+    }
+}
+
+/// Puts the words of a check at the end that makes the mask of stores again.
+fn put_lean_check(
+    code: &mut UnitCode,
+    at: u64,
+    rs1: Reg,
+    imm: Immediate<12>,
+    label: Immediate<20>,
+    which: TargetWord,
+)
+    requires place { at < CODE_START + CODE_SIZE }
+    requires room { length code.old ≡ 0 }
+    ensures { code.new ≡ code.old ++ map code_of (check at rs1 imm label which ++ mask_made) }
+{
+    code.put(&checks(at, rs1, imm, label, which));
+    code.put(&mask_made());
+}
+
+/// The words that put 2^28 - 1 into x4.
+fn mask_made() -> [Instr; 2]
+    ensures { result ≡ mask_made }
 {
     [
-        address(rs1, imm),
-        shift(ShiftOp::Slli, 31, 31, 36),
-        shift(ShiftOp::Srli, 31, 31, 36),
+        Instr::Upper(UpperOp::Lui, Reg::of(4), Immediate::of(0x1_0000)),
+        addi(4, 4, 0xfff),
     ]
 }
 
@@ -220,6 +282,7 @@ fn past(which: TargetWord) -> Immediate<12>
     match which {
         TargetWord::First => Immediate::of(0),
         TargetWord::Second => Immediate::of(4),
+        TargetWord::Third => Immediate::of(8),
     }
 }
 
@@ -262,5 +325,20 @@ fn returns(at: u64) -> [Instr; 5]
         skip(BranchOp::Beq, x31, x1),
         jump_between(at + 12, BAD_RETURN),
         transfer(0),
+    ]
+}
+
+/// The words that put the site in x1 onto the shadow stack.
+fn enters(at: u64) -> [Instr; 5]
+    requires { at < CODE_START + CODE_SIZE }
+    ensures { result ≡ instrs_of V.Enter at }
+{
+    let (x0, x1, x3, x30) = (Reg::of(0), Reg::of(1), Reg::of(3), Reg::of(30));
+    [
+        shift(ShiftOp::Slli, 30, 3, 48),
+        skip(BranchOp::Bne, x30, x0),
+        jump_between(at + 8, DEEP),
+        Instr::Store(StoreOp::Sd, x3, x1, Immediate::of(0)),
+        addi(3, 3, 8),
     ]
 }

@@ -11,8 +11,9 @@ use Rattle.rv_code.specs.Decode.{decoded}
 use Rattle.cfi_graph.specs.declared.line.GraphLine.{GraphLine}
 use Rattle.cfi_graph.specs.declared.line.GraphLine.TheVariants.{Calls, Class, Site, Edge, Call}
 use Rattle.cfi_graph.specs.Graph.{ClassLine, GraphParts, calls_in, class_in}
+use Rattle.cfi_unit.specs.declared.mask.Mask.TheVariants.{Shifts, Short, Long}
 use Rattle.cfi_unit.specs.declared.target_word.TargetWord.{TargetWord}
-use Rattle.cfi_unit.specs.declared.target_word.TargetWord.TheVariants.{First, Second}
+use Rattle.cfi_unit.specs.declared.target_word.TargetWord.TheVariants.{First, Second, Third}
 use Rattle.cfi_unit.specs.declared.unit.Unit as U
 use Rattle.cfi_unit.specs.declared.unit.Unit.TheVariants as V
 use Rattle.cfi_unit.specs.declared.unit.SystemOp.TheVariants as S
@@ -46,17 +47,27 @@ edge_is calls (V.Near op rs1 rs2 target) a fits = ap Some (sym fits.2)
 edge_is calls (V.Jump target) a fits = ap Some (sym fits.1)
 edge_is calls (V.System S.Ecall) a fits = refl
 edge_is calls (V.System S.Ebreak) a fits = refl
+edge_is calls (V.Stores Shifts rs1 imm members) a fits = refl
+edge_is calls (V.Stores Short rs1 imm members) a fits = refl
+edge_is calls (V.Stores Long rs1 imm members) a fits = refl
 edge_is calls _ a fits = refl
 
 call_is : (calls : List ℕ) (u : U.Unit) (a : ℕ) → Fits u a → call_of (body u) ≡ call_in (entry_of_unit calls u a) a
 call_is calls (V.Call target) a fits = ap Some (sym fits.1)
+call_is calls (V.LinkCall target) a fits = ap Some (sym fits)
 call_is calls (V.System S.Ecall) a fits = refl
 call_is calls (V.System S.Ebreak) a fits = refl
+call_is calls (V.Stores Shifts rs1 imm members) a fits = refl
+call_is calls (V.Stores Short rs1 imm members) a fits = refl
+call_is calls (V.Stores Long rs1 imm members) a fits = refl
 call_is calls _ a fits = refl
 
 site_is : (calls : List ℕ) (u : U.Unit) (a : ℕ) → site_of (body u) ≡ site_in (entry_of_unit calls u a)
 site_is calls (V.System S.Ecall) a = refl
 site_is calls (V.System S.Ebreak) a = refl
+site_is calls (V.Stores Shifts rs1 imm members) a = refl
+site_is calls (V.Stores Short rs1 imm members) a = refl
+site_is calls (V.Stores Long rs1 imm members) a = refl
 site_is calls _ a = refl
 
 and_all : (b : Bool) → (b && true) ≡ b
@@ -71,27 +82,45 @@ bars version None (V.System S.Ecall) a = refl
 bars version (Some calls) (V.System S.Ecall) a = refl
 bars version None (V.System S.Ebreak) a = refl
 bars version (Some calls) (V.System S.Ebreak) a = refl
+bars version None (V.Stores Shifts rs1 imm members) a = refl
+bars version (Some calls) (V.Stores Shifts rs1 imm members) a = refl
+bars version None (V.Stores Short rs1 imm members) a = refl
+bars version (Some calls) (V.Stores Short rs1 imm members) a = refl
+bars version None (V.Stores Long rs1 imm members) a = refl
+bars version (Some calls) (V.Stores Long rs1 imm members) a = refl
 bars version None _ a = refl
 bars version (Some calls) _ a = refl
 
 gate_is : (calls : List ℕ) (u : U.Unit) (a : ℕ) → gate_of u ≡ gate_in (entry_of_unit calls u a)
 gate_is calls (V.System S.Ecall) a = refl
 gate_is calls (V.System S.Ebreak) a = refl
+gate_is calls (V.Stores Shifts rs1 imm members) a = refl
+gate_is calls (V.Stores Short rs1 imm members) a = refl
+gate_is calls (V.Stores Long rs1 imm members) a = refl
 gate_is calls _ a = refl
 
 astray_is : (lines : List GraphLine) (calls : List ℕ) (u : U.Unit) (a : ℕ) → is_astray lines a u ≡ holds_of (gate_in (entry_of_unit calls u a)) (λ label. is_outside lines label a)
 astray_is lines calls (V.System S.Ecall) a = refl
 astray_is lines calls (V.System S.Ebreak) a = refl
+astray_is lines calls (V.Stores Shifts rs1 imm members) a = refl
+astray_is lines calls (V.Stores Short rs1 imm members) a = refl
+astray_is lines calls (V.Stores Long rs1 imm members) a = refl
 astray_is lines calls _ a = refl
 
 unit_is : (calls : List ℕ) (u : U.Unit) (a : ℕ) → is_unit (entry_of_unit calls u a) ≡ true
 unit_is calls (V.System S.Ecall) a = refl
 unit_is calls (V.System S.Ebreak) a = refl
+unit_is calls (V.Stores Shifts rs1 imm members) a = refl
+unit_is calls (V.Stores Short rs1 imm members) a = refl
+unit_is calls (V.Stores Long rs1 imm members) a = refl
 unit_is calls _ a = refl
 
 stop_is : (calls : List ℕ) (u : U.Unit) (a : ℕ) → is_stop u ≡ is_stop_entry (entry_of_unit calls u a)
 stop_is calls (V.System S.Ecall) a = refl
 stop_is calls (V.System S.Ebreak) a = refl
+stop_is calls (V.Stores Shifts rs1 imm members) a = refl
+stop_is calls (V.Stores Short rs1 imm members) a = refl
+stop_is calls (V.Stores Long rs1 imm members) a = refl
 stop_is calls _ a = refl
 
 get_taken : (n k : ℕ) (xs : List ℕ) → k < n → slice_get (take n xs) k ≡ slice_get xs k
@@ -358,6 +387,9 @@ module _ (p : Profile) (laid : LaidOut p) where
     borne_told Second a label =
         ap (λ b. b && is_label (gate_label p words (a + 4)) label) (has_told a)
         ∙ ap (λ o. starts_at p t a && is_label o label) (gate_told (a + 4))
+    borne_told Third a label =
+        ap (λ b. b && is_label (gate_label p words (a + 8)) label) (has_told a)
+        ∙ ap (λ o. starts_at p t a && is_label o label) (gate_told (a + 8))
 
     barred_told : (graph : GraphParts) → calls ≡ numbers_in graph → (a : ℕ) → holds_of (unit_at p words a) (λ unit. not (admitted_in graph unit)) ≡ is_barred_at p t graph a
     barred_told graph same a =

@@ -5,12 +5,14 @@ use Rattle.std.proofs.lemmas.Bool.{cases_lt, le-leb}
 use Rattle.std.proofs.lemmas.Option.{some_pair_parts}
 use Rattle.std.proofs.lemmas.List.Elements.{All-take}
 use Rattle.rv_word.proofs.Cases.{cases_Option}
+use Rattle.cfi_unit.specs.declared.mask.Mask.{Mask}
+use Rattle.cfi_unit.specs.declared.mask.Mask.TheVariants.{Shifts, Short, Long}
 use Rattle.cfi_unit.specs.declared.unit.Unit as U
 use Rattle.cfi_unit.specs.declared.unit.Unit.TheVariants as V
 use Rattle.cfi_unit.specs.Members.{MOST_MEMBERS, member_of}
 use Rattle.cfi_unit.specs.Laws.{AreWords}
 use Rattle.cfi_unit.specs.Recognise.{recognised}
-use Rattle.cfi_unit.specs.UnitWords.{Begins, instr_at, may_precede, near_offset, skips_jump, word_count}
+use Rattle.cfi_unit.specs.UnitWords.{Begins, instr_at, mask_words, may_precede, near_offset, skips_jump, word_count}
 use Rattle.cfi_unit.proofs.Counts.{most_words}
 use Rattle.cfi_unit.proofs.Found.{begins_recognised}
 use Rattle.cfi_unit.proofs.Told.{recognised_begins}
@@ -29,11 +31,18 @@ same_word zero (suc m) (w ∷ ws) below = refl
 same_word (suc k) (suc m) [] below = refl
 same_word (suc k) (suc m) (w ∷ ws) below = same_word k m ws (omega arith)
 
+most_words_of : (mask : Mask) → mask_words mask ≤ 3
+most_words_of Shifts = omega arith
+most_words_of Short = omega arith
+most_words_of Long = omega arith
+
 ahead_same : (u : U.Unit) (at : ℕ) (ws : List ℕ) → may_precede u at (drop (word_count u) (take 21 ws)) ≡ may_precede u at (drop (word_count u) ws)
 ahead_same (V.Near op rs1 rs2 target) at ws = ap (λ i. not (skips_jump (near_offset at target) i)) (same_word 1 21 ws (lit< tt))
-ahead_same (V.Stores rs1 imm members) at ws =
+ahead_same (V.Stores mask rs1 imm members) at ws =
     elim (cases_lt (length members) MOST_MEMBERS) [
-      | inl fewer ↦ ap (λ i. nat_le MOST_MEMBERS (length members) || is_none (member_of i)) (same_word (3 + length members) 21 ws (omega arith))
+      | inl fewer ↦
+          let short = most_words_of mask in
+          ap (λ i. nat_le MOST_MEMBERS (length members) || is_none (member_of i)) (same_word (mask_words mask + length members) 21 ws (omega arith))
       | inr all ↦ rw (le-leb MOST_MEMBERS (length members) all) refl
     ]
 ahead_same _ at ws = refl

@@ -7,7 +7,7 @@ use Rattle.cfi_graph.specs.declared.line.GraphLine.{GraphLine}
 use Rattle.cfi_graph.specs.declared.line.GraphLine.TheVariants.{Site, Edge, Call}
 use Rattle.cfi_graph.specs.declared.line.SiteKind.TheVariants as K
 use Rattle.cfi_graph.specs.Graph.{GraphParts, calls_in}
-use Rattle.cfi_unit.specs.declared.target_word.TargetWord.TheVariants.{First}
+use Rattle.cfi_unit.specs.declared.target_word.TargetWord.TheVariants.{First, Third}
 use Rattle.cfi_unit.specs.Recognise.{led_to, near_to}
 use Rattle.cfi_reader.specs.declared.entry.Entry.{Entry}
 use Rattle.cfi_reader.specs.declared.entry.Entry.TheVariants as E
@@ -40,20 +40,29 @@ edge_in _ a = None
 -- and the call
 abbrev pub call_in : Entry → ℕ → Option ℕ
 call_in (E.Call field) a = Some (led_to (a + 28) field)
+call_in (E.LinkCall field) a = Some (led_to a field)
 call_in _ a = None
 
 -- what a computed transfer asks for
 abbrev pub site_in : Entry → Option Asks
 site_in (E.Ijump which label) = Some (asks K.Jump which label)
 site_in (E.Icall label) = Some (asks K.Call First label)
+site_in (E.LeanIjump label) = Some (asks K.Jump First label)
+site_in (E.LeanIcall label) = Some (asks K.Call Third label)
 site_in _ = None
 
--- a graph does not admit a unit with this entry: its version has no such computed jump; it has a list and the unit is a
+-- a graph does not admit a unit with this entry: it is one of images whose callees save sites; its version has no such computed jump; it has a list and the unit is a
 -- bare call of the system, or one that is guarded otherwise; it has no list and the unit is guarded
 abbrev pub is_barred : GraphVersion → Bool → Entry → Bool
 is_barred version has_list (E.Ijump which label) = not (same_word which (jump_word version))
 is_barred version has_list E.Ecall = has_list
 is_barred version has_list (E.Guarded same) = not (has_list && same)
+is_barred version has_list (E.LinkCall field) = true
+is_barred version has_list E.Enter = true
+is_barred version has_list (E.LeanIjump label) = true
+is_barred version has_list (E.LeanIcall label) = true
+is_barred version has_list E.LeafReturn = true
+is_barred version has_list E.LeanStores = true
 is_barred version has_list _ = false
 
 -- the label of a gate

@@ -15,6 +15,7 @@ use crate::starts::Starts;
 use cfi_graph::{GraphLine, Key};
 use cfi_rules::Rule;
 use cfi_scan::Entry;
+use cfi_unit::led;
 
 impl<'a> Starts<'a> {
     /// Whether every rule holds, by one pass over the words and the graph's lines. `false` leaves it
@@ -118,7 +119,10 @@ impl<'a> Starts<'a> {
     {
         match line {
             GraphLine::Edge(_, to) => self.edge_at(address) == Some(*to) && self.is_start(*to),
-            GraphLine::Call(_, to) => self.call_at(address) == Some(*to) && self.is_start(*to),
+            GraphLine::Call(_, to) => match self.entry_at(address) {
+                Entry::Call(field) => led(address + 28, field) == *to && self.is_start(*to),
+                _ => false,
+            },
             GraphLine::Site(..) => {
                 !self.is_barred(address) && !self.fails_site_with(address, Some(line))
             }

@@ -67,7 +67,9 @@ impl<'a> Starts<'a> {
         match which {
             TargetWord::First => is_label(self.gate_at(address), label),
             TargetWord::Second => self.is_start(address)
-                && is_label(self.gate_after(address), label),
+                && is_label(self.gate_behind(address, 1), label),
+            TargetWord::Third => self.is_start(address)
+                && is_label(self.gate_behind(address, 2), label),
         }
     }
 }

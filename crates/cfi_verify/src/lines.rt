@@ -1,11 +1,10 @@
 //! Look-ups among a graph's lines.
 
-ghost use Rattle.std.specs.Prelude.{◌≡◌, IfSome, IsTrue, map, nat_lt};
+ghost use Rattle.std.specs.Prelude.{◌≡◌, ◌-◌, ◌&&◌, IfSome, IsTrue, map, nat_le, nat_lt};
 ghost use Rattle.std.specs.List.{list_all};
 ghost use Rattle.std.specs.Option.{option_copied};
 ghost use Rattle.cfi_graph.specs.Graph.{is_rising, key_below, key_of, targets_rise};
-ghost use Rattle.cfi_rules.specs.Lines.{class_with, is_among, is_beside, is_word_of, line_at, line_with, read_of, serves, targets_for};
-ghost use Rattle.cfi_unit.specs.declared.target_word.TargetWord.TheVariants.{Second};
+ghost use Rattle.cfi_rules.specs.Lines.{class_with, is_among, is_beside, line_at, line_with, read_of, serves, targets_for};
 
 use cfi_graph::{Class, Graph, GraphLine, Key, SiteKind, Sort};
 use cfi_rules::Asks;
@@ -103,16 +102,17 @@ pub(crate) fn is_beside(class: &Class<'_>, address: u64) -> bool
 {
     match read_of(class.sort()) {
         TargetWord::First => !is_among(address, class.targets()),
-        TargetWord::Second => !is_after(address, class.targets()),
+        TargetWord::Second => !is_after(address, 4, class.targets()),
+        TargetWord::Third => !is_after(address, 8, class.targets()),
     }
 }
 
-/// Whether an address is that of the word after one of some that rise.
-fn is_after(address: u64, targets: &[u64]) -> bool
+/// Whether an address is so many bytes past one of some that rise.
+fn is_after(address: u64, bytes: u64, targets: &[u64]) -> bool
     requires { IsTrue (is_rising nat_lt targets.now) }
-    ensures { result ≡ is_word_of Second address targets.now }
+    ensures { result ≡ (nat_le bytes address && is_among (address - bytes) targets.now) }
 {
-    address >= 4 && is_among(address - 4, targets)
+    address >= bytes && is_among(address - bytes, targets)
 }
 
 /// Whether an address is among some that rise.

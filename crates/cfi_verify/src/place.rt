@@ -1,6 +1,6 @@
 //! Where the unit at an address leads, and what it asks of the graph.
 
-ghost use Rattle.std.specs.Prelude.{◌≡◌, ◌+◌, ◌<◌, ◌^◌, true};
+ghost use Rattle.std.specs.Prelude.{◌≡◌, ◌+◌, ◌*◌, ◌<◌, ◌≤◌, ◌^◌, true};
 ghost use Rattle.cfi_verify.specs.Entries.{call_at, edge_at, gate_at, gate_in, site_at, starts_at};
 ghost use Rattle.cfi_verify.specs.Scan.{profile_in};
 
@@ -45,6 +45,7 @@ impl<'a> Starts<'a> {
         }
         match self.entry_at(address) {
             Entry::Call(field) => Some(led(address + 28, field)),
+            Entry::LinkCall(field) => Some(led(address, field)),
             _ => None,
         }
     }
@@ -64,6 +65,16 @@ impl<'a> Starts<'a> {
                 which: TargetWord::First,
                 label: label.bits(),
             }),
+            Entry::LeanIjump(label) => Some(Asks {
+                kind: SiteKind::Jump,
+                which: TargetWord::First,
+                label: label.bits(),
+            }),
+            Entry::LeanIcall(label) => Some(Asks {
+                kind: SiteKind::Call,
+                which: TargetWord::Third,
+                label: label.bits(),
+            }),
             _ => None,
         }
     }
@@ -75,12 +86,13 @@ impl<'a> Starts<'a> {
         gate_in(self.entry_at(address))
     }
 
-    /// The label of the gate at the word after the one at an address, where a unit starts.
-    pub(crate) fn gate_after(&self, address: u64) -> Option<u32>
-        requires { starts_at (profile_in self.now) self.now.listing address ≡ true }
-        ensures { result ≡ gate_at (profile_in self.now) self.now.listing (address + 4) }
+    /// The label of the gate so many words behind an address, where a unit starts.
+    pub(crate) fn gate_behind(&self, address: u64, words: u64) -> Option<u32>
+        requires begun { starts_at (profile_in self.now) self.now.listing address ≡ true }
+        requires few { words ≤ 2 }
+        ensures { result ≡ gate_at (profile_in self.now) self.now.listing (address + 4 * words) }
     {
         let index = (address - self.units_from()) / 4;
-        gate_in(self.word(index + 1))
+        gate_in(self.word(index + words))
     }
 }

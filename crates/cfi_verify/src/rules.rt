@@ -96,6 +96,12 @@ impl<'a> Starts<'a> {
             Entry::Ijump(which, _) => !same_word(which, jump_word(self.graph().version())),
             Entry::Ecall => self.has_list(),
             Entry::Guarded(same) => !(self.has_list() && same),
+            Entry::LinkCall(_)
+            | Entry::Enter
+            | Entry::LeanIjump(_)
+            | Entry::LeanIcall(_)
+            | Entry::LeafReturn
+            | Entry::LeanStores => true,
             _ => false,
         }
     }

@@ -10,7 +10,7 @@ use Rattle.cfi_unit.specs.declared.place.Place.TheVariants.{Handler as handler, 
 use Rattle.cfi_unit.specs.Flow as F
 use Rattle.cfi_unit.specs.Flow.{Exit, Flow, flow_of}
 use Rattle.cfi_unit.specs.UnitWords.{BAD_TARGET, DEEP, after_unit}
-use Rattle.cfi_unit.proofs.Flows.{Suits, is_untested, pushing_words, suits, untested, direct_call, guarded_call, computed_jump, computed_call, turned_back}
+use Rattle.cfi_unit.proofs.Flows.{entered, linked_back, linking_call, linking_computed_call, Suits, is_untested, pushing_words, suits, untested, direct_call, guarded_call, computed_jump, computed_call, turned_back}
 use Rattle.cfi_rules.specs.Split.{code_words}
 use Rattle.cfi_rules.specs.Walk.{CallGoes, JumpGoes, ComputedCallGoes, ExitGoes, FlowGoes, ReturnGoes, Goes, To}
 use Rattle.cfi_walk.specs.Laws.{AreSites, StepKeepsSites}
@@ -31,6 +31,8 @@ jump_kept lines which label pending v after (inr g) = g.1
 pub exit_kept : (exit : Exit) (following : ℕ) (pending : List ℕ) (v : ℕ) (after : List ℕ) → is_untested exit ≡ true → ExitGoes exit F.keeps following pending v after → after ≡ pending
 exit_kept (F.either op rs1 rs2 met target) following pending v after is g = either_kept following target pending v after g
 exit_kept (F.computed rs1 imm) following pending v after is g = absurd g
+exit_kept (F.beyond rs1 imm) following pending v after is g = absurd g
+exit_kept F.linked following pending v after is g = absurd g
 exit_kept F.back following pending v after is g = absurd (cc)
 exit_kept (F.after S.Ebreak) following pending v after is g = absurd g
 exit_kept other following pending v after is g = g.1
@@ -56,6 +58,10 @@ flow_keeps lines f (guarded_call numbers) following pending v after low h g = sa
 flow_keeps lines f (computed_jump which rs1 imm label) following pending v after low h g = same pending after h (jump_kept lines which label pending v after g)
 flow_keeps lines f (computed_call rs1 imm label) following pending v after low h g = computed_call_keeps lines following label pending v after (low refl) h g
 flow_keeps lines f turned_back following pending v after low h g = return_keeps pending v after h g
+flow_keeps lines f (linking_call target) following pending v after low h g = absurd g
+flow_keeps lines f entered following pending v after low h g = absurd g
+flow_keeps lines f (linking_computed_call rs1 imm label) following pending v after low h g = absurd g
+flow_keeps lines f linked_back following pending v after low h g = absurd g
 
 place_keeps : (p : Profile) → LaidOut p → (lines : List GraphLine) (place : Place) (at : ℕ) (pending : List ℕ) (v : ℕ) (after : List ℕ) → CODE_START ≤ at → AreSites pending → Goes p lines place at pending v after → AreSites after
 place_keeps p laid lines handler at pending v after low h g = absurd g

@@ -15,7 +15,7 @@ use Rattle.cfi_unit.specs.declared.place.Place.{Place}
 use Rattle.cfi_unit.specs.declared.place.Place.TheVariants.{Handler as handler, Opening as opening, Closing as closing, Body as body}
 use Rattle.cfi_unit.specs.Flow.{Flow, flow_of}
 use Rattle.cfi_unit.specs.UnitWords.{BAD_TARGET, DEEP, after_unit}
-use Rattle.cfi_unit.proofs.Flows.{Suits, suits, untested, direct_call, guarded_call, computed_jump, computed_call, turned_back}
+use Rattle.cfi_unit.proofs.Flows.{entered, linked_back, linking_call, linking_computed_call, Suits, suits, untested, direct_call, guarded_call, computed_jump, computed_call, turned_back}
 use Rattle.cfi_rules.specs.Lines.{holds_of, is_among, targets_for}
 use Rattle.cfi_rules.specs.Rules.{IsWellFormed}
 use Rattle.cfi_rules.specs.Split.{code_words}
@@ -72,6 +72,10 @@ module _ (p : Profile) (lines : List GraphLine) (above : (kind : SiteKind) (whic
   flow_same f (computed_jump which rs1 imm label) following pending v a b s g h = jump_kept lines which label pending v a g ∙ sym (jump_kept lines which label pending v b h)
   flow_same f (computed_call rs1 imm label) following pending v a b s g h = computed_call_same following label pending v a b g h
   flow_same f turned_back following pending v a b s g h = return_same pending v a b s g h
+  flow_same f (linking_call target) following pending v a b s g h = absurd g
+  flow_same f entered following pending v a b s g h = absurd g
+  flow_same f (linking_computed_call rs1 imm label) following pending v a b s g h = absurd g
+  flow_same f linked_back following pending v a b s g h = absurd g
 
   place_same : (place : Place) (at : ℕ) (pending : List ℕ) (v : ℕ) (a b : List ℕ) → AreSites pending → Goes p lines place at pending v a → Goes p lines place at pending v b → a ≡ b
   place_same handler at pending v a b s g h = absurd g

@@ -130,6 +130,10 @@ fn from_unit(checked: &Checked<'_>, walk: &Walk, unit: &Unit, past: u64, pc: u64
         }
         Unit::Icall(_, _, label) => computed_call(checked, walk, past, label.bits(), pc),
         Unit::Return => returned(walk, pc),
+        Unit::LeanIjump(_, _, label) => {
+            computed_jump(checked, walk, TargetWord::First, label.bits(), pc)
+        }
+        Unit::LinkCall(_) | Unit::Enter | Unit::LeanIcall(..) | Unit::LeafReturn => None,
     }
 }
 

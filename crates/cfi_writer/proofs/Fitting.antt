@@ -161,7 +161,7 @@ pub unit_fits : (calls : Option (List ℕ)) (kind : ItemKind) (i : Instr) (whole
 unit_fits calls is.Gate (I.Upper op rd imm) whole target which label group a right range small low high round there near masked listed = range.1
 unit_fits calls is.Plain i whole target which label group a right range small low high round there near masked listed = (range, plain_is i right)
 unit_fits calls is.Store (I.Store op rs1 rs2 imm) whole target which label group a right range small low high round there near masked listed =
-    let mask = masked refl in (range.0, mask.small, mask.members)
+    let mask = masked refl in (range.0, mask.small, mask.members, tt)
 unit_fits calls is.System I.Ecall whole target which label group a right range small low high round there near masked listed =
     call_fits calls a listed low high round
 unit_fits calls is.System I.Ebreak whole target which label group a right range small low high round there near masked listed = tt

@@ -27,7 +27,7 @@ use Rattle.cfi_unit.specs.declared.place.Place.TheVariants.{Body as body}
 use Rattle.cfi_unit.specs.declared.unit.Unit as U
 use Rattle.cfi_unit.specs.declared.unit.Unit.TheVariants as V
 use Rattle.cfi_unit.specs.declared.target_word.TargetWord.{TargetWord}
-use Rattle.cfi_unit.specs.declared.target_word.TargetWord.TheVariants.{First, Second}
+use Rattle.cfi_unit.specs.declared.target_word.TargetWord.TheVariants.{First, Second, Third}
 use Rattle.cfi_unit.specs.UnitWords.{Reaches, past}
 use Rattle.cfi_rules.specs.Lines.{class_with, is_among, is_word_of, read_of, targets_for}
 use Rattle.cfi_rules.specs.Rules.{admits, jump_word, site_of}
@@ -135,12 +135,16 @@ bears : (p : Profile) (us : List U.Unit) (which : TargetWord) (a label : ℕ) �
     Bears p us which a label
 bears p us First a label starts e = let same : a ≡ a + 0 = omega arith in ap (unit_in us p.units_from) same ∙ e
 bears p us Second a label starts e = (starts, e)
+bears p us Third a label starts e = (starts, e)
 
 word_listed : (which : TargetWord) (a : ℕ) (targets : List ℕ) → is_among a targets ≡ true → is_word_of which (a + past which) targets ≡ true
 word_listed First a targets among = let same : a + 0 ≡ a = omega arith in ap (λ (b : ℕ). is_among b targets) same ∙ among
 word_listed Second a targets among =
     let same : a + 4 - 4 ≡ a = omega arith in
     and_from (nat_le 4 (a + 4)) (is_among (a + 4 - 4) targets) (le-leb 4 (a + 4) (omega arith)) (ap (λ (b : ℕ). is_among b targets) same ∙ among)
+word_listed Third a targets among =
+    let same : a + 8 - 8 ≡ a = omega arith in
+    and_from (nat_le 8 (a + 8)) (is_among (a + 8 - 8) targets) (le-leb 8 (a + 8) (omega arith)) (ap (λ (b : ℕ). is_among b targets) same ∙ among)
 
 module _ (m : Choice) (ok : IsAccepted m) where
   entry_in : (m.layout.profile.units_from ≤ entry_gate m) × (entry_gate m + 4 ≤ CODE_START + CODE_SIZE) × (entry_gate m % 4 ≡ 0)

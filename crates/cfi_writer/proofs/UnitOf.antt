@@ -19,12 +19,13 @@ use Rattle.cfi_map.specs.GraphAtMap.{line_of_kind}
 use Rattle.cfi_map.specs.Groups.{is_store}
 use Rattle.cfi_map.specs.Placement.{call_size, is_ecall_instr, kind_size}
 use Rattle.cfi_flow.specs.Sites.{site_kind}
+use Rattle.cfi_unit.specs.declared.mask.Mask.TheVariants.{Shifts}
 use Rattle.cfi_unit.specs.declared.place.Place.TheVariants.{Body as body}
 use Rattle.cfi_unit.specs.declared.unit.Unit as U
 use Rattle.cfi_unit.specs.declared.unit.Unit.TheVariants as V
 use Rattle.cfi_unit.specs.declared.unit.SystemOp.TheVariants as S
 use Rattle.cfi_unit.specs.declared.target_word.TargetWord.{TargetWord}
-use Rattle.cfi_unit.specs.declared.target_word.TargetWord.TheVariants.{First, Second}
+use Rattle.cfi_unit.specs.declared.target_word.TargetWord.TheVariants.{First, Second, Third}
 use Rattle.cfi_unit.specs.UnitWords.{word_count}
 use Rattle.cfi_rules.specs.Placed.{line_of}
 use Rattle.cfi_rules.specs.Rules.{admits, asks, gate_of, is_of_version, jump_word, may_call, same_word, site_of}
@@ -165,6 +166,7 @@ unit_gate calls kind i whole target which label group l right e = absurd (cc)
 same_read : (which : TargetWord) → same_word which which ≡ true
 same_read First = refl
 same_read Second = refl
+same_read Third = refl
 
 -- and what is no system call may stand with any list
 pub is_free : (calls : Option (List ℕ)) (version : GraphVersion) (unit : U.Unit) → may_call None unit ≡ true → ((numbers : List ℕ) → may_call (Some numbers) unit ≡ true) →
@@ -186,7 +188,7 @@ unit_admitted version calls is.Jump i whole target label group right = is_free c
 unit_admitted version calls is.Call i whole target label group right = is_free calls version (V.Call target) refl (λ numbers. refl) refl
 unit_admitted version calls is.Gate (I.Upper op rd imm) whole target label group right = is_free calls version (V.Gate imm) refl (λ numbers. refl) refl
 unit_admitted version calls is.Plain i whole target label group right = is_free calls version (V.Plain i) refl (λ numbers. refl) refl
-unit_admitted version calls is.Store (I.Store op rs1 rs2 imm) whole target label group right = is_free calls version (V.Stores rs1 group.mask group.members) refl (λ numbers. refl) refl
+unit_admitted version calls is.Store (I.Store op rs1 rs2 imm) whole target label group right = is_free calls version (V.Stores Shifts rs1 group.mask group.members) refl (λ numbers. refl) refl
 unit_admitted version calls is.System I.Ecall whole target label group right = call_admitted version calls
 unit_admitted version calls is.System I.Ebreak whole target label group right = is_free calls version (V.System S.Ebreak) refl (λ numbers. refl) refl
 unit_admitted version calls is.Return i whole target label group right = is_free calls version V.Return refl (λ numbers. refl) refl

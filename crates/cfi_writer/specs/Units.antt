@@ -17,6 +17,7 @@ use Rattle.cfi_map.specs.LabelOf.{labels_of, site_label}
 use Rattle.cfi_map.specs.Placement.{whole_at}
 use Rattle.cfi_map.specs.Source.{instr_here}
 use Rattle.cfi_closed.specs.Closed.{is_target}
+use Rattle.cfi_unit.specs.declared.mask.Mask.TheVariants.{Shifts}
 use Rattle.cfi_unit.specs.declared.members.Member.{Member}
 use Rattle.cfi_unit.specs.declared.target_word.TargetWord.{TargetWord}
 use Rattle.cfi_unit.specs.declared.unit.Unit as U
@@ -108,7 +109,7 @@ call_unit (Some calls) = V.Guarded calls
 abbrev pub unit_of : Option (List ℕ) → ItemKind → Instr → Bool → ℕ → TargetWord → ℕ → Group → U.Unit
 unit_of calls is.Gate (I.Upper op rd imm) whole target which label group = V.Gate imm
 unit_of calls is.Plain instr whole target which label group = V.Plain instr
-unit_of calls is.Store (I.Store op rs1 rs2 imm) whole target which label group = V.Stores rs1 group.mask group.members
+unit_of calls is.Store (I.Store op rs1 rs2 imm) whole target which label group = V.Stores Shifts rs1 group.mask group.members
 unit_of calls is.System I.Ecall whole target which label group = call_unit calls
 unit_of calls is.System I.Ebreak whole target which label group = V.System S.Ebreak
 unit_of calls is.Branch (I.Branch op rs1 rs2 imm) whole target which label group = branch_of whole op rs1 rs2 target

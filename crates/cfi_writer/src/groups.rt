@@ -11,7 +11,7 @@ ghost use Rattle.cfi_writer.specs.Units.{behind, group_at, is_later_at, low_at, 
 
 use crate::chosen::Chosen;
 use cfi_map::is_store;
-use cfi_unit::{Member, Members, Unit};
+use cfi_unit::{Mask, Member, Members, Unit};
 use rv_instr::{Immediate, Instr, Reg, StoreOp};
 
 /// The level of an offset's field: the offset as it is counted from -2048.
@@ -170,6 +170,7 @@ impl<'c, 'a, 'b> Chosen<'c, 'a, 'b> {
                 let following = self.behind(k);
                 let low = self.low(k, following);
                 Unit::Stores(
+                    Mask::Shifts,
                     base,
                     Immediate::of(field(low)),
                     self.members(k, following, low),

@@ -3,7 +3,7 @@ ghost use Rattle.std.specs.Prelude.{◌≡◌, ◌<◌, ◌≤◌, ◌^◌};
 
 use crate::near::{FIRST, NEAR, SKIPS};
 use cfi_scan::{Entry, Feeder, Listing, Steps};
-use cfi_unit::{SystemOp, TargetWord, Unit, recognise};
+use cfi_unit::{Mask, SystemOp, TargetWord, Unit, recognise};
 use rv_word::{ImageVersion, Numbers};
 use sample_programs::{
     A, A_OF_HARTS, AIMED, B, BREAK, DEEP, ECHO, EDGE, H, JOBS, JUMP, LOAD, LOOP, NOWHERE, OTHER, P,
@@ -116,6 +116,7 @@ fn jump_kind(which: TargetWord) -> u8 {
     match which {
         TargetWord::First => 6,
         TargetWord::Second => 10,
+        TargetWord::Third => 20,
     }
 }
 
@@ -136,6 +137,12 @@ fn told(entry: Entry, at: u64) -> (u8, u64)
         Entry::Other => (9, 0),
         Entry::Ecall => (11, 0),
         Entry::Guarded(same) => (12, u64::from(same)),
+        Entry::LeanStores => (14, 0),
+        Entry::LinkCall(field) => (15, target(at, field.bits(), 0x10_0000)),
+        Entry::Enter => (16, 0),
+        Entry::LeanIjump(label) => (17, label.bits() as u64),
+        Entry::LeanIcall(label) => (18, label.bits() as u64),
+        Entry::LeafReturn => (19, 0),
     }
 }
 
@@ -154,8 +161,13 @@ fn of_unit(unit: &Unit, calls: &[u16]) -> (u8, u64) {
         Unit::System(SystemOp::Ecall) => (11, 0),
         Unit::System(SystemOp::Ebreak) => (9, 0),
         Unit::Guarded(numbers) => (12, u64::from(numbers.as_slice() == calls)),
-        Unit::Stores(_, _, _) => (9, 0),
-        Unit::Return => (9, 0),
+        Unit::Stores(Mask::Shifts, ..) | Unit::Return => (9, 0),
+        Unit::Stores(..) => (14, 0),
+        Unit::LinkCall(target) => (15, *target),
+        Unit::Enter => (16, 0),
+        Unit::LeanIjump(_, _, label) => (17, label.bits() as u64),
+        Unit::LeanIcall(_, _, label) => (18, label.bits() as u64),
+        Unit::LeafReturn => (19, 0),
     }
 }
 

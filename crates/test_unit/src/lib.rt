@@ -5,6 +5,8 @@
 #[cfg(test)]
 mod guarded;
 #[cfg(test)]
+mod lean;
+#[cfg(test)]
 mod stores;
 #[cfg(test)]
 mod unit;

@@ -98,7 +98,7 @@ fn wrong_at(alloc: Global, image: &Image<'_>, graph: &Graph) -> u64 {
 }
 
 /// The same of a code.
-fn wrong_in(alloc: Global, code: &[u8], graph: &Graph) -> u64 {
+pub(crate) fn wrong_in(alloc: Global, code: &[u8], graph: &Graph) -> u64 {
     let len = code.len();
     if len < 4 || len > 0x10_0000 || len % 4 != 0 {
         return 1;

@@ -1,6 +1,6 @@
 ghost use Rattle.std.specs.Prelude.{◌<◌, ◌^◌};
 
-use cfi_unit::{Member, Members, SystemOp, TargetWord, Unit, emit, fits, recognise, size};
+use cfi_unit::{Mask, Member, Members, SystemOp, TargetWord, Unit, emit, fits, recognise, size};
 use rv_instr::{BranchOp, FenceWord, Immediate, ImmediateOp, Instr, LoadOp, Reg, StoreOp, UpperOp};
 use sample_programs::{A, B, H, OTHER, P, SECOND};
 use std::alloc::{AllocError, Global};
@@ -44,7 +44,7 @@ fn store(op: StoreOp, rs2: u32, imm: u32, rs1: u32) -> Unit
         value: Reg::of(rs2),
         distance: Immediate::of(0),
     });
-    Unit::Stores(Reg::of(rs1), Immediate::of(imm), members)
+    Unit::Stores(Mask::Shifts, Reg::of(rs1), Immediate::of(imm), members)
 }
 
 fn gate(label: u32) -> Unit
@@ -209,7 +209,7 @@ static SPOILT: [Spoilt; 11] = [
     Spoilt(&P, 0x44, 0x48, 0x022f9f93),
     Spoilt(&P, 0x5c, 0x78, 0x0002af03),
     Spoilt(&P, 0x5c, 0x78, 0x004faf03),
-    Spoilt(&OTHER, 0x4c, 0x68, 0x008faf03),
+    Spoilt(&OTHER, 0x4c, 0x68, 0x00cfaf03),
     Spoilt(&SECOND, 0x90, 0xac, 0x002faf03),
     Spoilt(&SECOND, 0x90, 0xac, 0x004fbf03),
     Spoilt(&P, 0x5c, 0x90, 0x00000013),

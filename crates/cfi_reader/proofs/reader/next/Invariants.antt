@@ -11,4 +11,4 @@ invariant-asked l = record {
 }
 
 abbrev pub decreases-asked : goal.decreases-asked
-decreases-asked l = 82 - l.node
+decreases-asked l = 129 - l.node

@@ -17,3 +17,6 @@ returns-in-Ijump c = rw c.in-Ijump.is (rw c.bits.ensures.value at c.computed_jum
 
 pub returns-in-Icall : goal.returns-in-Icall
 returns-in-Icall c = rw c.in-Icall.is (rw c.bits-in-Icall.ensures.value at c.computed_call.ensures)
+
+pub returns-in-LeanIjump : goal.returns-in-LeanIjump
+returns-in-LeanIjump c = rw c.in-LeanIjump.is (rw c.bits-in-LeanIjump.ensures.value at c.computed_jump-in-LeanIjump.ensures)
