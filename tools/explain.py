@@ -32,7 +32,7 @@ ANSWERS = "refusal", "report"  # what reads an answer of rvcfi
 
 def words_of_command():
     if sys.argv[1:2] == ["words"]:
-        from explain import words as command_line
+        import command_line
         sys.exit(command_line.main(sys.argv[2:]))
     words = argparse.ArgumentParser(description=__doc__, formatter_class=argparse.RawDescriptionHelpFormatter)
     commands = words.add_subparsers(dest="command", required=True, metavar="refusal|object|graph|image|report")

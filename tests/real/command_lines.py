@@ -19,14 +19,14 @@ import programs
 
 sys.path.append(os.path.join(programs.HERE, "..", "..", "tools"))
 
-from explain.words import RIGHT, commands, told
+from command_line import RIGHT, commands, told
 
 SHORT = ["", "-h", "--help", "-V", "--version", "--", "-", "-x", "--steps=5", "--vers", "-hx", "-Vh"]
 LIKE = {"FORM": ["plain", "harts", "split", "harts-split", "Plain", "both"],
         "STEPS": ["1", "0000000001", "1000000000", "1000000001", "00000000001", "1k", "+1", "-1"],
         "NUMBER": ["1000000001", "00000000007", "x", "1 "]}
 KNOWN = [
-    ("", "No command is named"), ("verfy a b", "`verify` is meant"), ("link none main", "POLICY IMAGE GRAPH MAP OBJECT .. is missing"),
+    ("", "No command is named"), ("verfy a b", "`verify` is meant"), ("link none main", "POLICY IMAGE GRAPH MAP OBJECT is missing"),
     ("verify a", "GRAPH is missing"), ("verify a b c", "`c` is too much"), ("verify -a b", "`-a` begins with `-`"), ("verify -- -a b", RIGHT),
     ("verify a --help", "`--help` is answered only where nothing else"), ("run a b none none 1k", "`1k` is no STEPS"),
     ("run a b none none 1000000001", "STEPS is at most 1000000000"), ("harden plane o e none i g m", "`plane` is no FORM"),

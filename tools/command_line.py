@@ -4,7 +4,7 @@ import difflib
 import os
 import re
 
-COMMANDS = os.path.join(os.path.dirname(os.path.abspath(__file__)), "..", "..", "docs", "COMMANDS.md")
+COMMANDS = os.path.join(os.path.dirname(os.path.abspath(__file__)), "..", "docs", "COMMANDS.md")
 HELP, VERSION = ("-h", "--help"), ("-V", "--version")
 FORMS = ["plain", "harts", "split", "harts-split"]
 WRITTEN = ["IMAGE", "GRAPH", "MAP"]
