@@ -5,7 +5,7 @@ use Rattle.rv_word.specs.MemoryMap.{Profile, profile_of}
 use Rattle.rv_word.specs.declared.version.ImageVersion.{ImageVersion}
 use Rattle.rv_word.specs.declared.version.ImageVersion.TheVariants.{OneHart, EightHarts}
 use Rattle.rv_word.specs.declared.version.GraphVersion.{GraphVersion}
-use Rattle.rv_word.specs.declared.version.GraphVersion.TheVariants.{OneLabel, TwoLabels}
+use Rattle.rv_word.specs.declared.version.GraphVersion.TheVariants.{OneLabel, TwoLabels, CalleeSaves}
 use Rattle.rv_word.specs.declared.form.Form.{Form}
 use Rattle.rv_word.specs.declared.form.Form.TheVariants.{Plain, Harts, Split, HartsSplit}
 
@@ -21,12 +21,13 @@ graph_version Harts = OneLabel
 graph_version Split = TwoLabels
 graph_version HartsSplit = TwoLabels
 
--- the form with images and graphs of these versions
-abbrev pub form_of : ImageVersion → GraphVersion → Form
-form_of OneHart OneLabel = Plain
-form_of EightHarts OneLabel = Harts
-form_of OneHart TwoLabels = Split
-form_of EightHarts TwoLabels = HartsSplit
+-- the form with images and graphs of these versions; no program is hardened with graphs of version 3
+abbrev pub form_of : ImageVersion → GraphVersion → Option Form
+form_of OneHart OneLabel = Some Plain
+form_of EightHarts OneLabel = Some Harts
+form_of OneHart TwoLabels = Some Split
+form_of EightHarts TwoLabels = Some HartsSplit
+form_of _ CalleeSaves = None
 
 -- what images of a form have of their version
 abbrev pub profile_for : Form → Profile

@@ -31,7 +31,7 @@ impl Form {
     /// The version of the graphs of this form. The two versions tell the form.
     pub fn graph_version(self) -> GraphVersion
         ensures value { result ≡ graph_version self }
-        ensures told { form_of (image_version self) result ≡ self }
+        ensures told { form_of (image_version self) result ≡ Some self }
     {
         match self {
             Form::Plain | Form::Harts => GraphVersion::OneLabel,

@@ -18,13 +18,15 @@ pub enum ImageVersion {
     EightHarts,
 }
 
-/// The version of a graph, by the labels of its classes.
+/// The version of a graph: how many labels a class has, and who saves a call's site.
 #[derive(Clone, Copy, Debug, PartialEq, Eq)]
 pub enum GraphVersion {
     /// Version 1: computed calls and jumps share one label.
     OneLabel,
     /// Version 2: computed calls have a label, and computed jumps another.
     TwoLabels,
+    /// Version 3: labels as in version 2; a function saves the site of its own call, and a register holds the mask of stores.
+    CalleeSaves,
 }
 
 impl ImageVersion {
@@ -74,13 +76,14 @@ impl ImageVersion {
 }
 
 impl GraphVersion {
-    /// Its number, 1 or 2.
+    /// Its number, 1 to 3.
     pub fn number(self) -> u8
         ensures { result ≡ graph_number self }
     {
         match self {
             GraphVersion::OneLabel => 1,
             GraphVersion::TwoLabels => 2,
+            GraphVersion::CalleeSaves => 3,
         }
     }
 }
