@@ -8,7 +8,7 @@ use Rattle.std.proofs.lemmas.List.{drop-drop, drop_more, take-append-drop}
 use Rattle.std.proofs.lemmas.Slice.Eq.{bytes_eq-Decides}
 use Rattle.rv_word.specs.declared.version.GraphVersion.{GraphVersion}
 use Rattle.cfi_graph.specs.declared.line.GraphLine.{GraphLine}
-use Rattle.cfi_graph.specs.declared.line.GraphLine.TheVariants.{Calls, Class, Site, Edge, Call}
+use Rattle.cfi_graph.specs.declared.line.GraphLine.TheVariants.{Calls, Leaf, Class, Site, Edge, Call}
 use Rattle.text_lines.specs.Hex.{hex}
 use Rattle.text_lines.specs.Lines.{lines_of, words_of}
 use Rattle.text_lines.specs.Reading.{FirstLine}
@@ -82,6 +82,7 @@ module _ (line : List ℕ) (size : length line ≡ 24) (first : get_or line 4 0 
 not_list : (version : GraphVersion) (words : List (List ℕ)) (l : GraphLine) → line_of version words ≡ Some l → is_list l ≡ false
 unfolding line_of
 not_list version words (Calls numbers) e = absurd (cc (sym (ap (line_of version) (words_spelled version words (Calls numbers) e)) ∙ e))
+not_list version words (Leaf from to) e = refl
 not_list version words (Class sort label targets) e = refl
 not_list version words (Site address k label) e = refl
 not_list version words (Edge from to) e = refl

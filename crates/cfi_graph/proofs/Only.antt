@@ -5,17 +5,17 @@ use Rattle.std.specs.Str.{bytes_eq}
 use Rattle.std.proofs.lemmas.Bool.{and_from, and_parts, cases_Bool, leb-true, ltb-true}
 use Rattle.std.proofs.lemmas.Slice.Eq.{bytes_eq-Decides}
 use Rattle.std.proofs.Math.Dec.{leb, ltb}
-use Rattle.rv_word.specs.declared.version.GraphVersion.TheVariants.{OneLabel, TwoLabels}
+use Rattle.rv_word.specs.declared.version.GraphVersion.TheVariants.{OneLabel, TwoLabels, CalleeSaves}
 use Rattle.rv_word.specs.declared.version.GraphVersion.{GraphVersion}
 use Rattle.cfi_graph.specs.declared.line.GraphLine.{GraphLine}
-use Rattle.cfi_graph.specs.declared.line.GraphLine.TheVariants.{Calls, Class, Site, Edge, Call}
+use Rattle.cfi_graph.specs.declared.line.GraphLine.TheVariants.{Calls, Leaf, Class, Site, Edge, Call}
 use Rattle.cfi_graph.specs.declared.line.SiteKind.TheVariants as kind
 use Rattle.cfi_graph.specs.declared.line.Sort.{Sort}
 use Rattle.cfi_graph.specs.declared.line.Sort.TheVariants as sorts
 use Rattle.cfi_graph.specs.declared.line.Key.{Key}
-use Rattle.cfi_graph.specs.declared.line.Key.TheVariants.{Head, Label, Address}
+use Rattle.cfi_graph.specs.declared.line.Key.TheVariants.{Head, Range, Label, Address}
 use Rattle.cfi_graph.specs.Calls.{calls_of, line_after}
-use Rattle.cfi_graph.specs.Graph.{GraphParts, IsGraph, are_calls, class_in, class_in_range, fits_version, is_code_address, is_code_length, is_label, is_rising, is_sort_of, key_below, key_of, line_in_range, targets_rise}
+use Rattle.cfi_graph.specs.Graph.{GraphParts, IsGraph, are_calls, class_in_range, fits_version, is_code_address, is_code_end, is_code_length, is_label, is_rising, is_sort_of, key_below, key_of, line_in_range, targets_rise}
 use Rattle.text_lines.specs.Hex.{hex, hex_text}
 use Rattle.text_lines.specs.Lines.{lines_of, spaced, words_of}
 use Rattle.text_lines.specs.Reading.{if_right, one_named}
@@ -32,8 +32,10 @@ use Rattle.cfi_graph.proofs.Whole.{rises_after, spellings}
 -- a line above another is no list
 other_after : (before : Key) (l : GraphLine) → key_below before (key_of l) ≡ true → is_list l ≡ false
 other_after Head (Calls numbers) e = absurd cc
+other_after (Range a b) (Calls numbers) e = absurd cc
 other_after (Label k) (Calls numbers) e = absurd cc
 other_after (Address a) (Calls numbers) e = absurd cc
+other_after before (Leaf from to) e = refl
 other_after before (Class sort label targets) e = refl
 other_after before (Site address k label) e = refl
 other_after before (Edge from to) e = refl
@@ -48,6 +50,12 @@ address_back : (len a : ℕ) → len ≤ 0x100000 → is_code_address len a ≡ 
 address_back len a small e =
     let p = and_parts (a % 4 == 0 && leb 0x40000000 a) (ltb a (0x40000000 + len)) e in
     let below : a < 0x40000000 + len = ltb-true a (0x40000000 + len) p.1 in
+    hex_back 8 a (omega arith)
+
+end_back : (len a : ℕ) → len ≤ 0x100000 → is_code_end len a ≡ true → hex 8 (hex_text 8 a) ≡ Some a
+end_back len a small e =
+    let p = and_parts (a % 4 == 0 && leb 0x40000000 a) (leb a (0x40000000 + len)) e in
+    let below : a ≤ 0x40000000 + len = leb-true a (0x40000000 + len) p.1 in
     hex_back 8 a (omega arith)
 
 label_back : (label : ℕ) → is_label label ≡ true → hex 5 (hex_text 5 label) ≡ Some label
@@ -73,9 +81,12 @@ module _ (version : GraphVersion) (len : ℕ) (small : len ≤ 0x100000) where
       name_back sorts.Calls fits = rw fits refl
       name_back sorts.Jumps fits = rw fits refl
 
-  named_back : (l : GraphLine) → is_list l ≡ false → fits_version version (class_in l) ≡ true → line_in_range len l ≡ true → line_of version (words_of_line l) ≡ Some l
+  named_back : (l : GraphLine) → is_list l ≡ false → fits_version version l ≡ true → line_in_range len l ≡ true → line_of version (words_of_line l) ≡ Some l
   unfolding line_of
   named_back (Calls numbers) other fits e = absurd cc
+  named_back (Leaf from to) other fits e =
+      let p = and_parts (is_code_address len from) (is_code_end len to) e in
+      rw (fits, address_back len from small p.0, end_back len to small p.1) refl
   named_back (Class sort label targets) other fits e = class_back sort label targets fits e
   named_back (Site a kind.Call label) other fits e =
       let p = and_parts (is_code_address len a) (is_label label) e in
@@ -97,6 +108,8 @@ class_words_back sort label targets =
 
 line_words_back : (l : GraphLine) → is_list l ≡ false → words_of (spaced (words_of_line l)) ≡ words_of_line l
 line_words_back (Calls numbers) other = absurd cc
+line_words_back (Leaf from to) other =
+    words_back (codes "leaf") (hex_text 8 from ∷ hex_text 8 to ∷ []) (words_plain (Leaf from to) refl)
 line_words_back (Class sort label targets) other = class_words_back sort label targets
 line_words_back (Site a k label) other =
     words_back (codes "site") (hex_text 8 a ∷ kind_name k ∷ hex_text 5 label ∷ []) (words_plain (Site a k label) refl)
@@ -128,12 +141,12 @@ others_after before (l ∷ lines) e =
     and_from _ _ (ap not (other_after before l p.0)) (others_after (key_of l) lines p.1)
 
 module _ (version : GraphVersion) (len : ℕ) (small : len ≤ 0x100000) where
-  accepts : (before : Option Key) (lines : List GraphLine) → list_all (λ l. not (is_list l)) lines ≡ true → list_all (λ line. fits_version version (class_in line)) lines ≡ true → list_all (line_in_range len) lines ≡ true → list_all targets_rise lines ≡ true → rises_after before (map key_of lines) ≡ true → Accepts (graph_rules version len) before (spellings lines ++ [] ∷ []) lines
+  accepts : (before : Option Key) (lines : List GraphLine) → list_all (λ l. not (is_list l)) lines ≡ true → list_all (fits_version version) lines ≡ true → list_all (line_in_range len) lines ≡ true → list_all targets_rise lines ≡ true → rises_after before (map key_of lines) ≡ true → Accepts (graph_rules version len) before (spellings lines ++ [] ∷ []) lines
   accepts before [] n f r t o = end_only
   accepts before (l ∷ lines) n f r t o =
       let other = and_parts (not (is_list l)) (list_all (λ l. not (is_list l)) lines) n in
       let no = no_list (is_list l) other.0 in
-      let fits = and_parts (fits_version version (class_in l)) (list_all (λ line. fits_version version (class_in line)) lines) f in
+      let fits = and_parts (fits_version version l) (list_all (fits_version version) lines) f in
       let p = and_parts (line_in_range len l) (list_all (line_in_range len) lines) r in
       let q = and_parts (targets_rise l) (list_all targets_rise lines) t in
       let s = order_first before l (map key_of lines) q.0 o in
@@ -185,6 +198,7 @@ module _ (version : GraphVersion) (len : ℕ) where
   third_list numbers (l ∷ lines) are rising = rw (calls_back numbers are, judged_back 3 numbers are rising) refl
 
   listed_back : (l : GraphLine) (lines : List GraphLine) → is_list l ≡ true → IsGraph (record { version = version; code = len; lines = l ∷ lines }) → with_code version len (spellings (l ∷ lines) ++ [] ∷ []) ≡ Ok (record { version = version; code = len; lines = l ∷ lines })
+  listed_back (Leaf from to) lines e is = absurd cc
   listed_back (Class sort label targets) lines e is = absurd cc
   listed_back (Site address k label) lines e is = absurd cc
   listed_back (Edge from to) lines e is = absurd cc
@@ -205,7 +219,7 @@ module _ (version : GraphVersion) (len : ℕ) where
       by_first false other =
           let others = and_from _ _ (ap not other) (others_after (key_of l) lines is.order) in
           let are = accepts version len (length_small len is.length) None (l ∷ lines) others is.sorts is.range is.targets is.order in
-          let fits = and_parts (fits_version version (class_in l)) (list_all (λ line. fits_version version (class_in line)) lines) is.sorts in
+          let fits = and_parts (fits_version version l) (list_all (fits_version version) lines) is.sorts in
           let range = and_parts (line_in_range len l) (list_all (line_in_range len) lines) is.range in
           let back = ap (line_of version) (line_words_back l other) ∙ named_back version len (length_small len is.length) l other fits.0 range.0 in
           rw (third_other l lines back) (body_back None (l ∷ lines) are)
@@ -225,10 +239,12 @@ record Named (version : GraphVersion) : Type 0 where
 named : (version : GraphVersion) → Named version
 named OneLabel = record { which = 0; there = refl; tells = refl }
 named TwoLabels = record { which = 1; there = refl; tells = refl }
+named CalleeSaves = record { which = 2; there = refl; tells = refl }
 
 name_lacks : (version : GraphVersion) → lacks 10 (graph_name version) ≡ true
 name_lacks OneLabel = refl
 name_lacks TwoLabels = refl
+name_lacks CalleeSaves = refl
 
 second_lacks : (len : ℕ) → lacks 10 (spaced (second_words (hex_text 8 len))) ≡ true
 second_lacks len =
@@ -240,6 +256,7 @@ all_lack len [] range order = refl
 all_lack len (Calls numbers ∷ lines) range order =
     let p = and_parts (are_calls numbers) (list_all (line_in_range len) lines) range in
     and_from _ _ (spaced_line (words_of_calls numbers) (calls_plain numbers p.0)) (lines_lack lines (others_after Head lines order))
+all_lack len (Leaf from to ∷ lines) range order = lines_lack (Leaf from to ∷ lines) (others_after (Range from to) lines order)
 all_lack len (Class sort label targets ∷ lines) range order = lines_lack (Class sort label targets ∷ lines) (others_after (Label label) lines order)
 all_lack len (Site address k label ∷ lines) range order = lines_lack (Site address k label ∷ lines) (others_after (Address address) lines order)
 all_lack len (Edge from to ∷ lines) range order = lines_lack (Edge from to ∷ lines) (others_after (Address from) lines order)

@@ -3,7 +3,7 @@ use Rattle.std.proofs.Common.{◌≡◌, ℕ, Bool, true, false, List, [], ◌�
 use Rattle.std.specs.List.{list_all}
 use Rattle.std.proofs.lemmas.Bool.{and_from}
 use Rattle.cfi_graph.specs.declared.line.GraphLine.{GraphLine}
-use Rattle.cfi_graph.specs.declared.line.GraphLine.TheVariants.{Calls, Class, Site, Edge, Call}
+use Rattle.cfi_graph.specs.declared.line.GraphLine.TheVariants.{Calls, Leaf, Class, Site, Edge, Call}
 use Rattle.cfi_graph.specs.declared.line.SiteKind.{SiteKind}
 use Rattle.cfi_graph.specs.declared.line.SiteKind.TheVariants as kind
 use Rattle.cfi_graph.specs.declared.line.Sort.{Sort}
@@ -15,6 +15,7 @@ use Rattle.cfi_graph.specs.Text.{class_name, kind_name, words_of_class, words_of
 -- a line is a list of system calls
 abbrev pub is_list : GraphLine → Bool
 is_list (Calls numbers) = true
+is_list (Leaf from to) = false
 is_list (Class sort label targets) = false
 is_list (Site address kind label) = false
 is_list (Edge from to) = false
@@ -39,6 +40,7 @@ class_plain sort label targets =
 
 pub words_plain : (l : GraphLine) → is_list l ≡ false → list_all plain (words_of_line l) ≡ true
 words_plain (Calls numbers) other = absurd cc
+words_plain (Leaf from to) other = and_from _ _ (hex_plain 8 from) (and_from _ true (hex_plain 8 to) refl)
 words_plain (Class sort label targets) other = class_plain sort label targets
 words_plain (Site a k label) other =
     and_from _ _ (hex_plain 8 a) (and_from _ _ (kind_plain k) (and_from _ true (hex_plain 5 label) refl))

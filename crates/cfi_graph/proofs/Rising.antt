@@ -1,8 +1,8 @@
 -- Lists that rise.
-use Rattle.std.proofs.Common.{◌≡◌, ℕ, zero, suc, ◌-◌, ◌<◌, ◌≤◌, Bool, true, List, [], ◌∷◌, length, drop, get_or, nat_lt, refl, sym, ◌∙◌, length-drop, arith}
-use Rattle.std.proofs.lemmas.Bool.{and_parts, ltb-true, lt-ltb}
+use Rattle.std.proofs.Common.{◌≡◌, ℕ, zero, suc, ◌-◌, ◌<◌, ◌≤◌, Bool, true, List, [], ◌∷◌, length, drop, get_or, nat_le, nat_lt, refl, sym, ◌∙◌, length-drop, arith}
+use Rattle.std.proofs.lemmas.Bool.{and_from, and_parts, leb-true, le-leb, ltb-true, lt-ltb}
 use Rattle.cfi_graph.specs.declared.line.Key.{Key}
-use Rattle.cfi_graph.specs.declared.line.Key.TheVariants.{Head, Label, Address}
+use Rattle.cfi_graph.specs.declared.line.Key.TheVariants.{Head, Range, Label, Address}
 use Rattle.cfi_graph.specs.Graph.{is_rising, key_below}
 
 short_rises : (xs : List ℕ) → length xs ≤ 1 → is_rising nat_lt xs ≡ true
@@ -39,8 +39,37 @@ less_transitive : (x y z : ℕ) → nat_lt x y ≡ true → nat_lt y z ≡ true 
 less_transitive x y z p q =
     let first = ltb-true x y p in let second = ltb-true y z q in lt-ltb x z (omega arith)
 
+range_transitive : (b c d e f : ℕ) → key_below (Range 0 b) (Range c d) ≡ true → key_below (Range c d) (Range e f) ≡ true → key_below (Range 0 b) (Range e f) ≡ true
+range_transitive b c d e f p q =
+    let first = and_parts (nat_le b c) (nat_lt c d) p in
+    let second = and_parts (nat_le d e) (nat_lt e f) q in
+    let to_c = leb-true b c first.0 in
+    let to_d = ltb-true c d first.1 in
+    let to_e = leb-true d e second.0 in
+    and_from _ _ (le-leb b e (omega arith)) second.1
+
 pub key_transitive : (x y z : Key) → key_below x y ≡ true → key_below y z ≡ true → key_below x z ≡ true
 key_transitive Head Head z p q = absurd cc
+key_transitive Head (Range c d) Head p q = absurd cc
+key_transitive Head (Range c d) (Range e f) p q = refl
+key_transitive Head (Range c d) (Label m) p q = refl
+key_transitive Head (Range c d) (Address g) p q = refl
+key_transitive Head (Label l) (Range e f) p q = refl
+key_transitive Head (Address a) (Range e f) p q = refl
+key_transitive (Range a b) Head z p q = absurd cc
+key_transitive (Range a b) (Range c d) Head p q = absurd cc
+key_transitive (Range a b) (Label l) Head p q = absurd cc
+key_transitive (Range a b) (Address c) Head p q = absurd cc
+key_transitive (Range a b) (Range c d) (Range e f) p q = range_transitive b c d e f p q
+key_transitive (Range a b) (Label l) (Range e f) p q = absurd cc
+key_transitive (Range a b) (Address c) (Range e f) p q = absurd cc
+key_transitive (Range a b) y (Label m) p q = refl
+key_transitive (Range a b) y (Address g) p q = refl
+key_transitive (Label k) (Range c d) z p q = absurd cc
+key_transitive (Label k) (Label l) (Range e f) p q = absurd cc
+key_transitive (Label k) (Address a) (Range e f) p q = absurd cc
+key_transitive (Address a) (Range c d) z p q = absurd cc
+key_transitive (Address a) (Address b) (Range e f) p q = absurd cc
 key_transitive Head (Label l) Head p q = absurd cc
 key_transitive Head (Label l) (Label m) p q = refl
 key_transitive Head (Label l) (Address b) p q = refl

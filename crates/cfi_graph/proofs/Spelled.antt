@@ -8,7 +8,7 @@ use Rattle.std.proofs.lemmas.Option.{same_Some}
 use Rattle.std.proofs.lemmas.List.Splits.{join_with_byte-slice_split}
 use Rattle.rv_word.specs.declared.version.GraphVersion.{GraphVersion}
 use Rattle.cfi_graph.specs.declared.line.GraphLine.{GraphLine}
-use Rattle.cfi_graph.specs.declared.line.GraphLine.TheVariants.{Class, Site, Edge, Call}
+use Rattle.cfi_graph.specs.declared.line.GraphLine.TheVariants.{Leaf, Class, Site, Edge, Call}
 use Rattle.cfi_graph.specs.declared.line.SiteKind.{SiteKind}
 use Rattle.cfi_graph.specs.declared.line.Sort.{Sort}
 use Rattle.cfi_graph.specs.declared.line.Sort.TheVariants.{Both, Calls, Jumps}
@@ -17,7 +17,7 @@ use Rattle.text_lines.specs.Lines.{spaced, words_of}
 use Rattle.text_lines.proofs.Numbers.{hex_spelled}
 use Rattle.rv_word.proofs.Cases.{guarded}
 use Rattle.text_lines.proofs.Options.{and_then, chosen, mapped}
-use Rattle.cfi_graph.specs.Graph.{class_in, fits_version, is_sort_of}
+use Rattle.cfi_graph.specs.Graph.{fits_version, has_leaves, is_sort_of}
 use Rattle.cfi_graph.specs.Text.{class_name, kind_name, words_of_class, words_of_line}
 use Rattle.cfi_graph.specs.Lines.{addresses_of, class_of, class_or_other, kind_of, length_of, line_of, other_of, pair_of, site_of, sort_named, sort_with}
 
@@ -86,16 +86,18 @@ pair_spelled (from ∷ to ∷ []) p e =
     let q = hex_spelled 8 from a first in let r = hex_spelled 8 to b is in
     rw (whole, q, r) refl))
 
-other_spelled : (name : List ℕ) (words : List (List ℕ)) (l : GraphLine) → other_of name words ≡ Some l → name ∷ words ≡ words_of_line l
-other_spelled name words l e =
+other_spelled : (version : GraphVersion) (name : List ℕ) (words : List (List ℕ)) (l : GraphLine) → other_of version name words ≡ Some l → name ∷ words ≡ words_of_line l
+other_spelled version name words l e =
     chosen (bytes_eq name (codes "site")) _ _ _ e (λ t s. ap (λ n. n ∷ words) (same_bytes name _ t) ∙ site_spelled words l s) (λ f1 e1.
     chosen (bytes_eq name (codes "edge")) _ _ _ e1 (λ t s. mapped (λ (p : ℕ × ℕ). Edge p.0 p.1) (pair_of words) l s (λ p is whole. rw whole (ap (λ n. n ∷ words) (same_bytes name _ t) ∙ ap (λ ws. codes "edge" ∷ ws) (pair_spelled words p is)))) (λ f2 e2.
-    let g = guarded (bytes_eq name (codes "call")) _ _ e2 in
-    mapped (λ (p : ℕ × ℕ). Call p.0 p.1) (pair_of words) l g.1 (λ p is whole. rw whole (ap (λ n. n ∷ words) (same_bytes name _ g.0) ∙ ap (λ ws. codes "call" ∷ ws) (pair_spelled words p is)))))
+    chosen (bytes_eq name (codes "call")) _ _ _ e2 (λ t s. mapped (λ (p : ℕ × ℕ). Call p.0 p.1) (pair_of words) l s (λ p is whole. rw whole (ap (λ n. n ∷ words) (same_bytes name _ t) ∙ ap (λ ws. codes "call" ∷ ws) (pair_spelled words p is)))) (λ f3 e3.
+    let g = guarded (bytes_eq name (codes "leaf") && has_leaves version) _ _ e3 in
+    let named = (and_parts (bytes_eq name (codes "leaf")) (has_leaves version) g.0).0 in
+    mapped (λ (p : ℕ × ℕ). Leaf p.0 p.1) (pair_of words) l g.1 (λ p is whole. rw whole (ap (λ n. n ∷ words) (same_bytes name _ named) ∙ ap (λ ws. codes "leaf" ∷ ws) (pair_spelled words p is))))))
 
 module _ (version : GraphVersion) where
-  named_spelled : (sort : Option Sort) (name : List ℕ) (words : List (List ℕ)) (l : GraphLine) → sort_named version name ≡ sort → class_or_other sort name words ≡ Some l → name ∷ words ≡ words_of_line l
-  named_spelled None name words l named e = other_spelled name words l e
+  named_spelled : (sort : Option Sort) (name : List ℕ) (words : List (List ℕ)) (l : GraphLine) → sort_named version name ≡ sort → class_or_other version sort name words ≡ Some l → name ∷ words ≡ words_of_line l
+  named_spelled None name words l named e = other_spelled version name words l e
   named_spelled (Some sort) name words l named e =
       ap (λ n. n ∷ words) (sort_read version name sort named).0 ∙ class_spelled sort words l e
 
@@ -115,42 +117,44 @@ no_end version = refl
 
 -- ---- a line that is read fits its version
 
-class_fits : (version : GraphVersion) (sort : Sort) (label : ℕ) (targets : List ℕ) → is_sort_of version sort ≡ true → fits_version version (class_in (Class sort label targets)) ≡ true
+class_fits : (version : GraphVersion) (sort : Sort) (label : ℕ) (targets : List ℕ) → is_sort_of version sort ≡ true → fits_version version (Class sort label targets) ≡ true
 class_fits version Both label targets e = e
 class_fits version Calls label targets e = e
 class_fits version Jumps label targets e = e
 
-class_read : (version : GraphVersion) (sort : Sort) (words : List (List ℕ)) (l : GraphLine) → is_sort_of version sort ≡ true → class_of sort words ≡ Some l → fits_version version (class_in l) ≡ true
+class_read : (version : GraphVersion) (sort : Sort) (words : List (List ℕ)) (l : GraphLine) → is_sort_of version sort ≡ true → class_of sort words ≡ Some l → fits_version version l ≡ true
 class_read version sort [] l fits e = absurd cc
 class_read version sort (label ∷ rest) l fits e =
     and_then _ (hex 5 label) l e (λ k first others.
     mapped (λ targets. Class sort k targets) (addresses_of rest) l others (λ targets is whole.
     rw whole (class_fits version sort k targets fits)))
 
-site_read : (words : List (List ℕ)) (l : GraphLine) → site_of words ≡ Some l → class_in l ≡ None
-site_read [] l e = absurd cc
-site_read (address ∷ []) l e = absurd cc
-site_read (address ∷ name ∷ []) l e = absurd cc
-site_read (address ∷ name ∷ label ∷ more ∷ rest) l e = absurd cc
-site_read (address ∷ name ∷ label ∷ []) l e =
+site_read : (version : GraphVersion) (words : List (List ℕ)) (l : GraphLine) → site_of words ≡ Some l → fits_version version l ≡ true
+site_read version [] l e = absurd cc
+site_read version (address ∷ []) l e = absurd cc
+site_read version (address ∷ name ∷ []) l e = absurd cc
+site_read version (address ∷ name ∷ label ∷ more ∷ rest) l e = absurd cc
+site_read version (address ∷ name ∷ label ∷ []) l e =
     and_then _ (hex 8 address) l e (λ a first others.
     and_then _ (kind_of name) l others (λ k second last.
-    mapped (λ n. Site a k n) (hex 5 label) l last (λ n is whole. ap class_in whole)))
+    mapped (λ n. Site a k n) (hex 5 label) l last (λ n is whole. ap (fits_version version) whole)))
 
-other_read : (name : List ℕ) (words : List (List ℕ)) (l : GraphLine) → other_of name words ≡ Some l → class_in l ≡ None
-other_read name words l e =
-    chosen (bytes_eq name (codes "site")) _ _ _ e (λ t s. site_read words l s) (λ f1 e1.
-    chosen (bytes_eq name (codes "edge")) _ _ _ e1 (λ t s. mapped (λ (p : ℕ × ℕ). Edge p.0 p.1) (pair_of words) l s (λ p is whole. ap class_in whole)) (λ f2 e2.
-    let g = guarded (bytes_eq name (codes "call")) _ _ e2 in
-    mapped (λ (p : ℕ × ℕ). Call p.0 p.1) (pair_of words) l g.1 (λ p is whole. ap class_in whole)))
+other_read : (version : GraphVersion) (name : List ℕ) (words : List (List ℕ)) (l : GraphLine) → other_of version name words ≡ Some l → fits_version version l ≡ true
+other_read version name words l e =
+    chosen (bytes_eq name (codes "site")) _ _ _ e (λ t s. site_read version words l s) (λ f1 e1.
+    chosen (bytes_eq name (codes "edge")) _ _ _ e1 (λ t s. mapped (λ (p : ℕ × ℕ). Edge p.0 p.1) (pair_of words) l s (λ p is whole. ap (fits_version version) whole)) (λ f2 e2.
+    chosen (bytes_eq name (codes "call")) _ _ _ e2 (λ t s. mapped (λ (p : ℕ × ℕ). Call p.0 p.1) (pair_of words) l s (λ p is whole. ap (fits_version version) whole)) (λ f3 e3.
+    let g = guarded (bytes_eq name (codes "leaf") && has_leaves version) _ _ e3 in
+    let has = (and_parts (bytes_eq name (codes "leaf")) (has_leaves version) g.0).1 in
+    mapped (λ (p : ℕ × ℕ). Leaf p.0 p.1) (pair_of words) l g.1 (λ p is whole. ap (fits_version version) whole ∙ has))))
 
 module _ (version : GraphVersion) where
-  named_read : (sort : Option Sort) (name : List ℕ) (words : List (List ℕ)) (l : GraphLine) → sort_named version name ≡ sort → class_or_other sort name words ≡ Some l → fits_version version (class_in l) ≡ true
-  named_read None name words l named e = ap (fits_version version) (other_read name words l e)
+  named_read : (sort : Option Sort) (name : List ℕ) (words : List (List ℕ)) (l : GraphLine) → sort_named version name ≡ sort → class_or_other version sort name words ≡ Some l → fits_version version l ≡ true
+  named_read None name words l named e = other_read version name words l e
   named_read (Some sort) name words l named e =
       class_read version sort words l (sort_read version name sort named).1 e
 
-  pub line_fits : (words : List (List ℕ)) (l : GraphLine) → line_of version words ≡ Some l → fits_version version (class_in l) ≡ true
+  pub line_fits : (words : List (List ℕ)) (l : GraphLine) → line_of version words ≡ Some l → fits_version version l ≡ true
   unfolding line_of
   line_fits [] l e = absurd cc
   line_fits (name ∷ words) l e = named_read (sort_named version name) name words l refl e

@@ -15,7 +15,7 @@ use Rattle.text_lines.proofs.Whole.{one_named_ok, whole_accepts}
 use Rattle.text_lines.proofs.Written.{join_newlines}
 use Rattle.text_lines.specs.declared.fault.LineFault.{LineFault}
 use Rattle.cfi_graph.specs.Calls.{Listed, calls_of, judged_calls, line_after, may_be_calls}
-use Rattle.cfi_graph.specs.Graph.{GraphParts, IsGraph, are_calls, class_in, fits_version, is_code_length, is_rising, key_below, key_of, line_in_range, targets_rise}
+use Rattle.cfi_graph.specs.Graph.{GraphParts, IsGraph, are_calls, fits_version, is_code_length, is_rising, key_below, key_of, line_in_range, targets_rise}
 use Rattle.cfi_graph.specs.Lines.{length_of}
 use Rattle.cfi_graph.specs.Text.{graph_lines, graph_name, graph_text, words_of_calls, words_of_line}
 use Rattle.cfi_graph.specs.Reading.{after_first, calls_key, calls_lines, graph_names, graph_of, graph_rules, in_order, listed, third_line, version_at, with_length, with_lines}
@@ -54,7 +54,7 @@ module _ (version : GraphVersion) (len : ℕ) where
   targets (line_first {before} {l} found range order rest) =
       and_from _ _ (targets_in_order before l order) (targets rest)
 
-  fits : {before : Option Key} {parts : List (List ℕ)} {lines : List GraphLine} → Accepts (graph_rules version len) before parts lines → list_all (λ line. fits_version version (class_in line)) lines ≡ true
+  fits : {before : Option Key} {parts : List (List ℕ)} {lines : List GraphLine} → Accepts (graph_rules version len) before parts lines → list_all (fits_version version) lines ≡ true
   fits end_only = refl
   fits (line_first {line} {parts} {l} found range order rest) =
       and_from _ _ (line_fits version (words_of line) l found) (fits rest)
@@ -183,10 +183,11 @@ after_first_ok version (line ∷ []) graph e = absurd cc
 after_first_ok version (line ∷ part ∷ parts) graph e = with_length_ok version line (part ∷ parts) graph e
 
 -- each first line is the name of the version that it tells
-name_at : (which : ℕ) → which < 2 → get_or graph_names which [] ≡ graph_name (version_at which)
+name_at : (which : ℕ) → which < 3 → get_or graph_names which [] ≡ graph_name (version_at which)
 name_at zero lt = refl
 name_at (suc zero) lt = refl
-name_at (suc (suc which)) lt = absurd (omega arith)
+name_at (suc (suc zero)) lt = refl
+name_at (suc (suc (suc which))) lt = absurd (omega arith)
 
 from_lines_ok : (parts : List (List ℕ)) (graph : GraphParts) → if_right (one_named graph_names parts) (λ first. after_first (version_at first.0) first.1) ≡ Ok graph → Gives parts graph
 unfolding graph_lines

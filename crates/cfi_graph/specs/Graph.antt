@@ -5,13 +5,13 @@ use Rattle.std.specs.List.{list_all}
 use Rattle.rv_word.specs.MemoryMap.{CODE_START, CODE_SIZE}
 use Rattle.rv_word.specs.Numbers.{MOST_NUMBERS}
 use Rattle.rv_word.specs.declared.version.GraphVersion.{GraphVersion}
-use Rattle.rv_word.specs.declared.version.GraphVersion.TheVariants.{OneLabel, TwoLabels}
+use Rattle.rv_word.specs.declared.version.GraphVersion.TheVariants.{OneLabel, TwoLabels, CalleeSaves}
 use Rattle.cfi_graph.specs.declared.line.GraphLine.{GraphLine}
-use Rattle.cfi_graph.specs.declared.line.GraphLine.TheVariants.{Calls, Class, Site, Edge, Call}
+use Rattle.cfi_graph.specs.declared.line.GraphLine.TheVariants.{Calls, Leaf, Class, Site, Edge, Call}
 use Rattle.cfi_graph.specs.declared.line.Sort.{Sort}
 use Rattle.cfi_graph.specs.declared.line.Sort.TheVariants as sorts
 use Rattle.cfi_graph.specs.declared.line.Key.{Key}
-use Rattle.cfi_graph.specs.declared.line.Key.TheVariants.{Head, Label, Address}
+use Rattle.cfi_graph.specs.declared.line.Key.TheVariants.{Head, Range, Label, Address}
 
 pub record GraphParts : Type 0 where
   pub version : GraphVersion
@@ -27,6 +27,7 @@ pub record ClassLine : Type 0 where
 -- the class of a line, where it is a class's
 abbrev pub class_in : GraphLine → Option ClassLine
 class_in (Calls numbers) = None
+class_in (Leaf from to) = None
 class_in (Class sort label targets) = Some (record { sort = sort; label = label; targets = targets })
 class_in (Site address kind label) = None
 class_in (Edge from to) = None
@@ -36,12 +37,13 @@ class_in (Call from to) = None
 abbrev pub calls_in : List GraphLine → Option (List ℕ)
 calls_in [] = None
 calls_in (Calls numbers ∷ lines) = Some numbers
+calls_in (Leaf from to ∷ lines) = None
 calls_in (Class sort label targets ∷ lines) = None
 calls_in (Site address kind label ∷ lines) = None
 calls_in (Edge from to ∷ lines) = None
 calls_in (Call from to ∷ lines) = None
 
--- Versions. The classes of version 1 serve computed calls and jumps alike; those of version 2 serve either
+-- Versions. The classes of version 1 serve computed calls and jumps alike; those of versions 2 and 3 serve either
 abbrev pub is_sort_of : GraphVersion → Sort → Bool
 is_sort_of OneLabel sorts.Both = true
 is_sort_of OneLabel sorts.Calls = false
@@ -49,11 +51,24 @@ is_sort_of OneLabel sorts.Jumps = false
 is_sort_of TwoLabels sorts.Both = false
 is_sort_of TwoLabels sorts.Calls = true
 is_sort_of TwoLabels sorts.Jumps = true
+is_sort_of CalleeSaves sorts.Both = false
+is_sort_of CalleeSaves sorts.Calls = true
+is_sort_of CalleeSaves sorts.Jumps = true
+
+-- graphs of version 3 have lines of leaves
+abbrev pub has_leaves : GraphVersion → Bool
+has_leaves OneLabel = false
+has_leaves TwoLabels = false
+has_leaves CalleeSaves = true
 
 -- a line may stand in a graph of a version
-abbrev pub fits_version : GraphVersion → Option ClassLine → Bool
-fits_version version None = true
-fits_version version (Some class) = is_sort_of version class.sort
+abbrev pub fits_version : GraphVersion → GraphLine → Bool
+fits_version version (Calls numbers) = true
+fits_version version (Leaf from to) = has_leaves version
+fits_version version (Class sort label targets) = is_sort_of version sort
+fits_version version (Site address kind label) = true
+fits_version version (Edge from to) = true
+fits_version version (Call from to) = true
 
 -- Range. A length of code is a multiple of 4 bytes, one word at least, and no more than the region holds
 abbrev pub is_code_length : ℕ → Bool
@@ -67,6 +82,10 @@ is_label label = nat_lt 0 label && nat_lt label (2 ^ 20)
 abbrev pub is_code_address : ℕ → ℕ → Bool
 is_code_address len address = address % 4 == 0 && nat_le CODE_START address && nat_lt address (CODE_START + len)
 
+-- an end is such an address, or that where the code ends
+abbrev pub is_code_end : ℕ → ℕ → Bool
+is_code_end len address = address % 4 == 0 && nat_le CODE_START address && nat_le address (CODE_START + len)
+
 abbrev pub class_in_range : ℕ → ℕ → List ℕ → Bool
 class_in_range len label targets = is_label label && list_all (is_code_address len) targets
 
@@ -77,6 +96,7 @@ are_calls numbers =
 
 abbrev pub line_in_range : ℕ → GraphLine → Bool
 line_in_range len (Calls numbers) = are_calls numbers
+line_in_range len (Leaf from to) = is_code_address len from && is_code_end len to
 line_in_range len (Class sort label targets) = class_in_range len label targets
 line_in_range len (Site address kind label) = is_code_address len address && is_label label
 line_in_range len (Edge from to) = is_code_address len from && is_code_address len to
@@ -88,29 +108,40 @@ is_rising below [] = true
 is_rising below (x ∷ []) = true
 is_rising below (x ∷ y ∷ rest) = below x y && is_rising below (y ∷ rest)
 
--- the list of system calls stands first; a class line is ordered by its label, any other by its first address
+-- the list of system calls stands first; a leaf is ordered by its range, a class by its label, any other line by its
+-- first address
 abbrev pub key_of : GraphLine → Key
 key_of (Calls numbers) = Head
+key_of (Leaf from to) = Range from to
 key_of (Class sort label targets) = Label label
 key_of (Site address kind label) = Address address
 key_of (Edge from to) = Address from
 key_of (Call from to) = Address from
 
--- one list at most, before all lines; labels rise, class lines come before all others, and first addresses rise
+-- one list at most, before all lines; then ranges, each from the end of the one before or past it; then classes, whose
+-- labels rise; then other lines, whose first addresses rise
 abbrev pub key_below : Key → Key → Bool
 key_below Head Head = false
+key_below Head (Range c d) = true
 key_below Head (Label l) = true
 key_below Head (Address b) = true
+key_below (Range a b) Head = false
+key_below (Range a b) (Range c d) = nat_le b c && nat_lt c d
+key_below (Range a b) (Label l) = true
+key_below (Range a b) (Address c) = true
 key_below (Label k) Head = false
+key_below (Label k) (Range c d) = false
 key_below (Address a) Head = false
+key_below (Address a) (Range c d) = false
 key_below (Label k) (Label l) = nat_lt k l
 key_below (Label k) (Address a) = true
 key_below (Address a) (Label l) = false
 key_below (Address a) (Address b) = nat_lt a b
 
--- the addresses of a class rise, and so do the numbers of system calls
+-- the addresses of a class rise, and so do the numbers of system calls; a leaf ends past where it begins
 abbrev pub targets_rise : GraphLine → Bool
 targets_rise (Calls numbers) = is_rising nat_lt numbers
+targets_rise (Leaf from to) = nat_lt from to
 targets_rise (Class sort label targets) = is_rising nat_lt targets
 targets_rise (Site address kind label) = true
 targets_rise (Edge from to) = true
@@ -118,7 +149,7 @@ targets_rise (Call from to) = true
 
 -- the parts that a graph may have
 pub record IsGraph (graph : GraphParts) : Type 0 where
-  pub sorts : IsTrue (list_all (λ line. fits_version graph.version (class_in line)) graph.lines)
+  pub sorts : IsTrue (list_all (fits_version graph.version) graph.lines)
   pub length : IsTrue (is_code_length graph.code)
   pub range : IsTrue (list_all (line_in_range graph.code) graph.lines)
   pub targets : IsTrue (list_all targets_rise graph.lines)
@@ -130,6 +161,7 @@ is_class line = is_some (class_in line)
 
 abbrev pub is_site : GraphLine → Bool
 is_site (Calls numbers) = false
+is_site (Leaf from to) = false
 is_site (Class sort label targets) = false
 is_site (Site address kind label) = true
 is_site (Edge from to) = false

@@ -5,12 +5,12 @@ use Rattle.std.specs.Str.{bytes_eq}
 use Rattle.rv_word.specs.declared.version.GraphVersion.{GraphVersion}
 use Rattle.text_lines.specs.Hex.{hex}
 use Rattle.cfi_graph.specs.declared.line.GraphLine.{GraphLine}
-use Rattle.cfi_graph.specs.declared.line.GraphLine.TheVariants.{Class, Site, Edge, Call}
+use Rattle.cfi_graph.specs.declared.line.GraphLine.TheVariants.{Leaf, Class, Site, Edge, Call}
 use Rattle.cfi_graph.specs.declared.line.SiteKind.{SiteKind}
 use Rattle.cfi_graph.specs.declared.line.SiteKind.TheVariants as kind
 use Rattle.cfi_graph.specs.declared.line.Sort.{Sort}
 use Rattle.cfi_graph.specs.declared.line.Sort.TheVariants.{Both, Calls, Jumps}
-use Rattle.cfi_graph.specs.Graph.{is_sort_of}
+use Rattle.cfi_graph.specs.Graph.{has_leaves, is_sort_of}
 use Rattle.cfi_graph.specs.Text.{class_name}
 
 -- the numbers of eight digits that words spell
@@ -56,26 +56,27 @@ site_of words = None
 abbrev pub two_addresses : List ℕ → List ℕ → Option (ℕ × ℕ)
 two_addresses from to = option_and_then (λ a. option_map (λ b. (a, b)) (hex 8 to)) (hex 8 from)
 
--- after `edge` and `call`: two addresses
+-- after `edge`, `call` and `leaf`: two addresses
 abbrev pub pair_of : List (List ℕ) → Option (ℕ × ℕ)
 pair_of (from ∷ to ∷ []) = two_addresses from to
 pair_of words = None
 
 -- a line that is no class's
-abbrev pub other_of : List ℕ → List (List ℕ) → Option GraphLine
-other_of name words =
+abbrev pub other_of : GraphVersion → List ℕ → List (List ℕ) → Option GraphLine
+other_of version name words =
     if bytes_eq name (codes "site") then site_of words else
     if bytes_eq name (codes "edge") then option_map (λ p. Edge p.0 p.1) (pair_of words) else
-    if bytes_eq name (codes "call") then option_map (λ p. Call p.0 p.1) (pair_of words) else None
+    if bytes_eq name (codes "call") then option_map (λ p. Call p.0 p.1) (pair_of words) else
+    if bytes_eq name (codes "leaf") && has_leaves version then option_map (λ p. Leaf p.0 p.1) (pair_of words) else None
 
-abbrev pub class_or_other : Option Sort → List ℕ → List (List ℕ) → Option GraphLine
-class_or_other (Some sort) name words = class_of sort words
-class_or_other None name words = other_of name words
+abbrev pub class_or_other : GraphVersion → Option Sort → List ℕ → List (List ℕ) → Option GraphLine
+class_or_other version (Some sort) name words = class_of sort words
+class_or_other version None name words = other_of version name words
 
 -- the line of a version that words spell, if they spell one
 unfoldable pub line_of : GraphVersion → List (List ℕ) → Option GraphLine
 line_of version [] = None
-line_of version (name ∷ words) = class_or_other (sort_named version name) name words
+line_of version (name ∷ words) = class_or_other version (sort_named version name) name words
 
 -- the second line gives the length of the code
 abbrev pub length_of : List (List ℕ) → Option ℕ

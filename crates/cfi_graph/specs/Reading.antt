@@ -4,7 +4,7 @@
 -- or its own addresses do not rise.
 use Rattle.std.specs.Prelude.{ℕ, ◌==◌, Bool, ◌&&◌, if◌then◌else◌, List, [], ◌∷◌, ◌++◌, Option, Some, None, Result, Ok, Err}
 use Rattle.rv_word.specs.declared.version.GraphVersion.{GraphVersion}
-use Rattle.rv_word.specs.declared.version.GraphVersion.TheVariants.{OneLabel, TwoLabels}
+use Rattle.rv_word.specs.declared.version.GraphVersion.TheVariants.{OneLabel, TwoLabels, CalleeSaves}
 use Rattle.rv_word.specs.declared.end.End.{End}
 use Rattle.text_lines.specs.declared.reason.Reason.TheVariants.{Form, Range}
 use Rattle.text_lines.specs.Lines.{lines_of, words_of}
@@ -74,11 +74,11 @@ after_first version lines = Err (line_fault 2 Form)
 
 -- the first lines that a graph may have
 abbrev pub graph_names : List (List ℕ)
-graph_names = graph_name OneLabel ∷ graph_name TwoLabels ∷ []
+graph_names = graph_name OneLabel ∷ graph_name TwoLabels ∷ graph_name CalleeSaves ∷ []
 
 -- the version that the first line tells, by its place among these
 abbrev pub version_at : ℕ → GraphVersion
-version_at which = if which == 0 then OneLabel else TwoLabels
+version_at which = if which == 0 then OneLabel else if which == 1 then TwoLabels else CalleeSaves
 
 -- what a text is read as
 unfoldable pub graph_of : List ℕ → Result GraphParts (End LineFault)

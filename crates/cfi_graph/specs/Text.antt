@@ -4,11 +4,11 @@ use Rattle.std.specs.Prelude.{ℕ, List, [], ◌∷◌, ◌++◌, map, codes}
 use Rattle.std.specs.Fmt.{decimal}
 use Rattle.std.specs.List.{flat_map}
 use Rattle.rv_word.specs.declared.version.GraphVersion.{GraphVersion}
-use Rattle.rv_word.specs.declared.version.GraphVersion.TheVariants.{OneLabel, TwoLabels}
+use Rattle.rv_word.specs.declared.version.GraphVersion.TheVariants.{OneLabel, TwoLabels, CalleeSaves}
 use Rattle.text_lines.specs.Hex.{hex_text}
 use Rattle.text_lines.specs.Lines.{spaced}
 use Rattle.cfi_graph.specs.declared.line.GraphLine.{GraphLine}
-use Rattle.cfi_graph.specs.declared.line.GraphLine.TheVariants.{Calls, Class, Site, Edge, Call}
+use Rattle.cfi_graph.specs.declared.line.GraphLine.TheVariants.{Calls, Leaf, Class, Site, Edge, Call}
 use Rattle.cfi_graph.specs.declared.line.SiteKind as kinds
 use Rattle.cfi_graph.specs.declared.line.SiteKind.TheVariants as kind
 use Rattle.cfi_graph.specs.declared.line.Sort.{Sort}
@@ -33,6 +33,7 @@ words_of_calls numbers = codes "calls" ∷ map decimal numbers
 
 abbrev pub words_of_line : GraphLine → List (List ℕ)
 words_of_line (Calls numbers) = words_of_calls numbers
+words_of_line (Leaf from to) = codes "leaf" ∷ hex_text 8 from ∷ hex_text 8 to ∷ []
 words_of_line (Class sort label targets) = words_of_class sort label targets
 words_of_line (Site address k label) = codes "site" ∷ hex_text 8 address ∷ kind_name k ∷ hex_text 5 label ∷ []
 words_of_line (Edge from to) = codes "edge" ∷ hex_text 8 from ∷ hex_text 8 to ∷ []
@@ -42,6 +43,7 @@ words_of_line (Call from to) = codes "call" ∷ hex_text 8 from ∷ hex_text 8 t
 abbrev pub graph_name : GraphVersion → List ℕ
 graph_name OneLabel = codes "rvcfi-graph 1"
 graph_name TwoLabels = codes "rvcfi-graph 2"
+graph_name CalleeSaves = codes "rvcfi-graph 3"
 
 -- the lines of the text, without their newlines
 unfoldable pub graph_lines : GraphParts → List (List ℕ)

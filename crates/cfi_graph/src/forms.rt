@@ -17,7 +17,7 @@ ghost use Rattle.cfi_graph.specs.Lines.{
 };
 ghost use Rattle.text_lines.specs.Lines.{parts_after, words_of};
 
-use crate::line::{GraphLine, SiteKind, Sort};
+use crate::line::{GraphLine, SiteKind, Sort, has_leaves};
 use rv_word::{GraphVersion, NoMemory, Places};
 use std::alloc::Global;
 use text_lines::{cut, hex_of, is_word};
@@ -159,9 +159,9 @@ fn pair(words: Option<&[u8]>) -> Option<(u64, u64)>
     two_addresses(from, to)
 }
 
-/// The line of a graph that is no class's, of this name and these words after it.
-fn other(name: &[u8], words: Option<&[u8]>) -> Option<GraphLine>
-    ensures { result ≡ other_of name.now (parts_after 32 (option_map (λ w. w.now) words.entry)) }
+/// The line of a graph of this version that is no class's, of this name and these words after it.
+fn other(version: GraphVersion, name: &[u8], words: Option<&[u8]>) -> Option<GraphLine>
+    ensures { result ≡ other_of version name.now (parts_after 32 (option_map (λ w. w.now) words.entry)) }
 {
     if is_word(name, b"site") {
         return site(words);
@@ -171,6 +171,9 @@ fn other(name: &[u8], words: Option<&[u8]>) -> Option<GraphLine>
     }
     if is_word(name, b"call") {
         return pair(words).map(|(from, to)| GraphLine::Call(from, to));
+    }
+    if is_word(name, b"leaf") && has_leaves(version) {
+        return pair(words).map(|(from, to)| GraphLine::Leaf(from, to));
     }
     None
 }
@@ -187,7 +190,7 @@ pub(crate) fn line_of(
     let (name, words) = cut(line, b' ');
     match sort_named(version, name) {
         Some(sort) => class(alloc, sort, words),
-        None => Ok(other(name, words)),
+        None => Ok(other(version, name, words)),
     }
 }
 

@@ -1,4 +1,5 @@
 ghost use Rattle.std.specs.Prelude.{◌≡◌};
+ghost use Rattle.cfi_graph.specs.Graph.{has_leaves};
 
 use crate::class::Class;
 use rv_word::{GraphVersion, Numbers, Places};
@@ -32,8 +33,20 @@ impl Sort {
     {
         match version {
             GraphVersion::OneLabel => matches!(self, Sort::Both),
-            GraphVersion::TwoLabels => matches!(self, Sort::Calls | Sort::Jumps),
+            GraphVersion::TwoLabels | GraphVersion::CalleeSaves => {
+                matches!(self, Sort::Calls | Sort::Jumps)
+            }
         }
+    }
+}
+
+/// Whether graphs of this version have lines of leaves.
+pub(crate) fn has_leaves(version: GraphVersion) -> bool
+    ensures { result ≡ has_leaves version }
+{
+    match version {
+        GraphVersion::OneLabel | GraphVersion::TwoLabels => false,
+        GraphVersion::CalleeSaves => true,
     }
 }
 
@@ -42,6 +55,8 @@ impl Sort {
 pub enum GraphLine {
     /// The numbers of the system calls that the program may make.
     Calls(Numbers),
+    /// A function that saves no site, as it calls nothing: where its first unit starts, and where its last one ends.
+    Leaf(u64, u64),
     /// A class: which transfers it serves, its label, and the addresses of its targets.
     Class(Sort, u32, Places),
     /// A transfer to a computed address: where its unit starts, its kind, and its class's label.
@@ -52,12 +67,14 @@ pub enum GraphLine {
     Call(u64, u64),
 }
 
-/// What a line is ordered by: the list of system calls before all others, then a class's label, or the
-/// first address of another line.
+/// What a line is ordered by: the list of system calls before all others, then a leaf's range, a class's label, or
+/// the first address of another line.
 #[derive(Clone, Copy)]
 pub enum Key {
     /// The list of system calls.
     Head,
+    /// A leaf's range.
+    Range(u64, u64),
     /// A class's label.
     Label(u32),
     /// The first address of another line.
@@ -73,6 +90,7 @@ impl GraphLine {
     {
         match self {
             GraphLine::Calls(_) => Key::Head,
+            GraphLine::Leaf(from, to) => Key::Range(*from, *to),
             GraphLine::Class(_, label, _) => Key::Label(*label),
             GraphLine::Site(address, _, _) => Key::Address(*address),
             GraphLine::Edge(from, _) => Key::Address(*from),
@@ -116,10 +134,17 @@ impl Key {
     {
         match (self, other) {
             (Key::Head, Key::Head) => false,
+            (Key::Head, Key::Range(..)) => true,
             (Key::Head, Key::Label(_)) => true,
             (Key::Head, Key::Address(_)) => true,
+            (Key::Range(..), Key::Head) => false,
             (Key::Label(_), Key::Head) => false,
             (Key::Address(_), Key::Head) => false,
+            (Key::Range(_, end), Key::Range(next, after)) => end <= next && next < after,
+            (Key::Range(..), Key::Label(_)) => true,
+            (Key::Range(..), Key::Address(_)) => true,
+            (Key::Label(_), Key::Range(..)) => false,
+            (Key::Address(_), Key::Range(..)) => false,
             (Key::Label(label), Key::Label(next)) => label < next,
             (Key::Label(_), Key::Address(_)) => true,
             (Key::Address(_), Key::Label(_)) => false,

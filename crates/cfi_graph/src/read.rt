@@ -18,7 +18,7 @@ use std::alloc::Global;
 use text_lines::{LineFault, Reason, after_one_of, cut, read_lines};
 
 /// The first lines that a graph may have.
-const NAMES: [&[u8]; 2] = [b"rvcfi-graph 1", b"rvcfi-graph 2"];
+const NAMES: [&[u8]; 3] = [b"rvcfi-graph 1", b"rvcfi-graph 2", b"rvcfi-graph 3"];
 
 /// The version that the first line tells, by its place among these.
 fn version_at(which: usize) -> GraphVersion
@@ -26,7 +26,8 @@ fn version_at(which: usize) -> GraphVersion
 {
     match which {
         0 => GraphVersion::OneLabel,
-        _ => GraphVersion::TwoLabels,
+        1 => GraphVersion::TwoLabels,
+        _ => GraphVersion::CalleeSaves,
     }
 }
 
@@ -37,6 +38,7 @@ pub(crate) fn name_of(version: GraphVersion) -> &'static [u8]
     match version {
         GraphVersion::OneLabel => NAMES[0],
         GraphVersion::TwoLabels => NAMES[1],
+        GraphVersion::CalleeSaves => NAMES[2],
     }
 }
 

@@ -6,6 +6,7 @@ ghost use Rattle.cfi_graph.specs.Graph.{
   are_calls,
   class_in_range,
   is_code_address,
+  is_code_end,
   is_code_length,
   is_label,
   is_rising,
@@ -38,6 +39,13 @@ fn is_code_address(len: u32, address: u64) -> bool
     ensures { result ≡ is_code_address len address }
 {
     address % 4 == 0 && address.wrapping_sub(CODE_START) < u64::from(len)
+}
+
+/// Whether an address is that of a word of `len` bytes of code, or their end.
+fn is_code_end(len: u32, address: u64) -> bool
+    ensures { result ≡ is_code_end len address }
+{
+    address % 4 == 0 && address.wrapping_sub(CODE_START) <= u64::from(len)
 }
 
 fn are_code_addresses(len: u32, addresses: &[u64]) -> bool
@@ -76,6 +84,7 @@ pub(crate) fn line_in_range(len: u32, line: &GraphLine) -> bool
 {
     match line {
         GraphLine::Calls(numbers) => are_calls(numbers),
+        GraphLine::Leaf(from, to) => is_code_address(len, *from) && is_code_end(len, *to),
         GraphLine::Class(_, label, targets) => class_in_range(len, *label, targets.as_slice()),
         GraphLine::Site(address, _, label) => is_code_address(len, *address) && is_label(*label),
         GraphLine::Edge(from, to) => is_code_address(len, *from) && is_code_address(len, *to),
@@ -119,6 +128,7 @@ fn targets_rise(line: &GraphLine) -> bool
 {
     match line {
         GraphLine::Calls(numbers) => calls_rise(numbers),
+        GraphLine::Leaf(from, to) => from < to,
         GraphLine::Class(_, _, targets) => is_rising(targets.as_slice()),
         _ => true,
     }

@@ -102,6 +102,7 @@ fn push_words(alloc: Global, out: &mut Vec<u8>, line: &GraphLine) -> Result<(), 
 {
     match line {
         GraphLine::Calls(numbers) => push_list(alloc, out, numbers),
+        GraphLine::Leaf(from, to) => push_pair(out, b"leaf", *from, *to),
         GraphLine::Class(sort, label, targets) => {
             push_class(out, *sort, *label, targets.as_slice())
         }
