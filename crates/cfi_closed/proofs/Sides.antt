@@ -4,12 +4,13 @@ use Rattle.std.specs.Prelude.{Option, Some, None, option_map}
 use Rattle.std.specs.Option.{option_or}
 use Rattle.std.proofs.lemmas.List.{at_drop_all, at_drop_more, length-append, length-map}
 use Rattle.rv_word.specs.declared.version.GraphVersion.{GraphVersion}
-use Rattle.rv_word.specs.declared.version.GraphVersion.TheVariants.{OneLabel, TwoLabels}
+use Rattle.rv_word.specs.declared.version.GraphVersion.TheVariants.{OneLabel, TwoLabels, CalleeSaves}
 use Rattle.cfi_closed.specs.Closed.{Side, class_among, class_of, classes_of, sorts_of}
 
 pub few_sorts : (version : GraphVersion) → length (sorts_of version) ≤ 2
 few_sorts OneLabel = omega arith
 few_sorts TwoLabels = omega arith
+few_sorts CalleeSaves = omega arith
 
 pub few_sides : (version : GraphVersion) (sides : List Side) → map (λ (s : Side). s.sort) sides ≡ sorts_of version → length sides ≤ 2
 few_sides version sides sorts = omega (arith, few_sorts version, ap length sorts, length-map sides (λ (s : Side). s.sort))

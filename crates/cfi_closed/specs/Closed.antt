@@ -4,7 +4,7 @@ use Rattle.std.specs.Prelude.{ℕ, ◌+◌, ◌<◌, Bool, true, false, ◌==◌
 use Rattle.std.specs.List.{All, find, flat_map, list_any}
 use Rattle.std.specs.Option.{option_or}
 use Rattle.rv_word.specs.declared.version.GraphVersion.{GraphVersion}
-use Rattle.rv_word.specs.declared.version.GraphVersion.TheVariants.{OneLabel, TwoLabels}
+use Rattle.rv_word.specs.declared.version.GraphVersion.TheVariants.{OneLabel, TwoLabels, CalleeSaves}
 use Rattle.cfi_graph.specs.declared.line.SiteKind.{SiteKind}
 use Rattle.cfi_graph.specs.declared.line.SiteKind.TheVariants as kinds
 use Rattle.cfi_graph.specs.declared.line.Sort.{Sort}
@@ -29,10 +29,12 @@ pub record ClosedGraph : Type 0 where
   -- the numbers of the system calls that the program may make, where it has a list of them
   pub calls : Option (List ℕ)
 
--- the sorts of its sides: graphs of version 1 have one label for calls and jumps, those of version 2 one for each
+-- the sorts of its sides: graphs of version 1 have one label for calls and jumps, those of versions 2 and 3
+-- one for each
 abbrev pub sorts_of : GraphVersion → List Sort
 sorts_of OneLabel = Both ∷ []
 sorts_of TwoLabels = Calls ∷ Jumps ∷ []
+sorts_of CalleeSaves = Calls ∷ Jumps ∷ []
 
 -- a computed transfer of this kind is one of this sort
 abbrev pub is_of : Sort → SiteKind → Bool

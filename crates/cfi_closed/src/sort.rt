@@ -16,7 +16,7 @@ pub fn sorts_of(version: GraphVersion) -> &'static [Sort]
 {
     match version {
         GraphVersion::OneLabel => &ONE,
-        GraphVersion::TwoLabels => &TWO,
+        GraphVersion::TwoLabels | GraphVersion::CalleeSaves => &TWO,
     }
 }
 

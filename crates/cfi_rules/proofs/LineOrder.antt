@@ -1,27 +1,39 @@
 -- Lines whose keys rise: a key stands at one place, and the line with a key is found by it.
 use Rattle.std.proofs.Common.{◌≡◌, ◌≢◌, ◌<◌, ℕ, zero, suc, ◌==◌, true, false, List, [], ◌∷◌, map, Some, None, refl, sym, ap, ◌∙◌, arith, inl, inr}
-use Rattle.std.specs.Prelude.{slice_get, option_and_then, if◌then◌else◌}
-use Rattle.std.proofs.lemmas.Bool.{and_parts, cases_Bool, cases_order, ltb-true, ltb-false, eqb-true, eq-eqb, false≢true}
+use Rattle.std.specs.Prelude.{slice_get, option_and_then, nat_le, nat_lt, ◌&&◌, if◌then◌else◌}
+use Rattle.std.proofs.lemmas.Bool.{and_from, and_parts, cases_Bool, cases_order, leb-true, ltb-true, ltb-false, eqb-true, eq-eqb, false≢true}
 use Rattle.std.proofs.lemmas.Option.{same_Some}
 use Rattle.cfi_graph.specs.declared.line.GraphLine.{GraphLine}
-use Rattle.cfi_graph.specs.declared.line.GraphLine.TheVariants.{Calls, Class, Site, Edge, Call}
+use Rattle.cfi_graph.specs.declared.line.GraphLine.TheVariants.{Calls, Leaf, Class, Site, Edge, Call}
 use Rattle.cfi_graph.specs.declared.line.Sort.{Sort}
 use Rattle.cfi_graph.specs.declared.line.Key.{Key}
-use Rattle.cfi_graph.specs.declared.line.Key.TheVariants.{Head, Label, Address}
+use Rattle.cfi_graph.specs.declared.line.Key.TheVariants.{Head, Range, Label, Address}
 use Rattle.cfi_graph.specs.Graph.{class_in, is_rising, key_below, key_of}
 use Rattle.cfi_graph.proofs.Rising.{key_transitive}
-use Rattle.cfi_rules.specs.Lines.{same_key, line_with, line_at, class_with}
+use Rattle.cfi_rules.specs.Lines.{is_range, same_key, line_with, line_at, class_with}
 
 pub below_self : (k : Key) → key_below k k ≡ true → ⊥
 below_self Head e = absurd (false≢true e)
+below_self (Range a b) e =
+    let p = and_parts (nat_le b a) (nat_lt a b) e in
+    let back = leb-true b a p.0 in
+    let on = ltb-true a b p.1 in
+    omega arith
 below_self (Label a) e = let h : a < a = ltb-true a a e in omega arith
 below_self (Address a) e = let h : a < a = ltb-true a a e in omega arith
 
 pub same_from : (j k : Key) → j ≡ k → same_key j k ≡ true
 same_from Head Head e = refl
+same_from Head (Range a b) e = cc
 same_from Head (Label b) e = cc
 same_from Head (Address b) e = cc
+same_from (Range a b) Head e = cc
+same_from (Range a b) (Range c d) e = and_from (a == c) (b == d) (eq-eqb a c (cc)) (eq-eqb b d (cc))
+same_from (Range a b) (Label c) e = cc
+same_from (Range a b) (Address c) e = cc
 same_from (Label a) Head e = cc
+same_from (Label a) (Range b c) e = cc
+same_from (Address a) (Range b c) e = cc
 same_from (Address a) Head e = cc
 same_from (Label a) (Label b) e = eq-eqb a b (cc)
 same_from (Label a) (Address b) e = cc
@@ -30,26 +42,41 @@ same_from (Address a) (Address b) e = eq-eqb a b (cc)
 
 pub same_gives : (j k : Key) → same_key j k ≡ true → j ≡ k
 same_gives Head Head e = refl
+same_gives Head (Range a b) e = absurd (false≢true e)
 same_gives Head (Label b) e = absurd (false≢true e)
 same_gives Head (Address b) e = absurd (false≢true e)
+same_gives (Range a b) Head e = absurd (false≢true e)
+same_gives (Range a b) (Range c d) e =
+    let p = and_parts (a == c) (b == d) e in
+    let first = eqb-true a c p.0 in
+    let second = eqb-true b d p.1 in
+    ap (λ (x : ℕ). Range x b) first ∙ ap (Range c) second
+same_gives (Range a b) (Label c) e = absurd (false≢true e)
+same_gives (Range a b) (Address c) e = absurd (false≢true e)
 same_gives (Label a) Head e = absurd (false≢true e)
+same_gives (Label a) (Range b c) e = absurd (false≢true e)
+same_gives (Address a) (Range b c) e = absurd (false≢true e)
 same_gives (Address a) Head e = absurd (false≢true e)
 same_gives (Label a) (Label b) e = ap Label (eqb-true a b e)
 same_gives (Label a) (Address b) e = absurd (false≢true e)
 same_gives (Address a) (Label b) e = absurd (false≢true e)
 same_gives (Address a) (Address b) e = ap Address (eqb-true a b e)
 
--- keys of which neither is below the other are the same
-pub same_unless : (j k : Key) → key_below j k ≡ false → key_below k j ≡ false → j ≡ k
-same_unless Head Head e f = refl
-same_unless Head (Label b) e f = absurd (false≢true (sym e))
-same_unless Head (Address b) e f = absurd (false≢true (sym e))
-same_unless (Label a) Head e f = absurd (false≢true (sym f))
-same_unless (Address a) Head e f = absurd (false≢true (sym f))
-same_unless (Label a) (Label b) e f = ap Label (omega (arith, ltb-false a b e, ltb-false b a f))
-same_unless (Label a) (Address b) e f = absurd (false≢true (sym e))
-same_unless (Address a) (Label b) e f = absurd (false≢true (sym f))
-same_unless (Address a) (Address b) e f = ap Address (omega (arith, ltb-false a b e, ltb-false b a f))
+-- keys of which neither is below the other are the same, but for ranges that overlap
+pub same_unless : (j k : Key) → is_range k ≡ false → key_below j k ≡ false → key_below k j ≡ false → j ≡ k
+same_unless Head Head exact e f = refl
+same_unless Head (Label b) exact e f = absurd (false≢true (sym e))
+same_unless Head (Address b) exact e f = absurd (false≢true (sym e))
+same_unless j (Range b c) exact e f = absurd (false≢true (sym exact))
+same_unless (Range a b) Head exact e f = absurd (false≢true (sym f))
+same_unless (Range a b) (Label c) exact e f = absurd (false≢true (sym e))
+same_unless (Range a b) (Address c) exact e f = absurd (false≢true (sym e))
+same_unless (Label a) Head exact e f = absurd (false≢true (sym f))
+same_unless (Address a) Head exact e f = absurd (false≢true (sym f))
+same_unless (Label a) (Label b) exact e f = ap Label (omega (arith, ltb-false a b e, ltb-false b a f))
+same_unless (Label a) (Address b) exact e f = absurd (false≢true (sym e))
+same_unless (Address a) (Label b) exact e f = absurd (false≢true (sym f))
+same_unless (Address a) (Address b) exact e f = ap Address (omega (arith, ltb-false a b e, ltb-false b a f))
 
 -- each line's key is below those of the lines after it
 pub head_below : (x : GraphLine) (lines : List GraphLine) → is_rising key_below (map key_of (x ∷ lines)) ≡ true → (i : ℕ) (y : GraphLine) → slice_get lines i ≡ Some y → key_below (key_of x) (key_of y) ≡ true
@@ -124,6 +151,7 @@ pub line_at-with : (lines : List GraphLine) (a : ℕ) → line_at lines a ≡ li
 unfolding line_at line_with
 line_at-with [] a = refl
 line_at-with (Calls numbers ∷ lines) a = line_at-with lines a
+line_at-with (Leaf from to ∷ lines) a = line_at-with lines a
 line_at-with (Class sort label targets ∷ lines) a = line_at-with lines a
 line_at-with (Site address kind label ∷ lines) a = ap (λ w. if address == a then Some (Site address kind label) else w) (line_at-with lines a)
 line_at-with (Edge from to ∷ lines) a = ap (λ w. if from == a then Some (Edge from to) else w) (line_at-with lines a)
@@ -144,6 +172,7 @@ pub class_with-with : (lines : List GraphLine) (l : ℕ) → class_with lines l 
 unfolding class_with line_with
 class_with-with [] l = refl
 class_with-with (Calls numbers ∷ lines) l = class_with-with lines l
+class_with-with (Leaf from to ∷ lines) l = class_with-with lines l
 class_with-with (Class sort label targets ∷ lines) l = class_or sort label targets (Class sort label targets) lines l refl refl (class_with-with lines l)
 class_with-with (Site address kind label ∷ lines) l = class_with-with lines l
 class_with-with (Edge from to ∷ lines) l = class_with-with lines l

@@ -11,7 +11,7 @@ use Rattle.rv_word.specs.MemoryMap.{CODE_START, IsProfile, Profile}
 use Rattle.rv_word.proofs.Cases.{cases_Option}
 use Rattle.rv_word.proofs.Versions.{LaidOut, laid_out}
 use Rattle.cfi_graph.specs.declared.line.GraphLine.{GraphLine}
-use Rattle.cfi_graph.specs.declared.line.GraphLine.TheVariants.{Calls, Class, Site, Edge, Call}
+use Rattle.cfi_graph.specs.declared.line.GraphLine.TheVariants.{Calls, Leaf, Class, Site, Edge, Call}
 use Rattle.cfi_graph.specs.declared.line.Key.TheVariants.{Address}
 use Rattle.cfi_graph.specs.declared.line.SiteKind.{SiteKind}
 use Rattle.cfi_graph.specs.Graph.{ClassLine, IsGraph, class_in, fits_version, is_code_address, is_label, is_rising, key_below, key_of, line_in_range, targets_rise}
@@ -60,11 +60,8 @@ passes test edge call site a None None None line e = absurd (cc)
 flat : (u : U.Unit) (a : ℕ) (line : GraphLine) → line_of a u ≡ Some line → targets_rise line ≡ true
 flat u a = passes targets_rise (λ from to. refl) (λ from to. refl) (λ a kind label. refl) a (edge_of (body u)) (call_of (body u)) (site_of (body u))
 
-abbrev is_of : GraphVersion → GraphLine → Bool
-is_of version line = fits_version version (class_in line)
-
-of_each : (version : GraphVersion) (u : U.Unit) (a : ℕ) (line : GraphLine) → line_of a u ≡ Some line → is_of version line ≡ true
-of_each version u a = passes (is_of version) (λ from to. refl) (λ from to. refl) (λ a kind label. refl) a (edge_of (body u)) (call_of (body u)) (site_of (body u))
+of_each : (version : GraphVersion) (u : U.Unit) (a : ℕ) (line : GraphLine) → line_of a u ≡ Some line → fits_version version line ≡ true
+of_each version u a = passes (fits_version version) (λ from to. refl) (λ from to. refl) (λ a kind label. refl) a (edge_of (body u)) (call_of (body u)) (site_of (body u))
 
 -- the lines' addresses rise
 abbrev keys_above : ℕ → List GraphLine → Bool
@@ -88,6 +85,7 @@ lines_rise (u ∷ us) bound at below =
 -- heads come before what has an address
 head_below : (line : GraphLine) (a : ℕ) → is_head line ≡ true → key_below (key_of line) (Address a) ≡ true
 head_below (Calls numbers) a head = refl
+head_below (Leaf from to) a head = refl
 head_below (Class sort label targets) a head = refl
 head_below (Site address kind label) a head = absurd (cc)
 head_below (Edge from to) a head = absurd (cc)
@@ -179,10 +177,10 @@ module _ (p : Profile) (profile : IsProfile p) (version : GraphVersion) (entry :
       (λ asked wants. class_label size heads asked.label graph.range (some_class heads asked.kind asked.which asked.label (sound.labels a u asked here wants))) is) in
       let flats : list_all targets_rise (lines_from p.units_from us) ≡ true =
       all_lines targets_rise us p.units_from (λ a u line here is. flat u a line is) in
-      let ofs : list_all (is_of version) (lines_from p.units_from us) ≡ true =
-      all_lines (is_of version) us p.units_from (λ a u line here is. of_each version u a line is) in
+      let ofs : list_all (fits_version version) (lines_from p.units_from us) ≡ true =
+      all_lines (fits_version version) us p.units_from (λ a u line here is. of_each version u a line is) in
       record {
-        sorts = list_all-append (is_of version) heads rest ∙ and_from (list_all (is_of version) heads) (list_all (is_of version) rest) graph.sorts ofs;
+        sorts = list_all-append (fits_version version) heads rest ∙ and_from (list_all (fits_version version) heads) (list_all (fits_version version) rest) graph.sorts ofs;
         length = graph.length;
         range = list_all-append (line_in_range size) heads rest
             ∙ and_from (list_all (line_in_range size) heads) (list_all (line_in_range size) rest) graph.range

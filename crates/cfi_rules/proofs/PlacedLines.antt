@@ -5,7 +5,7 @@ use Rattle.std.specs.Prelude.{Option, IsTrue, ◌&&◌, option_and_then, slice_g
 use Rattle.std.specs.List.{list_all, list_any}
 use Rattle.std.proofs.lemmas.Bool.{and_parts, cases_Bool, cases_eq, eq-eqb, ne_eqb, or_from}
 use Rattle.cfi_graph.specs.declared.line.GraphLine.{GraphLine}
-use Rattle.cfi_graph.specs.declared.line.GraphLine.TheVariants.{Calls, Class, Site, Edge, Call}
+use Rattle.cfi_graph.specs.declared.line.GraphLine.TheVariants.{Calls, Leaf, Class, Site, Edge, Call}
 use Rattle.cfi_graph.specs.Graph.{ClassLine, calls_in, class_in}
 use Rattle.cfi_unit.specs.declared.unit.Unit as U
 use Rattle.cfi_unit.specs.declared.place.Place.TheVariants.{Body as body}
@@ -57,6 +57,7 @@ line_in (u ∷ us) at a =
 -- heads stand at no address
 head_stands : (line : GraphLine) (a : ℕ) → is_head line ≡ true → stands_at a line ≡ false
 head_stands (Calls numbers) a head = refl
+head_stands (Leaf from to) a head = refl
 head_stands (Class sort label targets) a head = refl
 head_stands (Site address kind label) a head = absurd (cc)
 head_stands (Edge from to) a head = absurd (cc)
@@ -73,6 +74,7 @@ line_past (line ∷ heads) rest a all =
 pub calls_before : (heads rest : List GraphLine) → calls_in rest ≡ None → calls_in (heads ++ rest) ≡ calls_in heads
 calls_before [] rest none = none
 calls_before (Calls numbers ∷ heads) rest none = refl
+calls_before (Leaf from to ∷ heads) rest none = refl
 calls_before (Class sort label targets ∷ heads) rest none = refl
 calls_before (Site address kind label ∷ heads) rest none = refl
 calls_before (Edge from to ∷ heads) rest none = refl

@@ -7,7 +7,7 @@ use Rattle.cfi_graph.specs.declared.line.SiteKind.TheVariants as K
 use Rattle.cfi_graph.specs.declared.line.Sort.{Sort}
 use Rattle.cfi_graph.specs.declared.line.Sort.TheVariants.{Both, Calls, Jumps}
 use Rattle.cfi_graph.specs.declared.line.Key.{Key}
-use Rattle.cfi_graph.specs.declared.line.Key.TheVariants.{Head, Label, Address}
+use Rattle.cfi_graph.specs.declared.line.Key.TheVariants.{Head, Range, Label, Address}
 use Rattle.cfi_graph.specs.Graph.{ClassLine, class_in, key_of}
 use Rattle.cfi_unit.specs.declared.target_word.TargetWord.{TargetWord}
 use Rattle.cfi_unit.specs.declared.target_word.TargetWord.TheVariants.{First, Second, Third}
@@ -17,7 +17,7 @@ abbrev pub holds_of : {A : Type 0} → Option A → (A → Bool) → Bool
 holds_of None test = false
 holds_of (Some x) test = test x
 
--- a line stands at an address: its first one, for all lines but a class's and that of system calls
+-- a line stands at an address: its first one, where it is a site, an edge or a call
 abbrev pub stands_at : ℕ → GraphLine → Bool
 stands_at a (Site address kind label) = address == a
 stands_at a (Edge from to) = from == a
@@ -76,9 +76,15 @@ is_beside class a = not (is_word_of (read_of class.sort) a class.targets)
 -- two keys are the same
 abbrev pub same_key : Key → Key → Bool
 same_key Head Head = true
+same_key (Range a b) (Range c d) = a == c && b == d
 same_key (Label k) (Label l) = k == l
 same_key (Address a) (Address b) = a == b
 same_key key other = false
+
+-- a key is a leaf's range
+abbrev pub is_range : Key → Bool
+is_range (Range a b) = true
+is_range key = false
 
 -- the line with a key
 unfoldable pub line_with : List GraphLine → Key → Option GraphLine

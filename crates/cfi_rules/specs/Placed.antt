@@ -4,7 +4,7 @@ use Rattle.std.specs.Prelude.{ℕ, Bool, true, IsTrue, List, [], ◌∷◌, ◌+
 use Rattle.rv_word.specs.MemoryMap.{Profile}
 use Rattle.rv_code.specs.Encode.{code_of}
 use Rattle.cfi_graph.specs.declared.line.GraphLine.{GraphLine}
-use Rattle.cfi_graph.specs.declared.line.GraphLine.TheVariants.{Calls, Site, Edge, Call}
+use Rattle.cfi_graph.specs.declared.line.GraphLine.TheVariants.{Calls, Leaf, Site, Edge, Call}
 use Rattle.cfi_graph.specs.Graph.{is_class}
 use Rattle.cfi_unit.specs.declared.unit.Unit as U
 use Rattle.cfi_unit.specs.declared.place.Place.TheVariants.{Body as body}
@@ -53,9 +53,10 @@ lines_from at (unit ∷ units) = with_line (line_of at unit) (lines_from (after_
 abbrev pub placed_code : Profile → ℕ → List U.Unit → List ℕ
 placed_code p entry units = map code_of (prologue_instrs p entry) ++ code_from p.units_from units
 
--- the lines that come before those with an address: that of system calls, and those of classes
+-- the lines that come before those of units: that of system calls, those of leaves, and those of classes
 abbrev pub is_head : GraphLine → Bool
 is_head (Calls ns) = true
+is_head (Leaf from to) = true
 is_head line = is_class line
 
 -- and its lines: those without an address, the opening's call, those of the units

@@ -3,7 +3,7 @@
 use Rattle.std.specs.Prelude.{◌≡◌, ◌≢◌, ℕ, ◌+◌, ◌-◌, ◌*◌, ◌/◌, ◌%◌, ◌<◌, ◌==◌, nat_lt, nat_le, ◌&&◌, ◌||◌, not, Bool, true, false, List, length, map, slice_get, slice_index, Option, Some, None, is_some, option_and_then, if◌then◌else◌}
 use Rattle.std.specs.List.{list_any}
 use Rattle.rv_word.specs.declared.version.GraphVersion.{GraphVersion}
-use Rattle.rv_word.specs.declared.version.GraphVersion.TheVariants.{OneLabel, TwoLabels}
+use Rattle.rv_word.specs.declared.version.GraphVersion.TheVariants.{OneLabel, TwoLabels, CalleeSaves}
 use Rattle.rv_word.specs.MemoryMap.{CODE_START, Profile, lies_within}
 use Rattle.rv_word.specs.Image.{Contents}
 use Rattle.rv_word.specs.Numbers.{are_same}
@@ -143,6 +143,7 @@ fails_prologue p words a =
 abbrev pub jump_word : GraphVersion → TargetWord
 jump_word OneLabel = First
 jump_word TwoLabels = Second
+jump_word CalleeSaves = Second
 
 abbrev pub same_word : TargetWord → TargetWord → Bool
 same_word First First = true

@@ -23,6 +23,6 @@ pub fn jump_word(version: GraphVersion) -> TargetWord
 {
     match version {
         GraphVersion::OneLabel => TargetWord::First,
-        GraphVersion::TwoLabels => TargetWord::Second,
+        GraphVersion::TwoLabels | GraphVersion::CalleeSaves => TargetWord::Second,
     }
 }

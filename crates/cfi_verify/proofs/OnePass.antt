@@ -9,7 +9,7 @@ use Rattle.rv_word.proofs.Cases.{cases_Option}
 use Rattle.rv_word.specs.MemoryMap.{CODE_START, Profile, START}
 use Rattle.rv_word.proofs.Versions.{LaidOut}
 use Rattle.cfi_graph.specs.declared.line.GraphLine.{GraphLine}
-use Rattle.cfi_graph.specs.declared.line.GraphLine.TheVariants.{Calls, Class, Site, Edge, Call}
+use Rattle.cfi_graph.specs.declared.line.GraphLine.TheVariants.{Calls, Leaf, Class, Site, Edge, Call}
 use Rattle.cfi_graph.specs.declared.line.Key.TheVariants.{Address}
 use Rattle.cfi_graph.specs.Graph.{GraphParts, IsGraph, calls_in, is_rising, key_below, key_of}
 use Rattle.cfi_graph.proofs.Rising.{key_transitive}
@@ -83,6 +83,7 @@ module _ (p : Profile) (laid : LaidOut p) where
   -- only classes have targets
   pub no_class : (t : Listed) (line : GraphLine) (a : ℕ) → key_of line ≡ Address a → HasGates t line
   no_class t (Calls numbers) a key = absurd (cc)
+  no_class t (Leaf from to) a key = absurd (cc)
   no_class t (Class sort label targets) a key = absurd (cc)
   no_class t (Site address kind label) a key = λ b. refl
   no_class t (Edge from to) a key = λ b. refl

@@ -6,7 +6,7 @@ use Rattle.std.proofs.lemmas.Bool.{and_parts, or_cases, cases_Bool, false_from_n
 use Rattle.rv_word.specs.MemoryMap.{CODE_START, Profile, START}
 use Rattle.rv_word.proofs.Versions.{LaidOut}
 use Rattle.cfi_graph.specs.declared.line.GraphLine.{GraphLine}
-use Rattle.cfi_graph.specs.declared.line.GraphLine.TheVariants.{Calls, Class, Site, Edge, Call}
+use Rattle.cfi_graph.specs.declared.line.GraphLine.TheVariants.{Calls, Leaf, Class, Site, Edge, Call}
 use Rattle.cfi_graph.specs.Graph.{GraphParts, IsGraph, is_code_address, line_in_range}
 use Rattle.cfi_unit.specs.declared.unit.Unit as U
 use Rattle.cfi_unit.specs.declared.place.Place.{Place}
@@ -33,6 +33,7 @@ pub line_in : (len : ℕ) (lines : List GraphLine) (a : ℕ) (line : GraphLine) 
 unfolding line_at
 line_in len [] a line r e = absurd (false≢true (ap is_some e))
 line_in len (Calls numbers ∷ lines) a line r e = line_in len lines a line (and_parts _ _ r).1 e
+line_in len (Leaf from to ∷ lines) a line r e = line_in len lines a line (and_parts _ _ r).1 e
 line_in len (Class sort label targets ∷ lines) a line r e = line_in len lines a line (and_parts _ _ r).1 e
 line_in len (Site address kind label ∷ lines) a line r e =
     elim (cases_Bool (address == a)) [

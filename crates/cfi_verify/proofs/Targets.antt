@@ -9,7 +9,7 @@ use Rattle.std.proofs.lemmas.Option.{none-some, same_Some}
 use Rattle.rv_word.proofs.Cases.{cases_Option}
 use Rattle.std.proofs.lemmas.List.Sorted.{searched}
 use Rattle.cfi_graph.specs.declared.line.GraphLine.{GraphLine}
-use Rattle.cfi_graph.specs.declared.line.GraphLine.TheVariants.{Calls, Class, Site, Edge, Call}
+use Rattle.cfi_graph.specs.declared.line.GraphLine.TheVariants.{Calls, Leaf, Class, Site, Edge, Call}
 use Rattle.cfi_graph.specs.declared.line.SiteKind.{SiteKind}
 use Rattle.cfi_graph.specs.Graph.{ClassLine, class_in, is_rising, targets_rise}
 use Rattle.cfi_unit.specs.declared.target_word.TargetWord.{TargetWord}
@@ -20,6 +20,7 @@ rises_in found class r e = ap (λ (c : ClassLine). is_rising nat_lt c.targets) (
 
 line_rises : (line : GraphLine) (class : ClassLine) → targets_rise line ≡ true → class_in line ≡ Some class → is_rising nat_lt class.targets ≡ true
 line_rises (Calls numbers) class r e = absurd (none-some class e)
+line_rises (Leaf from to) class r e = absurd (none-some class e)
 line_rises (Class sort label members) class r e = rises_in (record { sort = sort; label = label; targets = members }) class r e
 line_rises (Site address kind label) class r e = absurd (none-some class e)
 line_rises (Edge from to) class r e = absurd (none-some class e)

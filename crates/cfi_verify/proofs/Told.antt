@@ -9,7 +9,7 @@ use Rattle.rv_word.specs.MemoryMap.{CODE_START, Profile, lies_within, START}
 use Rattle.rv_word.proofs.Versions.{LaidOut}
 use Rattle.rv_code.specs.Decode.{decoded}
 use Rattle.cfi_graph.specs.declared.line.GraphLine.{GraphLine}
-use Rattle.cfi_graph.specs.declared.line.GraphLine.TheVariants.{Calls, Class, Site, Edge, Call}
+use Rattle.cfi_graph.specs.declared.line.GraphLine.TheVariants.{Calls, Leaf, Class, Site, Edge, Call}
 use Rattle.cfi_graph.specs.Graph.{ClassLine, GraphParts, calls_in, class_in}
 use Rattle.cfi_unit.specs.declared.mask.Mask.TheVariants.{Shifts, Short, Long}
 use Rattle.cfi_unit.specs.declared.target_word.TargetWord.{TargetWord}
@@ -416,6 +416,7 @@ module _ (p : Profile) (laid : LaidOut p) where
 
     unused_told : (a : ℕ) (line : GraphLine) → is_unused (place_at p words a) line ≡ is_unused_at p t a line
     unused_told a (Calls numbers) = refl
+    unused_told a (Leaf from to) = refl
     unused_told a (Class sort label targets) = refl
     unused_told a (Site address kind label) = refl
     unused_told a (Edge from to) = ap (λ o. not (is_some o)) (edge_told a)
@@ -423,6 +424,7 @@ module _ (p : Profile) (laid : LaidOut p) where
 
     lone_told : (a : ℕ) (line : GraphLine) → is_lone_site (place_at p words a) line ≡ is_lone_at p t a line
     lone_told a (Calls numbers) = refl
+    lone_told a (Leaf from to) = refl
     lone_told a (Class sort label targets) = refl
     lone_told a (Site address kind label) = ap (λ o. not (is_some o)) (site_told a)
     lone_told a (Edge from to) = refl

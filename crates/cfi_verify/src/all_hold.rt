@@ -126,7 +126,7 @@ impl<'a> Starts<'a> {
             GraphLine::Site(..) => {
                 !self.is_barred(address) && !self.fails_site_with(address, Some(line))
             }
-            GraphLine::Calls(_) | GraphLine::Class(..) => false,
+            GraphLine::Calls(_) | GraphLine::Leaf(..) | GraphLine::Class(..) => false,
         }
     }
 

@@ -1,18 +1,19 @@
 //! Look-ups among a graph's lines.
 
-ghost use Rattle.std.specs.Prelude.{◌≡◌, ◌-◌, ◌&&◌, IfSome, IsTrue, map, nat_le, nat_lt};
+ghost use Rattle.std.specs.Prelude.{◌≡◌, ◌-◌, ◌&&◌, IfSome, IsTrue, false, map, nat_le, nat_lt};
 ghost use Rattle.std.specs.List.{list_all};
 ghost use Rattle.std.specs.Option.{option_copied};
 ghost use Rattle.cfi_graph.specs.Graph.{is_rising, key_below, key_of, targets_rise};
-ghost use Rattle.cfi_rules.specs.Lines.{class_with, is_among, is_beside, line_at, line_with, read_of, serves, targets_for};
+ghost use Rattle.cfi_rules.specs.Lines.{class_with, is_among, is_beside, is_range, line_at, line_with, read_of, serves, targets_for};
 
 use cfi_graph::{Class, Graph, GraphLine, Key, SiteKind, Sort};
 use cfi_rules::Asks;
 use cfi_unit::TargetWord;
 
-/// The line with a key, if there is one: keys rise, so its place is halved in.
+/// The line with a key that is no range, if there is one: keys rise, so its place is halved in.
 pub(crate) fn line_with(graph: &Graph, key: Key) -> Option<&GraphLine>
-    requires { IsTrue (is_rising key_below (map key_of graph.now.lines)) }
+    requires exact { is_range key ≡ false }
+    requires ordered { IsTrue (is_rising key_below (map key_of graph.now.lines)) }
     ensures { option_copied result ≡ line_with graph.now.lines key }
 {
     let mut low = 0;

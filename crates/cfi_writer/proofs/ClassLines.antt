@@ -124,13 +124,13 @@ served_by lines kind which label class is serving =
 
 -- each line is one of the version whose sorts the classes have
 pub lines_of_version : (version : GraphVersion) (gates labels : List ℕ) (ts : List Tagged) → ((j : ℕ) (t : Tagged) → slice_get ts j ≡ Some t → is_sort_of version t.sort ≡ true) →
-    list_all (λ line. fits_version version (class_in line)) (class_lines gates labels ts) ≡ true
+    list_all (fits_version version) (class_lines gates labels ts) ≡ true
 unfolding class_lines
 lines_of_version version gates [] [] of = refl
 lines_of_version version gates (l ∷ labels) [] of = refl
 lines_of_version version gates [] (t ∷ ts) of = refl
 lines_of_version version gates (l ∷ labels) (t ∷ ts) of =
-    and_from (fits_version version (class_in (Class t.sort l (map (slice_index gates) t.class)))) (list_all (λ line. fits_version version (class_in line)) (class_lines gates labels ts))
+    and_from (fits_version version (Class t.sort l (map (slice_index gates) t.class))) (list_all (fits_version version) (class_lines gates labels ts))
     (of 0 t refl) (lines_of_version version gates labels ts (λ j c get. of (suc j) c get))
 
 -- lines of classes are a graph's: labels and addresses are in range, targets and labels rise

@@ -6,7 +6,7 @@ use Rattle.std.proofs.lemmas.Bool.{and_from, and_parts}
 use Rattle.rv_word.specs.declared.version.GraphVersion.{GraphVersion}
 use Rattle.cfi_graph.specs.Calls.{may_be_calls}
 use Rattle.cfi_graph.specs.declared.line.GraphLine.{GraphLine}
-use Rattle.cfi_graph.specs.declared.line.GraphLine.TheVariants.{Calls, Class}
+use Rattle.cfi_graph.specs.declared.line.GraphLine.TheVariants.{Calls, Leaf, Class}
 use Rattle.cfi_graph.specs.declared.line.Key.TheVariants.{Head}
 use Rattle.cfi_graph.specs.declared.line.SiteKind.{SiteKind}
 use Rattle.cfi_graph.specs.Graph.{ClassLine, IsGraph, are_calls, calls_in, class_in, is_class, is_rising, key_below, key_of, line_in_range, targets_rise}
@@ -48,6 +48,7 @@ heads_class m j class e = call_class m.layout.closed.calls (written_classes m) j
 -- lines of classes and of system calls are heads
 class_head : (line : GraphLine) → is_class line ≡ true → is_head line ≡ true
 class_head (Calls numbers) e = refl
+class_head (Leaf from to) e = refl
 class_head other e = e
 
 classes_head : (lines : List GraphLine) → list_all is_class lines ≡ true → list_all is_head lines ≡ true

@@ -6,7 +6,7 @@ use Rattle.std.proofs.lemmas.Bool.{cases_Bool, eqb-true, or_cases, or_left, or_r
 use Rattle.std.proofs.lemmas.List.{length-map}
 use Rattle.std.proofs.lemmas.Option.{get_or_from_slice_get, same_Some, slice_get-get_or, slice_get-map, slice_get_within}
 use Rattle.rv_word.specs.declared.version.GraphVersion.{GraphVersion}
-use Rattle.rv_word.specs.declared.version.GraphVersion.TheVariants.{OneLabel, TwoLabels}
+use Rattle.rv_word.specs.declared.version.GraphVersion.TheVariants.{OneLabel, TwoLabels, CalleeSaves}
 use Rattle.rv_word.proofs.Cases.{mapped}
 use Rattle.cfi_class.specs.Classes.{IsIn, has}
 use Rattle.cfi_graph.specs.declared.line.Sort.{Sort}
@@ -209,13 +209,14 @@ two_sorts P calls jumps (suc zero) sort e = subst (P 1) (same_Some Jumps sort e)
 two_sorts P calls jumps (suc (suc j)) sort e = absurd (cc)
 
 -- what holds of each sort of a version
-pub each_sort : (P : GraphVersion → ℕ → Sort → Type 0) → P OneLabel 0 Both → P TwoLabels 0 Calls → P TwoLabels 1 Jumps →
+pub each_sort : (P : GraphVersion → ℕ → Sort → Type 0) → P OneLabel 0 Both → P TwoLabels 0 Calls → P TwoLabels 1 Jumps → P CalleeSaves 0 Calls → P CalleeSaves 1 Jumps →
     (version : GraphVersion) (j : ℕ) (sort : Sort) → slice_get (sorts_of version) j ≡ Some sort → P version j sort
-each_sort P both calls jumps OneLabel j sort e = one_sort (P OneLabel) both j sort e
-each_sort P both calls jumps TwoLabels j sort e = two_sorts (P TwoLabels) calls jumps j sort e
+each_sort P both calls jumps saved_calls saved_jumps OneLabel j sort e = one_sort (P OneLabel) both j sort e
+each_sort P both calls jumps saved_calls saved_jumps TwoLabels j sort e = two_sorts (P TwoLabels) calls jumps j sort e
+each_sort P both calls jumps saved_calls saved_jumps CalleeSaves j sort e = two_sorts (P CalleeSaves) saved_calls saved_jumps j sort e
 
 sort_word : (version : GraphVersion) (j : ℕ) (sort : Sort) → slice_get (sorts_of version) j ≡ Some sort → past (read_of sort) ≡ 4 * j
-sort_word = each_sort (λ version j sort. past (read_of sort) ≡ 4 * j) refl refl refl
+sort_word = each_sort (λ version j sort. past (read_of sort) ≡ 4 * j) refl refl refl refl refl
 
 reads_first : (kind : SiteKind) → word_read First kind ≡ First
 reads_first kinds.Call = refl
@@ -233,10 +234,11 @@ sort_serves : (version : GraphVersion) (j : ℕ) (sort : Sort) (kind : SiteKind)
     serves sort kind (word_read (jump_word version) kind) ≡ true
 sort_serves version j sort kind =
     each_sort (λ version j sort. is_of sort kind ≡ true → serves sort kind (word_read (jump_word version) kind) ≡ true)
-    (λ of. ap (serves Both kind) (reads_first kind)) (calls_serve kind) (jumps_serve kind) version j sort
+    (λ of. ap (serves Both kind) (reads_first kind)) (calls_serve kind) (jumps_serve kind)
+    (calls_serve kind) (jumps_serve kind) version j sort
 
 pub sort_fits : (version : GraphVersion) (j : ℕ) (sort : Sort) → slice_get (sorts_of version) j ≡ Some sort → is_sort_of version sort ≡ true
-sort_fits = each_sort (λ version j sort. is_sort_of version sort ≡ true) refl refl refl
+sort_fits = each_sort (λ version j sort. is_sort_of version sort ≡ true) refl refl refl refl refl
 
 -- the sort of a side is the version's
 pub sort_get : (version : GraphVersion) (sides : List Side) → map (λ (s : Side). s.sort) sides ≡ sorts_of version → (j : ℕ) (side : Side) → slice_get sides j ≡ Some side →

@@ -7,7 +7,7 @@ use Rattle.std.proofs.lemmas.List.Elements.{All-contains}
 use Rattle.std.proofs.lemmas.List.Quantifiers.{position-Some}
 use Rattle.std.proofs.lemmas.Option.{get_or_from_slice_get, same_Some, slice_get-get_or, slice_get-map, slice_get_within}
 use Rattle.rv_word.specs.declared.version.GraphVersion.{GraphVersion}
-use Rattle.rv_word.specs.declared.version.GraphVersion.TheVariants.{OneLabel, TwoLabels}
+use Rattle.rv_word.specs.declared.version.GraphVersion.TheVariants.{OneLabel, TwoLabels, CalleeSaves}
 use Rattle.rv_word.proofs.Cases.{mapped}
 use Rattle.obj_program.specs.Program.{Program, count, item_of}
 use Rattle.cfi_graph.specs.declared.line.SiteKind.{SiteKind}
@@ -89,27 +89,32 @@ side_for : GraphVersion → SiteKind → ℕ
 side_for OneLabel kind = 0
 side_for TwoLabels kinds.Call = 0
 side_for TwoLabels kinds.Jump = 1
+side_for CalleeSaves kinds.Call = 0
+side_for CalleeSaves kinds.Jump = 1
 
-calls_are : (kind : SiteKind) → is_of Calls kind ≡ true → 0 ≡ side_for TwoLabels kind
+calls_are : (kind : SiteKind) → is_of Calls kind ≡ true → (0 ≡ side_for TwoLabels kind) × (0 ≡ side_for CalleeSaves kind)
 unfolding side_for
-calls_are kinds.Call e = refl
+calls_are kinds.Call e = (refl, refl)
 calls_are kinds.Jump e = absurd (cc)
 
-jumps_are : (kind : SiteKind) → is_of Jumps kind ≡ true → 1 ≡ side_for TwoLabels kind
+jumps_are : (kind : SiteKind) → is_of Jumps kind ≡ true → (1 ≡ side_for TwoLabels kind) × (1 ≡ side_for CalleeSaves kind)
 unfolding side_for
-jumps_are kinds.Jump e = refl
+jumps_are kinds.Jump e = (refl, refl)
 jumps_are kinds.Call e = absurd (cc)
 
 no_other : (version : GraphVersion) (kind : SiteKind) (i : ℕ) (sort : Sort) → slice_get (sorts_of version) i ≡ Some sort → is_of sort kind ≡ true → i ≡ side_for version kind
 unfolding side_for
 no_other version kind =
-    each_sort (λ version i sort. is_of sort kind ≡ true → i ≡ side_for version kind) (λ e. refl) (calls_are kind) (jumps_are kind) version
+    each_sort (λ version i sort. is_of sort kind ≡ true → i ≡ side_for version kind) (λ e. refl)
+    (λ e. (calls_are kind e).0) (λ e. (jumps_are kind e).0) (λ e. (calls_are kind e).1) (λ e. (jumps_are kind e).1) version
 
 sort_for : (version : GraphVersion) (kind : SiteKind) → (sort : Sort) × (slice_get (sorts_of version) (side_for version kind) ≡ Some sort) × (is_of sort kind ≡ true)
 unfolding side_for
 sort_for OneLabel kind = (Both, refl, refl)
 sort_for TwoLabels kinds.Call = (Calls, refl, refl)
 sort_for TwoLabels kinds.Jump = (Jumps, refl, refl)
+sort_for CalleeSaves kinds.Call = (Calls, refl, refl)
+sort_for CalleeSaves kinds.Jump = (Jumps, refl, refl)
 
 -- of sides that are all closed
 module _ (program : Program) (policy : PolicyParts) (raw : RawGraph) (is : IsRaw program policy raw) (version : GraphVersion) (sides : List Side)

@@ -10,6 +10,11 @@ const SECOND: &[u8] = b"rvcfi-graph 1\ncode 40000000 00000104\n";
 /// The first two lines of a text of version 2.
 const SECOND_OF_2: &[u8] = b"rvcfi-graph 2\ncode 40000000 00000104\n";
 
+/// The first two lines of a text of version 3, and a list of system calls behind them.
+const SECOND_OF_3: &[u8] = b"rvcfi-graph 3\ncode 40000000 000000a0\n";
+
+const THIRD_OF_3: &[u8] = b"rvcfi-graph 3\ncode 40000000 000000a0\ncalls 64\n";
+
 /// The line from which a text is spelled, after the lines above that come first, the text from there on, with
 /// `/` for each newline, and what it is read as.
 const TEXTS: &[u8] = b"\
@@ -160,7 +165,8 @@ const TEXTS_OF_2: &[u8] = b"\
     from 1|rvcfi-graph 02/code 40000000 00000050/end/|line 1: Form\n\
     from 1|rvcfi-graph 12/code 40000000 00000050/end/|line 1: Form\n\
     from 1|rvcfi-graph 0/code 40000000 00000050/end/|line 1: Form\n\
-    from 1|rvcfi-graph 3/code 40000000 00000050/end/|line 1: Form\n\
+    from 1|rvcfi-graph 3/code 40000000 00000050/end/|a graph\n\
+    from 1|rvcfi-graph 4/code 40000000 00000050/end/|line 1: Form\n\
     from 1|rvcfi-graph 2 split/code 40000000 00000050/end/|line 1: Form\n\
     from 1|rvcfi-graph/code 40000000 00000050/end/|line 1: Form\n\
     from 1|rvcfi-map 2/code 40000000 00000050/end/|line 1: Form\n\
@@ -317,6 +323,8 @@ const TEXTS_OF_CALLS: &[u8] = b"\
 /// The lines of a text before the line from which it is spelled.
 fn head(name: &str) -> &'static [u8] {
     match name {
+        "3 from 4" => THIRD_OF_3,
+        "3 from 3" => SECOND_OF_3,
         "2 from 3" => SECOND_OF_2,
         "from 3" => SECOND,
         "from 2" => FIRST,
@@ -355,7 +363,7 @@ fn is_written_as(alloc: Global, graph: &Graph, text: &[u8]) -> bool {
 }
 
 /// Whether a row says what its text is read as.
-fn is_right(alloc: Global, row: &str) -> bool {
+pub(crate) fn is_right(alloc: Global, row: &str) -> bool {
     let Some((name, rest)) = row.split_once('|') else {
         return false;
     };
@@ -380,7 +388,7 @@ fn texts(rt: HostRuntime) {
 
 #[test]
 fn texts_of_version_2(rt: HostRuntime) {
-    for row in rows(TEXTS_OF_2, 91).lines() {
+    for row in rows(TEXTS_OF_2, 92).lines() {
         assert!(rt; is_right(rt.alloc(), row), "{row}");
     }
 }
@@ -539,7 +547,11 @@ fn made_of_a_class(alloc: Global) -> Result<Graph, NoMemory> {
 }
 
 /// Whether the graph that is made of its parts is written as its text.
-fn is_made_and_written(alloc: Global, graph: Result<Graph, NoMemory>, text: &[u8]) -> bool {
+pub(crate) fn is_made_and_written(
+    alloc: Global,
+    graph: Result<Graph, NoMemory>,
+    text: &[u8],
+) -> bool {
     match graph {
         Ok(graph) => is_written_as(alloc, &graph, text),
         Err(_) => false,

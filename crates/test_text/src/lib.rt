@@ -5,6 +5,8 @@
 #[cfg(test)]
 mod graph;
 #[cfg(test)]
+mod leaf;
+#[cfg(test)]
 mod lines;
 #[cfg(test)]
 mod map;

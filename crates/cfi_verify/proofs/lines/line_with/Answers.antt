@@ -9,7 +9,7 @@ loop-low-preserved-then-is_below c =
     record {
       within = c.loop-low.invariant.within;
       between = λ i x e k.
-          let later = after_middle _ _ _ _ c.requires c.line-line.ensures below i x e k in
+          let later = after_middle _ _ _ _ c.requires.ordered c.line-line.ensures below i x e k in
           let both = c.loop-low.invariant.between i x e k in
           (omega arith, both.1);
     }
@@ -20,7 +20,7 @@ loop-low-preserved c =
     record {
       within = omega arith;
       between = λ i x e k.
-          let earlier = before_middle _ _ _ _ c.requires c.line-line.ensures below i x e k in
+          let earlier = before_middle _ _ _ _ c.requires.ordered c.line-line.ensures below i x e k in
           let both = c.loop-low.invariant.between i x e k in
           (both.0, earlier);
     }
@@ -29,7 +29,7 @@ pub returns-else-is_below-2 : goal.returns-else-is_below-2
 returns-else-is_below-2 c =
     let not_below : key_below (key_of c.line-line.result.now) c.args.key ≡ false = cc in
     let not_above : key_below c.args.key (key_of c.line-line.result.now) ≡ false = cc in
-    sym (with_key _ _ c.requires _ _ c.line-line.ensures (same_unless _ _ not_below not_above))
+    sym (with_key _ _ c.requires.ordered _ _ c.line-line.ensures (same_unless _ _ c.requires.exact not_below not_above))
 
 pub returns : goal.returns
 returns c =
