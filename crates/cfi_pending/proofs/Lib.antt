@@ -1,0 +1,7 @@
+pub mod Saved
+pub mod Fresh
+pub mod Law
+pub mod LinkKept
+pub mod StartSteps
+pub mod Begins
+pub mod Worked

@@ -1,0 +1,4 @@
+pub mod Starts
+pub mod PendingLeads
+pub mod Laws
+pub mod StartLaw
