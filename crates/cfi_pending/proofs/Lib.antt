@@ -5,3 +5,4 @@ pub mod LinkKept
 pub mod StartSteps
 pub mod Begins
 pub mod Worked
+pub mod KindSteps

@@ -1,11 +1,14 @@
 -- A function's call from 40000050h to 40000074h, with the closing pending: it leaves its site in x1, from which the function saves it,
 -- or to which it returns if it calls nothing.
-use Rattle.std.proofs.Common.{◌≡◌, ℕ, true, false, [], ◌∷◌, inl, refl, arith}
+use Rattle.std.proofs.Common.{◌≡◌, ◌==◌, ℕ, true, false, List, [], ◌∷◌, Option, Some, None, inl, refl, arith}
+use Rattle.std.specs.Prelude.{if◌then◌else◌}
 use Rattle.rv_instr.specs.Registers.{Registers}
 use Rattle.rv_instr.specs.declared.instr.Instr.TheVariants.{Immediate}
 use Rattle.rv_instr.specs.declared.instr.ImmediateOp.TheVariants.{Addi}
+use Rattle.cfi_unit.specs.declared.unit.Unit as U
 use Rattle.cfi_unit.specs.declared.unit.Unit.TheVariants as V
 use Rattle.cfi_unit.specs.Leads.{Legal}
+use Rattle.cfi_pending.specs.Kinds.{Leaf, may_be_called, may_be_reached, stands_by, start_at}
 use Rattle.cfi_pending.specs.PendingLeads.{PendingLeads}
 use Rattle.cfi_pending.specs.Starts.{StandsBy, fresh, may_stand, next_start, saved}
 
@@ -51,3 +54,47 @@ writes_link = refl
 
 writes_other : may_stand fresh (V.Plain (Immediate Addi 10 1 0)) ≡ true
 writes_other = refl
+
+-- an entry with what jumps over its enter, one behind a gate, and a leaf
+abbrev units : ℕ → Option U.Unit
+units a =
+    if a == 0x4000002c then Some (V.Jump 0x40000044) else
+    if a == 0x40000030 then Some V.Enter else
+    if a == 0x40000074 then Some V.LeafReturn else
+    if a == 0x400000b8 then Some (V.Gate 1) else
+    if a == 0x400000bc then Some V.Enter else None
+
+abbrev leaves : List Leaf
+leaves = record { from = 0x40000074; to = 0x40000078 } ∷ []
+
+over_the_enter : start_at units leaves 0x4000002c ≡ saved
+over_the_enter = refl
+
+at_the_enter : start_at units leaves 0x40000030 ≡ fresh
+at_the_enter = refl
+
+in_the_leaf : start_at units leaves 0x40000074 ≡ fresh
+in_the_leaf = refl
+
+behind_the_leaf : start_at units leaves 0x40000078 ≡ saved
+behind_the_leaf = refl
+
+at_the_gate : start_at units leaves 0x400000b8 ≡ fresh
+at_the_gate = refl
+
+-- called are an enter and a leaf's first unit, reached from outside is neither
+called_leaf : may_be_called units leaves 0x40000074 ≡ true
+called_leaf = refl
+
+called_over : may_be_called units leaves 0x4000002c ≡ false
+called_over = refl
+
+reached_leaf : may_be_reached units leaves None 0x40000074 ≡ false
+reached_leaf = refl
+
+-- a gate is no unit of a leaf, and a leaf return none of anywhere else
+gate_in_leaf : stands_by (Some (record { from = 0x40000074; to = 0x40000078 })) (V.Gate 1) ≡ false
+gate_in_leaf = refl
+
+return_outside : stands_by None V.LeafReturn ≡ false
+return_outside = refl

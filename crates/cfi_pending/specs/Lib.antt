@@ -2,3 +2,5 @@ pub mod Starts
 pub mod PendingLeads
 pub mod Laws
 pub mod StartLaw
+pub mod Kinds
+pub mod KindLaws

@@ -1,4 +1,5 @@
 //! Each function states one law; nothing is computed.
+ghost use Rattle.cfi_pending.specs.KindLaws.{KindsAgree, MayStandThere, SitesAreSaved};
 ghost use Rattle.cfi_pending.specs.Laws.{PendingLaw};
 ghost use Rattle.cfi_pending.specs.StartLaw.{BodyBegins, StartLaw};
 
@@ -17,4 +18,19 @@ pub fn start_law()
 /// What a start has is what the law asks at the first word of a unit that may stand there.
 pub fn body_begins()
     ensures { BodyBegins }
+{}
+
+/// Where units meet what their kinds ask, each may stand at its start.
+pub fn may_stand_there()
+    ensures { MayStandThere }
+{}
+
+/// And where it leads directly stands a start of the kind that it is to lead to.
+pub fn kinds_agree()
+    ensures { KindsAgree }
+{}
+
+/// What a call comes back to is a saved start.
+pub fn sites_are_saved()
+    ensures { SitesAreSaved }
 {}
