@@ -6,3 +6,4 @@ pub mod StartSteps
 pub mod Begins
 pub mod Worked
 pub mod KindSteps
+pub mod OpeningSteps

@@ -1,7 +1,8 @@
 -- A function's call from 40000050h to 40000074h, with the closing pending: it leaves its site in x1, from which the function saves it,
 -- or to which it returns if it calls nothing.
-use Rattle.std.proofs.Common.{◌≡◌, ◌==◌, ℕ, true, false, List, [], ◌∷◌, Option, Some, None, inl, refl, arith}
+use Rattle.std.proofs.Common.{◌≡◌, ◌==◌, ℕ, true, false, List, [], ◌∷◌, map, Option, Some, None, inl, refl, arith}
 use Rattle.std.specs.Prelude.{if◌then◌else◌}
+use Rattle.rv_code.specs.Encode.{code_of}
 use Rattle.rv_instr.specs.Registers.{Registers}
 use Rattle.rv_instr.specs.declared.instr.Instr.TheVariants.{Immediate}
 use Rattle.rv_instr.specs.declared.instr.ImmediateOp.TheVariants.{Addi}
@@ -9,6 +10,7 @@ use Rattle.cfi_unit.specs.declared.unit.Unit as U
 use Rattle.cfi_unit.specs.declared.unit.Unit.TheVariants as V
 use Rattle.cfi_unit.specs.Leads.{Legal}
 use Rattle.cfi_pending.specs.Kinds.{Leaf, may_be_called, may_be_reached, stands_by, start_at}
+use Rattle.cfi_pending.specs.Opening.{set_up, site_of}
 use Rattle.cfi_pending.specs.PendingLeads.{PendingLeads}
 use Rattle.cfi_pending.specs.Starts.{StandsBy, fresh, may_stand, next_start, saved}
 
@@ -98,3 +100,17 @@ gate_in_leaf = refl
 
 return_outside : stands_by None V.LeafReturn ≡ false
 return_outside = refl
+
+-- the openings' words
+lone_words : map code_of (set_up false) ≡ 0x10000137 ∷ 0x10000237 ∷ 0xfff20213 ∷ 0x600001b7 ∷ 0x00818193 ∷ []
+lone_words = refl
+
+own_words : map code_of (set_up true)
+    ≡ 0x10000137 ∷ 0x10000237 ∷ 0xfff20213 ∷ 0x01451f93 ∷ 0x41f10133 ∷ 0x600001b7 ∷ 0x01051f93 ∷ 0x01f181b3 ∷ 0x00818193 ∷ []
+own_words = refl
+
+lone_site : site_of false ≡ 0x40000024
+lone_site = refl
+
+own_site : site_of true ≡ 0x40000034
+own_site = refl

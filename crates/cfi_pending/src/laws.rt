@@ -1,6 +1,7 @@
 //! Each function states one law; nothing is computed.
 ghost use Rattle.cfi_pending.specs.KindLaws.{KindsAgree, MayStandThere, SitesAreSaved};
 ghost use Rattle.cfi_pending.specs.Laws.{PendingLaw};
+ghost use Rattle.cfi_pending.specs.Opening.{OpeningLaw};
 ghost use Rattle.cfi_pending.specs.StartLaw.{BodyBegins, StartLaw};
 
 /// What a unit does to the shadow stack and to x1 is what it does to the pending sites: from a start at which it may stand, and where
@@ -33,4 +34,9 @@ pub fn kinds_agree()
 /// What a call comes back to is a saved start.
 pub fn sites_are_saved()
     ensures { SitesAreSaved }
+{}
+
+/// A step from any word of the opening stays in it, or calls the entry, which stands at a fresh start.
+pub fn opening_law()
+    ensures { OpeningLaw }
 {}
