@@ -103,10 +103,12 @@ return_outside = refl
 
 -- the openings' words
 lone_words : map code_of (set_up false) ≡ 0x10000137 ∷ 0x10000237 ∷ 0xfff20213 ∷ 0x600001b7 ∷ 0x00818193 ∷ []
+unfolding code_of
 lone_words = refl
 
 own_words : map code_of (set_up true)
     ≡ 0x10000137 ∷ 0x10000237 ∷ 0xfff20213 ∷ 0x01451f93 ∷ 0x41f10133 ∷ 0x600001b7 ∷ 0x01051f93 ∷ 0x01f181b3 ∷ 0x00818193 ∷ []
+unfolding code_of
 own_words = refl
 
 lone_site : site_of false ≡ 0x40000024
