@@ -27,7 +27,7 @@ import images
 import loading
 import running
 from made import is_the_tutorials
-from told import Told, ended
+from checks import Told, ended
 
 LIB, OUT, TESTS = HERE / "lib", HERE / "out", HERE / "tests"
 PAIRS = TESTS / "pairs"

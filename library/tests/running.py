@@ -13,7 +13,7 @@ import drawn
 from changed import recorded
 from loading import DOOR, EVENING, GREETED
 from runs import answer
-from told import ended
+from checks import ended
 
 
 class Runner:
