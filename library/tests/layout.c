@@ -13,6 +13,7 @@
 
 _Static_assert(sizeof(struct rvcfi_verdict) == 24, "rvcfi_verdict");
 _Static_assert(sizeof(struct rvcfi_image_plan) == 96, "rvcfi_image_plan");
+_Static_assert(RVCFI_CALLS_MOST == 8 && RVCFI_CALLS_GREATEST == 2047, "a list");
 IS_AT(rvcfi_verdict, outcome, 0);
 IS_AT(rvcfi_verdict, reason, 4);
 IS_AT(rvcfi_verdict, first, 8);
