@@ -3,9 +3,9 @@
 
     library/archive.py CRATE ARCHIVE [--target TRIPLE]
 
-Where the libraries below it stand in crates/*/out as `rt ci` proved and left them, and nothing that they are made of has changed since, CRATE
-alone is proved over them, as `rt ci` proves it: so in a fresh clone in which .ci/run runs. Else `rt lib` proves them all, and keeps
-its work. Printed is how, with the last line of the proof; where it fails all that it said, and the status is 1.
+Where the libraries below it stand in crates/*/out, as `rt ci` leaves those that it proved in a fresh clone, and nothing that they are made of
+has changed since, CRATE alone is proved over them, as `rt ci` proves it. Else `rt lib` proves them all, and keeps its work.
+Printed is how, with the last line of the proof; where it fails all that it said, and the status is 1.
 """
 
 import os
@@ -75,7 +75,7 @@ def proved(crate, command, how):
 
 def main(crate, archive, *words):
     uses, archive, own = stands_on(), Path(archive).resolve(), CRATES / crate / "out" / ("lib%s.a" % crate)
-    if are_left(below(crate, uses)) and proved(crate, [*build_over(crate, uses, words), "-o", str(archive)], "over what rt ci left"):
+    if are_left(below(crate, uses)) and proved(crate, [*build_over(crate, uses, words), "-o", str(archive)], "over built libraries"):
         return 0
     if not proved(crate, ["rt", "lib", *words], "by rt lib"):
         return 1
