@@ -91,10 +91,10 @@ def symbols(told, folder, machine):
 
 def header(machine):
     """The headers by themselves, in each standard."""
-    languages = [language for language in ("c", "c++") if machine.can("the header in " + language, [], language)]
-    for language, standard in (each for each in STANDARDS if each[0] in languages):
-        command = [machine.compiler, "-x", language, "-std=" + standard, *WARNINGS, "-Wshadow", "-Wconversion", FOLDERS[0], "-fsyntax-only"]
-        machine.told.ends_well(machine.named("the header as " + standard), command + [str(TESTS / "header.c")])
+    for language, standard in STANDARDS:
+        if machine.can("the headers as " + standard, ["-std=" + standard], language):
+            command = [machine.compiler, "-x", language, "-std=" + standard, *WARNINGS, "-Wshadow", "-Wconversion", FOLDERS[0], "-fsyntax-only"]
+            machine.told.ends_well(machine.named("the headers as " + standard), command + [str(TESTS / "header.c")])
 
 
 def each_way(machine, sanitizer, options, *more):
@@ -245,10 +245,16 @@ def runs(told, folder):
     running.run_all(told, command, folder, 200)
 
 
+def has_cargo():
+    """Whether there is a cargo that is not older than the crate's rust-version."""
+    version = shutil.which("cargo") and re.match(rb"cargo (\d+)\.(\d+)", ended(["cargo", "--version"])[1])
+    return bool(version) and tuple(map(int, version.groups())) >= (1, 77)
+
+
 def rust(told, folder):
     """The crate's tests, and its host on the plugin and a hostile copy of it."""
-    if not shutil.which("cargo"):
-        told.skip("the Rust crate", "there is no cargo")
+    if not has_cargo():
+        told.skip("the Rust crate", "there is no cargo from 1.77 on")
         return
     crate, options = HERE / "rust" / "rvcfi", dict(os.environ, CARGO_TARGET_DIR=str(OUT / "cargo"))
     status, out, err = ended(["cargo", "test", "--offline"], cwd=crate, env=options)
@@ -272,10 +278,16 @@ def compilers():
     return [name for name in ("gcc", "clang") if shutil.which(name)]
 
 
+def in_place():
+    """What a program runs under whose addresses are not drawn: at some of them older sanitizers stop."""
+    words = ["setarch", os.uname().machine, "-R"]
+    return words if shutil.which(words[0]) and ended(words + ["true"])[0] == 0 else []
+
+
 def natively(told, folder):
     """All that is compiled, by each compiler."""
     for name in compilers():
-        machine = Machine(told, folder, name)
+        machine = Machine(told, folder, name, runner=in_place())
         for test in header, memory, threads, stack, bare, arenas, links:
             test(machine)
         machine.test("layout", VISITORS + PLUGIN, standard="c11")
