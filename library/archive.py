@@ -64,7 +64,8 @@ def build_over(crate, uses, words):
 
 def proved(crate, command, how):
     """Runs a command in a crate's folder, and tells how it was proved; what it said where it was not."""
-    done = subprocess.run(command, cwd=CRATES / crate, stdin=subprocess.DEVNULL, stdout=subprocess.PIPE, stderr=subprocess.STDOUT, text=True)
+    channels = {"stdin": subprocess.DEVNULL, "stdout": subprocess.PIPE, "stderr": subprocess.STDOUT, "encoding": "utf-8", "errors": "replace"}
+    done = subprocess.run(command, cwd=CRATES / crate, **channels)
     lines = [line for line in done.stdout.splitlines() if line.startswith("logic=proved ")]
     if done.returncode == 0 and lines:
         print("%s, %s: %s" % (crate, how, lines[-1]))

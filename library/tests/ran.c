@@ -9,19 +9,20 @@
 
 #include <string.h>
 
-#define IS_AT(field, offset) _Static_assert(offsetof(struct rvcfi_run_result, field) == (offset), #field)
+#define IS_AT(field, offset, size) \
+    _Static_assert(offsetof(struct rvcfi_run_result, field) == (offset) && sizeof(((struct rvcfi_run_result *)0)->field) == (size), #field)
 
 _Static_assert(sizeof(struct rvcfi_run_result) == 64, "rvcfi_run_result");
-IS_AT(outcome, 0);
-IS_AT(reason, 4);
-IS_AT(first, 8);
-IS_AT(second, 16);
-IS_AT(stop, 24);
-IS_AT(hart, 28);
-IS_AT(value, 32);
-IS_AT(address, 40);
-IS_AT(steps, 48);
-IS_AT(written, 56);
+IS_AT(outcome, 0, 4);
+IS_AT(reason, 4, 4);
+IS_AT(first, 8, 8);
+IS_AT(second, 16, 8);
+IS_AT(stop, 24, 4);
+IS_AT(hart, 28, 4);
+IS_AT(value, 32, 8);
+IS_AT(address, 40, 8);
+IS_AT(steps, 48, 8);
+IS_AT(written, 56, 8);
 
 #define ROOM 24
 
