@@ -59,7 +59,7 @@ def build_over(crate, uses, words):
             *(word for name, library in passed.items() for word in ("--extern", "%s=%s" % (name, library))),
             *(word for folder in folders for word in ("-L", "dependency=%s" % folder)),
             "--antt-project", str(kit / "rattle" / "logic" / "antt-project.json"), "--logic-built", str(kit / "logic_built"),
-            "--toolchain", str(kit / "toolchain"), "--backend", "llvm", "--jobs", str(min(2, os.cpu_count())), *words]
+            "--toolchain", str(kit / "toolchain"), "--backend", "llvm", "--jobs", str(min(2, os.cpu_count() or 1)), *words]
 
 
 def proved(crate, command, how):
