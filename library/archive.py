@@ -75,6 +75,8 @@ def proved(crate, command, how):
 
 
 def main(crate, archive, *words):
+    if not shutil.which("rt"):
+        sys.exit("there is no rt, the kit's command: README.md, \"Build and test\"")
     uses, archive, own = stands_on(), Path(archive).resolve(), CRATES / crate / "out" / ("lib%s.a" % crate)
     if are_left(below(crate, uses)) and proved(crate, [*build_over(crate, uses, words), "-o", str(archive)], "over built libraries"):
         return 0
