@@ -1,26 +1,25 @@
 #!/bin/sh
 # Builds the library and its examples: library/build.sh
 #
-# In library/lib come librvcfi_c.a and librvcfi_run_c.a, which `rt lib` proves and builds in crates/rvcfi_c and rvcfi_run_c, and
-# librvcfi_heap.a, their memory over malloc (c/heap.c); in library/lib/aarch64 the same for aarch64, where aarch64-linux-gnu-gcc is there;
-# in library/out the examples ask, run and loader. CC names another compiler than cc. What is missing is told, and left out.
+# In library/lib come librvcfi_c.a and librvcfi_run_c.a, of crates/rvcfi_c and rvcfi_run_c, which archive.py proves, and librvcfi_heap.a,
+# their memory over malloc (c/heap.c); in library/lib/aarch64 the same for aarch64, where aarch64-linux-gnu-gcc is there; in
+# library/out the examples ask, run and loader. CC names another compiler than cc. What is missing is told, and left out.
 set -eu
 cd "$(dirname "$0")"
 cc=${CC:-cc}
 flags="-std=c99 -O2 -Wall -Wextra -pedantic -Iinclude"
+if ! command -v "$cc" >/dev/null; then
+    echo "not built, since there is no $cc: the library for C"
+    exit 0
+fi
 
-# archives FOLDER COMPILER ARCHIVER WORD ..: the archives, by `rt lib` with these words
+# archives FOLDER COMPILER ARCHIVER WORD ..: the archives, by archive.py with these words
 archives() {
     folder=$1 compiler=$2 archiver=$3
     shift 3
     mkdir -p "$folder"
     for crate in rvcfi_c rvcfi_run_c; do
-        (cd ../crates/$crate && rt lib "$@") >out/rt.txt 2>&1 || {
-            cat out/rt.txt
-            exit 1
-        }
-        grep '^logic=proved' out/rt.txt
-        cp "../crates/$crate/out/lib$crate.a" "$folder"
+        python3 archive.py "$crate" "$folder/lib$crate.a" "$@"
     done
     $compiler $flags -fPIC -c c/heap.c -o out/heap.o
     rm -f "$folder/librvcfi_heap.a"

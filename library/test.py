@@ -27,7 +27,7 @@ import images
 import loading
 import running
 from made import is_the_tutorials
-from told import Told, ended
+from checks import Told, ended
 
 LIB, OUT, TESTS = HERE / "lib", HERE / "out", HERE / "tests"
 PAIRS = TESTS / "pairs"
@@ -36,9 +36,9 @@ FOLDERS = ["-I%s" % (HERE / name) for name in ("include", "examples", "c", "test
 WARNINGS = ["-Wall", "-Wextra", "-pedantic", "-Werror"]
 MORE = ["-Wshadow", "-Wconversion", "-Wstrict-prototypes", "-Wmissing-prototypes", "-Wwrite-strings"]
 HELPERS = [HERE / "examples" / name for name in ("file.c", "words.c")]
-EXPORTS = {"rvcfi_calls", "rvcfi_plan", "rvcfi_verify"}
+FUNCTIONS = ["rvcfi_calls", "rvcfi_plan", "rvcfi_verify"]
 NEEDS = {"memcpy", "memset", "rattle_alloc", "rattle_dealloc", "rattle_realloc"}
-FUNCTIONS = sorted(EXPORTS)
+ARCHIVES = {"librvcfi_c.a": (set(FUNCTIONS), NEEDS), "librvcfi_run_c.a": ({"rvcfi_run"}, NEEDS | {"memmove"})}  # what they export and need
 STANDARDS = [("c", each) for each in ("c99", "c11", "c17")] + [("c++", each) for each in ("c++98", "c++11", "c++17", "c++20")]
 LINKS = [["-O0"], ["-O1"], ["-O3", "-flto"], ["-static"], ["-static-pie"], ["-Wl,--gc-sections"]]
 
@@ -63,7 +63,7 @@ class Machine:
     def built(self, name, sources, options=(), standard="c99", heap="librvcfi_heap.a"):
         """The command that runs a program of these files, or None where it does not compile."""
         path = self.folder / ("%s_%s" % (name, os.path.basename(self.compiler)))
-        archives = [self.archives / "librvcfi_c.a"] + ([self.archives / heap] if heap else [])
+        archives = [self.archives / each for each in [*ARCHIVES, *([heap] if heap else [])]]
         given = ["-std=" + standard, "-O2", *WARNINGS, *MORE, *FOLDERS, *options]
         command = [self.compiler, *given, *sources, *HELPERS, *archives, "-o", path]
         if self.told.ends_well(self.named("compiling %s" % " ".join([name, *options])), list(map(str, command))):
@@ -77,22 +77,24 @@ class Machine:
             self.told.ends_well(self.named("%s %s" % (name, " ".join(options))), command + list(map(str, words)))
 
 
-def symbols(told, path, archive):
-    """The exports of an archive, and what it needs."""
-    _, out, _ = ended(["nm", str(path)])
-    rows = [line.split() for line in out.decode().splitlines()]
-    told.same("the exports of " + archive, {row[-1] for row in rows if row[-2:-1] == ["T"]}, EXPORTS)
-    told.same("what %s needs" % archive, {row[-1] for row in rows if row[-2:-1] == ["U"]}, NEEDS)
-    kinds = {row[-2] for row in rows if len(row) > 1 and not row[-1].startswith("$")}  # (such a name marks a section for aarch64)
-    told.same("no data that may be written in " + archive, kinds & set("DdBbC"), set())
+def symbols(told, folder, machine):
+    """The exports of each archive, and what it needs."""
+    for name, (exports, needs) in ARCHIVES.items():
+        archive = "%s for %s" % (name, machine)
+        _, out, _ = ended(["nm", str(folder / name)])
+        rows = [line.split() for line in out.decode().splitlines()]
+        told.same("the exports of " + archive, {row[-1] for row in rows if row[-2:-1] == ["T"]}, exports)
+        told.same("what %s needs" % archive, {row[-1] for row in rows if row[-2:-1] == ["U"]}, needs)
+        kinds = {row[-2] for row in rows if len(row) > 1 and not row[-1].startswith("$")}  # (such a name marks a section for aarch64)
+        told.same("no data that may be written in " + archive, kinds & set("DdBbC"), set())
 
 
 def header(machine):
-    """The header by itself, in each standard."""
-    languages = [language for language in ("c", "c++") if machine.can("the header in " + language, [], language)]
-    for language, standard in (each for each in STANDARDS if each[0] in languages):
-        command = [machine.compiler, "-x", language, "-std=" + standard, *WARNINGS, "-Wshadow", "-Wconversion", FOLDERS[0], "-fsyntax-only"]
-        machine.told.ends_well(machine.named("the header as " + standard), command + [str(TESTS / "header.c")])
+    """The headers by themselves, in each standard."""
+    for language, standard in STANDARDS:
+        if machine.can("the headers as " + standard, ["-std=" + standard], language):
+            command = [machine.compiler, "-x", language, "-std=" + standard, *WARNINGS, "-Wshadow", "-Wconversion", FOLDERS[0], "-fsyntax-only"]
+            machine.told.ends_well(machine.named("the headers as " + standard), command + [str(TESTS / "header.c")])
 
 
 def each_way(machine, sanitizer, options, *more):
@@ -113,11 +115,12 @@ def asked_of_memory(folder):
 
 
 def memory(machine):
-    """Each request of memory fails in turn; and the arena."""
+    """Each request of memory fails in turn, of verdicts and of runs; and the arena."""
     for options in each_way(machine, "address,undefined", [], "-fno-sanitize-recover=all"):
         command = machine.built("memory", [TESTS / "memory.c"], options, heap=None)
         for outcome, *pair in asked_of_memory(machine.folder) if command else []:
             machine.told.ends_well(machine.named("memory %s" % " ".join(options)), command + [str(outcome), *pair])
+        machine.test("ran", [*VISITORS, PLUGIN[1]], options, standard="c11", heap=None)
         machine.test("arena", [], options)
 
 
@@ -242,10 +245,16 @@ def runs(told, folder):
     running.run_all(told, command, folder, 200)
 
 
+def has_cargo():
+    """Whether there is a cargo that is not older than the crate's rust-version."""
+    version = shutil.which("cargo") and re.match(rb"cargo (\d+)\.(\d+)", ended(["cargo", "--version"])[1])
+    return bool(version) and tuple(map(int, version.groups())) >= (1, 77)
+
+
 def rust(told, folder):
     """The crate's tests, and its host on the plugin and a hostile copy of it."""
-    if not shutil.which("cargo"):
-        told.skip("the Rust crate", "there is no cargo")
+    if not has_cargo():
+        told.skip("the Rust crate", "there is no cargo from 1.77 on")
         return
     crate, options = HERE / "rust" / "rvcfi", dict(os.environ, CARGO_TARGET_DIR=str(OUT / "cargo"))
     status, out, err = ended(["cargo", "test", "--offline"], cwd=crate, env=options)
@@ -269,10 +278,16 @@ def compilers():
     return [name for name in ("gcc", "clang") if shutil.which(name)]
 
 
+def in_place():
+    """What a program runs under whose addresses are not drawn: at some of them older sanitizers stop."""
+    words = ["setarch", os.uname().machine, "-R"]
+    return words if shutil.which(words[0]) and ended(words + ["true"])[0] == 0 else []
+
+
 def natively(told, folder):
     """All that is compiled, by each compiler."""
     for name in compilers():
-        machine = Machine(told, folder, name)
+        machine = Machine(told, folder, name, runner=in_place())
         for test in header, memory, threads, stack, bare, arenas, links:
             test(machine)
         machine.test("layout", VISITORS + PLUGIN, standard="c11")
@@ -290,10 +305,11 @@ def for_aarch64(told, folder):
     if not (shutil.which("aarch64-linux-gnu-gcc") and shutil.which("qemu-aarch64") and (LIB / "aarch64" / "librvcfi_c.a").exists()):
         told.skip("aarch64", "it needs gcc-aarch64-linux-gnu, qemu-user and library/lib/aarch64")
         return
-    symbols(told, LIB / "aarch64" / "librvcfi_c.a", "the archive for aarch64")
+    symbols(told, LIB / "aarch64", "aarch64")
     machine = Machine(told, folder, "aarch64-linux-gnu-gcc", LIB / "aarch64", ["qemu-aarch64"])
     options = ["-static"]
     machine.test("memory", [0, *PLUGIN], options, heap=None)
+    machine.test("ran", [*VISITORS, PLUGIN[1]], options, standard="c11", heap=None)
     machine.test("layout", VISITORS + PLUGIN, options, standard="c11")
     machine.test("bounds", VISITORS, options)
     machine.test("threads", [20, "accepted", *VISITORS, "accepted", *PLUGIN], ["-pthread", *options])
@@ -309,12 +325,15 @@ def main():
     words.add_argument("--program", default=str(compare.PROGRAM))
     words.add_argument("--pairs", type=int, default=1000)
     options = words.parse_args()
+    if not shutil.which("cc"):
+        print("not run, since there is no cc: library/test.py")
+        return 0
     if not (OUT / "ask").exists():
         sys.exit("library/out/ask is not there: library/build.sh")
     told, program = Told(), options.program if os.access(options.program, os.X_OK) else None
     if program is None:
         told.skip("comparing with the program", "%s is not built" % options.program)
-    symbols(told, LIB / "librvcfi_c.a", "the archive")
+    symbols(told, LIB, "this machine")
     with tempfile.TemporaryDirectory() as folder:
         is_the_tutorials(told, folder)
         natively(told, folder)

@@ -9,27 +9,29 @@
 #include <stdlib.h>
 #include <string.h>
 
-#define IS_AT(type, field, offset) _Static_assert(offsetof(struct type, field) == (offset), #field)
+#define IS_AT(type, field, offset, size) \
+    _Static_assert(offsetof(struct type, field) == (offset) && sizeof(((struct type *)0)->field) == (size), #field)
 
 _Static_assert(sizeof(struct rvcfi_verdict) == 24, "rvcfi_verdict");
 _Static_assert(sizeof(struct rvcfi_image_plan) == 96, "rvcfi_image_plan");
-IS_AT(rvcfi_verdict, outcome, 0);
-IS_AT(rvcfi_verdict, reason, 4);
-IS_AT(rvcfi_verdict, first, 8);
-IS_AT(rvcfi_verdict, second, 16);
-IS_AT(rvcfi_image_plan, version, 0);
-IS_AT(rvcfi_image_plan, harts, 4);
-IS_AT(rvcfi_image_plan, entry, 8);
-IS_AT(rvcfi_image_plan, code_offset, 16);
-IS_AT(rvcfi_image_plan, code_length, 24);
-IS_AT(rvcfi_image_plan, code_address, 32);
-IS_AT(rvcfi_image_plan, code_size, 40);
-IS_AT(rvcfi_image_plan, data_offset, 48);
-IS_AT(rvcfi_image_plan, data_length, 56);
-IS_AT(rvcfi_image_plan, data_address, 64);
-IS_AT(rvcfi_image_plan, data_end, 72);
-IS_AT(rvcfi_image_plan, shadow_address, 80);
-IS_AT(rvcfi_image_plan, shadow_size, 88);
+_Static_assert(RVCFI_CALLS_MOST == 8 && RVCFI_CALLS_GREATEST == 2047, "a list");
+IS_AT(rvcfi_verdict, outcome, 0, 4);
+IS_AT(rvcfi_verdict, reason, 4, 4);
+IS_AT(rvcfi_verdict, first, 8, 8);
+IS_AT(rvcfi_verdict, second, 16, 8);
+IS_AT(rvcfi_image_plan, version, 0, 4);
+IS_AT(rvcfi_image_plan, harts, 4, 4);
+IS_AT(rvcfi_image_plan, entry, 8, 8);
+IS_AT(rvcfi_image_plan, code_offset, 16, 8);
+IS_AT(rvcfi_image_plan, code_length, 24, 8);
+IS_AT(rvcfi_image_plan, code_address, 32, 8);
+IS_AT(rvcfi_image_plan, code_size, 40, 8);
+IS_AT(rvcfi_image_plan, data_offset, 48, 8);
+IS_AT(rvcfi_image_plan, data_length, 56, 8);
+IS_AT(rvcfi_image_plan, data_address, 64, 8);
+IS_AT(rvcfi_image_plan, data_end, 72, 8);
+IS_AT(rvcfi_image_plan, shadow_address, 80, 8);
+IS_AT(rvcfi_image_plan, shadow_size, 88, 8);
 
 #define DATA_LENGTH_AT 96  /* the field of an image that says how long its data are */
 #define SHADOW_SIZE_AT 216 /* the field of an image by which its versions differ */

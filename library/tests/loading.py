@@ -14,7 +14,7 @@ import hostile
 from changed import recorded
 from program import ECALL, Program, addi, i_form, u_form
 from runs import answer
-from told import ended
+from checks import ended
 
 CALLS = "63,64,93"
 EVENING = b"n\3Anng\1m\5helloo\6wisdom"

@@ -10,7 +10,7 @@ sys.path[:0] = [str(REPOSITORY / "tests" / "harts")]
 from changed import recorded
 from hardener import Hardening, Source, policy_text
 from joiner import Joined
-from told import ended
+from checks import ended
 
 GCC, VERSION = "riscv64-linux-gnu-gcc", "12.2.0"
 FILES = ["door.c", "memory.c", "start.s", "text.c", "visitors.c"]

@@ -3,57 +3,12 @@
  * OUTCOME is what rvcfi_verify answers where none fails. Each time the answer is RVCFI_NO_MEMORY, and no block is left. The archive
  * is compiled without sanitizers: of it AddressSanitizer sees what it asks of the heap; bounds.c looks at what it reads. */
 #include "check.h"
+#include "counted.h"
 #include "file.h"
 #include "rvcfi.h"
 
-#include <stdbool.h>
 #include <stdlib.h>
 #include <string.h>
-
-static unsigned long requests; /* how many there were */
-static unsigned long refused;  /* the number of the first that fails, from 1; 0 where none does */
-static bool all_after;         /* whether all behind it fail too */
-static long blocks;            /* how many are out */
-
-static bool fails(void)
-{
-    requests += 1;
-    return refused != 0 && (all_after ? requests >= refused : requests == refused);
-}
-
-static void *counted_malloc(size_t size)
-{
-    void *block = fails() ? NULL : malloc(size);
-
-    blocks += block != NULL;
-    return block;
-}
-
-static void *counted_realloc(void *block, size_t size)
-{
-    return fails() ? NULL : realloc(block, size);
-}
-
-static void counted_free(void *block)
-{
-    blocks -= block != NULL;
-    free(block);
-}
-
-#define malloc counted_malloc
-#define realloc counted_realloc
-#define free counted_free
-#include "../c/heap.c"
-#undef malloc
-#undef realloc
-#undef free
-
-static void begin(unsigned long first, bool others)
-{
-    requests = 0;
-    refused = first;
-    all_after = others;
-}
 
 static uint32_t verified(const struct file files[2], struct rvcfi_verdict *verdict)
 {
@@ -108,6 +63,29 @@ static unsigned long lists(const struct file *graph)
     return all;
 }
 
+/* What heap.h says of blocks: one of no bytes is a block too, no answer is NULL, and what cannot grow is as it was. */
+static void heap(void)
+{
+    struct rattle_tried first, second, failed;
+
+    begin(0, false);
+    first = rattle_alloc(0, 1);
+    second = rattle_alloc(3, 1);
+    CHECK(first.ok && first.p != NULL && second.ok && second.p != NULL && first.p != second.p);
+    memcpy(second.p, "abc", 3);
+    first = rattle_realloc(first.p, 0, 0, 1);
+    second = rattle_realloc(second.p, 3, 4096, 1);
+    CHECK(first.ok && second.ok && memcmp(second.p, "abc", 3) == 0);
+    begin(1, true);
+    failed = rattle_alloc(8, 1);
+    CHECK(!failed.ok && failed.p != NULL);
+    failed = rattle_realloc(second.p, 3, 8192, 1);
+    CHECK(!failed.ok && failed.p != NULL && memcmp(second.p, "abc", 3) == 0);
+    rattle_dealloc(second.p);
+    rattle_dealloc(first.p);
+    CHECK(blocks == 0);
+}
+
 int main(int argc, char **argv)
 {
     struct file files[2];
@@ -115,6 +93,7 @@ int main(int argc, char **argv)
 
     if (argc != 4 || files_read(stderr, (const char *const *)(argv + 2), files) != STATUS_OK)
         return STATUS_USAGE;
+    heap();
     of_verdict = verdicts(files, (uint32_t)atoi(argv[1]));
     of_list = lists(&files[1]);
     CHECK(of_verdict > 0 && of_list > 0 && blocks == 0);

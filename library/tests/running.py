@@ -12,8 +12,9 @@ import attack
 import drawn
 from changed import recorded
 from loading import DOOR, EVENING, GREETED
+from program import Program
 from runs import answer
-from told import ended
+from checks import ended
 
 
 class Runner:
@@ -58,17 +59,36 @@ def of_a_small_stack(runner):
     small.expect("64 KiB of stack", (0, report(GREETED, b"exit 1", 597)), recorded("visitors"), EVENING, 1000000)
 
 
+def modelled(built, given, limit):
+    """The status and the report of a run, by the model of tests/harts, without the numbers of harts."""
+    status, told = answer(built, None, given, limit)
+    length, rest = int(told.split(b"\n")[0].split()[1]), told.split(b"\n", 1)[1]
+    stop = re.search(rb"^stop (?:hart \d+ )?(.*)\n", rest[length:], re.M).group(1)
+    steps = int(re.search(rb"^steps (\d+)", rest[length:], re.M).group(1))
+    return status, report(rest[:length], stop, steps)
+
+
+def of_depth(runner):
+    """A program that calls itself, up to its handler and to the step before."""
+    p = Program(1)
+    p.label("main")
+    p.call("main")
+    p.stop()
+    built = p.built("main")
+    wanted = modelled(built, b"", 1000000)
+    last = int(wanted[1].split()[-1])
+    runner.told.same("run: the model's depth", wanted, (10, report(b"", b"handler __cfi_deep", last)))
+    for limit in last, last - 1:
+        runner.expect("%d steps into depth" % limit, modelled(built, b"", limit), (built.image, built.graph), b"", limit)
+
+
 def of_drawn_programs(runner, count, seed):
     """Programs for one hart and for several, of which hart 0 runs, against the model of tests/harts."""
     rng, wrong = random.Random(seed), []
     for k in range(count):
         built = drawn.program(rng, rng.choice((1, 2)), rng.choice((1, 2)))
         limit, given = rng.choice((50, 300, 1000)), rng.randbytes(rng.choice((0, 3, 20)))
-        status, told = answer(built, None, given, limit)
-        length, rest = int(told.split(b"\n")[0].split()[1]), told.split(b"\n", 1)[1]
-        stop = re.search(rb"^stop (?:hart \d+ )?(.*)\n", rest[length:], re.M).group(1)
-        steps = int(re.search(rb"^steps (\d+)", rest[length:], re.M).group(1))
-        got, wanted = runner.ran((built.image, built.graph), given, limit), (status, report(rest[:length], stop, steps))
+        got, wanted = runner.ran((built.image, built.graph), given, limit), modelled(built, given, limit)
         if got != wanted:
             wrong.append("run: drawn program %d: %r, not %r" % (k, got, wanted))
     runner.told.count(count - len(wrong), wrong)
@@ -78,4 +98,5 @@ def run_all(told, command, folder, count, seed=1):
     runner = Runner(command, folder, told)
     of_the_tutorial(runner)
     of_a_small_stack(runner)
+    of_depth(runner)
     of_drawn_programs(runner, count, seed)

@@ -1,10 +1,11 @@
 /* threads.c: a thread for each pair asks of it many times, all at once: threads TURNS (WORDS IMAGE GRAPH) ..
  *
- * WORDS are what `rvcfi verify` says of the pair. The archive is compiled without sanitizers: of it ThreadSanitizer sees what it
- * asks of the heap, and the answers tell the rest. */
+ * WORDS are what `rvcfi verify` says of the pair; what a run comes to is asked before there are threads. The archives are compiled without
+ * sanitizers: of them ThreadSanitizer sees what they ask of the heap, and the answers tell the rest. */
 #include "check.h"
 #include "file.h"
 #include "rvcfi.h"
+#include "rvcfi_run.h"
 #include "words.h"
 
 #include <pthread.h>
@@ -12,20 +13,33 @@
 #include <string.h>
 
 #define MOST_PAIRS 8
+#define STEPS 200
 
 struct asker {
     pthread_t thread;
     const char *words;
     struct file files[2];
+    struct rvcfi_run_result run; /* before there are threads */
     int turns;
     int wrong;
 };
+
+static struct rvcfi_run_result ran(const struct file files[2])
+{
+    struct rvcfi_run_result run;
+    uint8_t output[1] = {0};
+    static const uint8_t none[1];
+
+    rvcfi_run(files[0].bytes, files[0].length, files[1].bytes, files[1].length, none, 0, none, 0, STEPS, output, 1, &run);
+    return run;
+}
 
 static void *ask(void *given)
 {
     struct asker *asker = given;
     struct rvcfi_verdict verdict;
     struct rvcfi_image_plan plan;
+    struct rvcfi_run_result run;
     char words[WORDS_MOST];
     uint16_t calls[RVCFI_CALLS_MOST] = {0};
     uint32_t count = 0;
@@ -37,6 +51,8 @@ static void *ask(void *given)
         asker->wrong += strcmp(words, asker->words) != 0;
         rvcfi_plan(asker->files[0].bytes, asker->files[0].length, &plan);
         rvcfi_calls(asker->files[1].bytes, asker->files[1].length, calls, RVCFI_CALLS_MOST, &count);
+        run = ran(asker->files);
+        asker->wrong += run.outcome != verdict.outcome || memcmp(&run, &asker->run, sizeof run) != 0;
     }
     return NULL;
 }
@@ -54,6 +70,7 @@ int main(int argc, char **argv)
         askers[k].turns = atoi(argv[1]);
         if (files_read(stderr, (const char *const *)(argv + 3 + 3 * k), askers[k].files) != STATUS_OK)
             return STATUS_READ;
+        askers[k].run = ran(askers[k].files);
     }
     for (k = 0; k < count; k++)
         CHECK(pthread_create(&askers[k].thread, NULL, ask, &askers[k]) == 0);

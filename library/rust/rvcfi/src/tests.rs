@@ -1,6 +1,6 @@
 //! The tutorial's two pairs, and changed ones. What is expected are the numbers of `docs/TUTORIAL.md` and `docs/FORMATS.md`.
 
-use crate::{verify, BadImage, Reason, Rejection, Rule};
+use crate::{verify, Accepted, BadImage, Reason, Rejection, Rule};
 use std::thread;
 
 const IMAGE: &[u8] = include_bytes!("../../../tests/pairs/visitors.img");
@@ -56,6 +56,19 @@ fn image_without_data_has_an_empty_part() {
     let accepted = verify(image, GRAPH).unwrap();
     assert_eq!(accepted.data().bytes, &[]);
     assert_eq!(accepted.code().bytes.len(), CODE_LENGTH);
+}
+
+#[test]
+fn image_for_eight_harts_is_of_version_2() {
+    let image = changed(218, &[8]);
+    let plan = crate::ffi::plan(&image).unwrap();
+    let accepted = Accepted {
+        image: &image,
+        plan,
+        calls: None,
+    };
+    assert_eq!((accepted.version(), accepted.harts()), (2, 8));
+    assert_eq!(accepted.shadow_region(), 0x6000_0000..0x6008_0000);
 }
 
 #[test]
