@@ -11,10 +11,10 @@ unit starts, fresh or saved. A clause that fails is told by its name: those of c
     x4, pending, x3, slots, x1       at a unit's start, the mask; how many sites pend; the registers and the slots that hold them
 """
 
-from confined import PART_SIZE, PROFILES, TURNS, Failure, Profile, Statement, Watched, part_of, slot
+from confined import PART_SIZE, PROFILES, Failure, Profile, Statement, Watched, part_of, slot
 from lean_program import PAST
 from machine import ALL, CODE, DATA_END, SHADOW, START
-from program import HANDLERS, first_unit
+from program import HANDLERS
 from rules import GUARDED, STOP
 from runs import Run
 
@@ -127,7 +127,7 @@ class LeanStatement(Statement):
         super().__init__(pair.version, graph)
         self.p = Profile(PROFILES[pair.version].harts, pair.first - 12, pair.first - 8, pair.first)
         pair.split()
-        is_whole = pair.prologue() is None and pair.unfit is None
+        is_whole = pair.unfit is None and pair.opened() is not None
         self.units = UnitStatement(pair) if is_whole else None
 
     def before_site(self, kind):
