@@ -2,9 +2,10 @@
 depth, which units each version has, links and limits. Of each case a name, what is got, and what is wanted.
 """
 
+from forms import FORMS, LEAN
 from hardener import Hardening, Source, policy_text
 from joiner import Joined
-from lean_hardener import LeanHardening
+from lean_hardener import LeanHardening, LeanMaps, is_outside_of_lean
 from lean_program import NOP, computed, enter
 from lean_rows import (ENTERED, HEAD, HEAD_OF_HARTS, LIMIT, OPENED, OVER, Case, becomes, edited, hardened, numbers, object_of, ran, raw, script,
                        verified)
@@ -13,6 +14,7 @@ from lean_walk import LeanRun
 from links import F, MAIN
 from lists import program
 from make_pointers import Q
+from maps import ended
 from make_vectors import RETURN, H, P, R, T, addi, beq, jal, ld, lui, sd
 from program import CODE, branch, check, i_form, push
 
@@ -164,6 +166,64 @@ def windows():
     yield Case("a base that wraps round: where it stores", [at for at in done.machine.bytes if at < CODE], list(range(0x10000008, 0x10000010)))
 
 
+def said(made):
+    """How the source of a program ends: tame or not."""
+    return " ".join(ended(made, is_outside_of_lean).split()[:4])
+
+
+def tameness():
+    """Which sources keep their meaning: by the base of a short mask, by the calls that are pending, by the list."""
+    wide, wrapped, at_window = (addi(5, 0, -8), sd(5, 5, 16)), "untame window 1 4", lui(5, 0x10000)
+    for form in LEAN:
+        yield Case("a base that wraps round in form " + form, said(hardened(object_of(*wide, RETURN), form)), wrapped)
+    for form in FORMS:
+        got = ended(Hardening(object_of(*wide, RETURN), "main", form)).split()[0]
+        yield Case("a base that wraps round in form " + form, got, "exit")
+    for name, words, wanted in (
+            ("a long mask below the window's end", (at_window, sd(5, 5, -8)), "exit"),
+            ("a short mask below the window's end", (at_window, addi(5, 5, -8), sd(5, 5, 0)), "exit"),
+            ("a long mask at 0", (addi(5, 0, 8), sd(5, 5, -8)), "exit"), ("two stores off x0", (sd(5, 0, 0), sd(5, 0, 2047)), "exit"),
+            ("a short mask at the window's end", (at_window, sd(5, 5, 0)), wrapped),
+            ("a long mask below 0", (addi(5, 0, -8), sd(5, 5, -8)), wrapped)):
+        got = said(hardened(object_of(*words, RETURN)))
+        yield Case(name, got.split()[0] if wanted == "exit" else got, wanted)
+    yield Case("a number that is not in the list", said(hardened(Source(H.file()), calls=(63,))), "untame call 1 52")
+    for k, wanted in (8189, "exit"), (8190, "untame deep 1 36"), (8191, "untame deep 1 28"):
+        got = said(hardened(counting(k)))
+        yield Case("%d calls, and one of a leaf: the source" % k, got.split()[0] if wanted == "exit" else got, wanted)
+
+
+def placed(made, sizes):
+    """The line of a map with these sizes that is that of no placement, or None."""
+    maps = LeanMaps(made.source, made.flow, made.source.index[1, 0])
+    gates = [made.layout.first]
+    for size in sizes:
+        gates.append(gates[-1] + size)
+    return maps.wrong_line(gates[0], [(gate, *item.place) for gate, item in zip(gates, made.source.items)])
+
+
+def placements():
+    """Which maps are those of a program: of each the bytes from gate to gate."""
+    stores = hardened(object_of(sd(1, 2, 8), sd(8, 2, 16), sd(9, 2, -8), sd(10, 2, 0), lui(0, 1), RETURN))
+    called, jumped = hardened(Source(H.file())), hardened(Source(Q.file()), lines=("site h+0 g+0",))
+    name = "stores behind short and long masks: "
+    for made, what, sizes, wanted in (
+            (stores, name + "as hardened", (32, 4, 12, 4, 4, 20), None), (stores, name + "each alone", (32, 8, 12, 8, 4, 20), None),
+            (stores, name + "the mask of older forms", (40, 4, 12, 4, 4, 20), 3),
+            (stores, name + "a negative one joins a short mask", (32, 4, 4, 8, 4, 20), 5),
+            (stores, name + "a short mask for a negative one", (32, 4, 8, 4, 4, 20), 5),
+            (stores, name + "a long mask for another one", (32, 4, 12, 12, 4, 20), 6),
+            (stores, name + "the first is none's", (28, 4, 12, 4, 4, 20), 3), (stores, name + "no lead", (8, 4, 12, 4, 4, 20), 3),
+            (stores, name + "no return of a leaf", (32, 4, 12, 4, 4, 4), 8),
+            (called, "a leaf that is called: as hardened", (28, 8, 4, 4, 4, 4, 20, 4, 4, 4, 4, 4, 4, 4), None),
+            (called, "a leaf that is called: as if it saved", (28, 8, 4, 4, 4, 4, 20, 28, 4, 4, 4, 4, 4, 20), 10),
+            (called, "a leaf that is called: the call of older forms", (28, 8, 32, 4, 4, 4, 20, 4, 4, 4, 4, 4, 4, 4), 5),
+            (jumped, "a computed jump: as hardened", (28, 4, 60, 8, 20, 36, 20, 60, 20), None),
+            (jumped, "a computed jump: two words lead a target", (28, 4, 60, 12, 20, 36, 20, 60, 20), 6),
+            (jumped, "a computed jump: no jump label in a lead", (28, 4, 60, 8, 20, 32, 20, 60, 20), 8)):
+        yield Case(what, placed(made, sizes), wanted)
+
+
 def harts():
     """In the form for several harts."""
     shared = object_of(lui(5, 0x10), branch(1, 10, 0, 12), ld(10, 5, 0), RETURN, sd(10, 5, 0), RETURN)
@@ -206,7 +266,8 @@ def units_by_version():
     short, long, store, at = "00417FB3", "FF810F93 004FFFB3", "001FB023", CODE + 0x40
     no_unit = "rejected Unit 40000040"
     for name, words in (("a short mask", "%s %s" % (short, store)), ("a long mask", "%s %s" % (long, store)),
-                        ("a base that is x3", "0041FFB3 " + store), ("a base that is x4", "00427FB3 " + store), ("sixteen stores", " ".join([short] + [store] * 16))):
+                        ("a base that is x3", "0041FFB3 " + store), ("a base that is x4", "00427FB3 " + store),
+                        ("sixteen stores", " ".join([short] + [store] * 16))):
         yield name, words, no_unit, "accepted"
     yield "seventeen stores", " ".join([short] + [store] * 17), no_unit, "rejected Unit 40000084"
     yield "the mask of older versions", "FF810F93 024F9F93 024FDF93 " + store, "accepted", no_unit
@@ -280,4 +341,4 @@ def limits():
         yield Case("as much code as there may be: " + name, hardened(object_of(*words)).told().decode(), wanted)
 
 
-ALL = (units, leaves, targets, gates, lines_of_ranges, lists, windows, harts, depth, by_version, links, kept, counted, limits)
+ALL = (units, leaves, targets, gates, lines_of_ranges, lists, windows, harts, depth, tameness, placements, by_version, links, kept, counted, limits)

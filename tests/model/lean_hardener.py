@@ -1,10 +1,11 @@
 """What an object becomes in the forms of graphs of version 3: leads, entries, leaves, stores behind short and long masks."""
 
 from forms import LEAN
-from hardener import Groups, Hardening, Layout, store_offset
+from hardener import Groups, Hardening, Layout, size_of, store_offset
 from lean_program import LeanProgram
 from lean_rules import writes_x1
-from machine import CODE, CODE_SIZE
+from machine import CODE, CODE_SIZE, WINDOW
+from maps import Maps, is_outside
 
 SIZES = {"call": 4, "ijump": 60, "icall": 60}
 CALLS = "call", "icall", "ijump"  # what no leaf has
@@ -13,6 +14,11 @@ CALLS = "call", "icall", "ijump"  # what no leaf has
 def is_short(groups, k):
     """Whether a store that begins a group has a short mask."""
     return groups.is_own(k) and store_offset(groups.source.items[k].word) >= 0
+
+
+def alone(groups, k):
+    """The size of a store that begins a group."""
+    return 8 if is_short(groups, k) else 12
 
 
 class LeanGroups(Groups):
@@ -64,6 +70,17 @@ class Leaves:
         """Whether an enter stands before a place."""
         return k in self.entries and k not in self.first
 
+    def lead(self, k):
+        """How many bytes stand before a place's unit: a gate or nothing, a jump over the rest, a gate, an enter."""
+        return 4 * self.flow.is_target(k) + 24 * self.enters(k) + 4 * (k in self.flow.leads[0])
+
+    def size(self, k):
+        """The size of a unit that has one alone."""
+        item = self.items[k]
+        if item.kind == "return" and k in self.inside:
+            return 4
+        return SIZES.get(item.kind) or size_of(item, self.flow.calls)
+
 
 class LeanLayout(Layout):
     """The gates and the words of places."""
@@ -75,21 +92,36 @@ class LeanLayout(Layout):
         super().__init__(source, flow, first, entry)
 
     def lead(self, k):
-        """How many bytes stand before a place's unit: a gate or nothing, a jump over the rest, a gate, an enter."""
-        return 4 * self.flow.is_target(k) + 24 * self.leaves.enters(k) + 4 * (k in self.flow.leads[0])
+        return self.leaves.lead(k)
 
     def size(self, k, kind):
         if kind == "store" and k in self.group:
-            return 8 if is_short(self.stores, k) else 12
-        if kind == "return" and k in self.leaves.inside:
-            return 4
-        return SIZES.get(kind) or super().size(k, kind)
+            return alone(self.stores, k)
+        return super().size(k, kind) if kind in ("store", "branch") else self.leaves.size(k)
 
     def most(self):
         """How many bytes of code there are where each branch is long and each store has a mask of its own."""
-        sizes = {"branch": lambda k: 8, "store": lambda k: 8 if is_short(self.stores, k) else 12}
-        return self.first - CODE + sum(self.lead(k) + sizes.get(item.kind, lambda k: self.size(k, self.source.items[k].kind))(k)
-                                       for k, item in enumerate(self.source.items))
+        most = {"branch": lambda k: 8, "store": lambda k: alone(self.stores, k)}
+        return self.first - CODE + sum(self.lead(k) + most.get(item.kind, self.leaves.size)(k) for k, item in enumerate(self.source.items))
+
+
+class LeanMaps(Maps):
+    """The placements of a program, by the sizes of its units and the leads before them."""
+
+    def __init__(self, source, flow, entry):
+        super().__init__(source, flow, entry)
+        self.groups, leaves = LeanGroups(source, flow, entry), Leaves(source, flow, entry)
+        self.lead, self.other_size = leaves.lead, leaves.size
+
+    def alone(self, k):
+        return alone(self.groups, k)
+
+
+def is_outside_of_lean(source, k, registers):
+    """Whether a store goes outside of the window, or a short mask may change where it goes."""
+    word = source.items[k].word
+    is_based = word & 127 == 0x23 and source.items[k].place not in source.at and store_offset(word) >= 0
+    return is_outside(source, k, registers) or is_based and registers[word >> 15 & 31] >= WINDOW
 
 
 class LeanHardening(Hardening):
@@ -108,7 +140,7 @@ class LeanHardening(Hardening):
         layout = self.layout
         for e, f in sorted(layout.leaves.first.items()):
             last = f - 1
-            self.program.ranges.append((layout.words[e], layout.words[last] + layout.size(last, self.source.items[last].kind)))
+            self.program.ranges.append((layout.words[e], layout.words[last] + layout.leaves.size(last)))
         super().write_units()
 
     def write_lead(self, k):
