@@ -1,11 +1,12 @@
 #!/usr/bin/env python3
 """Runs the model of graphs of version 3: of the rules, of runs and of hardening in the forms `lean` and `harts-lean`.
 
-    python3 tests/model/lean.py [--program PATH] [--many N] [--seed N]
+    python3 tests/model/lean.py [--program PATH] [--many N] [--seed N] [--levels=-O2,..]
 
 (a) Each case of lean_rows.py and lean_cases.py has to have its literal numbers. (b) Each pair of lean_faults.py has to be rejected by
 the rule that its row tells, and its run has to leave its graph where and as the row tells, or to stay in it where it tells that. (c) No
-run of a drawn pair that is accepted may leave its graph. With a program, its `verify` is asked of the pairs of versions 1 and 2 that
+run of a drawn pair that is accepted may leave its graph. (d) Where levels are named, the programs of tests/real are compiled, and have
+to run hardened as in form `split`. With a program, its `verify` is asked of the pairs of versions 1 and 2 that
 confinement.py has, and has to answer as this model does; of version 3 it is not asked. The status is 1 where something failed.
 """
 
@@ -23,6 +24,7 @@ import faults
 import lean_cases
 import lean_drawn
 import lean_faults
+import lean_real
 import lean_rows
 from confined import started
 from confinement import Told
@@ -58,8 +60,9 @@ def run_faults(told):
     print("with a fault: %d pairs (%s); the runs of %d leave their graph" % (sum(rules.values()), counts, left))
 
 
-def run_drawn(told, seed, many):
-    for line in lean_drawn.checks(seed, many):
+def run_checks(told, lines):
+    """That nothing fails: each line tells of what does."""
+    for line in lines:
         told.check(False, line)
 
 
@@ -78,6 +81,7 @@ def main():
     words.add_argument("--program", help="asked to verify pairs of versions 1 and 2")
     words.add_argument("--many", type=int, default=1, help="so many times as many drawn pairs, at least 1")
     words.add_argument("--seed", type=int, default=1)
+    words.add_argument("--levels", help="of compiled programs; with =, as --levels=-O2,-Os")
     options = words.parse_args()
     if options.many < 1:
         words.error("--many is at least 1")
@@ -85,7 +89,8 @@ def main():
         told = Told(options.program and str(Path(options.program).resolve()), folder)
         run_cases(told)
         run_faults(told)
-        run_drawn(told, options.seed, options.many)
+        run_checks(told, lean_drawn.checks(options.seed, options.many))
+        run_checks(told, lean_real.checks(options.levels.split(",")) if options.levels else ())
         if options.program and Path(options.program).exists():
             run_program(told, options.seed)
         elif options.program:
