@@ -511,13 +511,13 @@ def differences(tool, path, entry, folder):
     yield from unlike(Source(Path(path).read_bytes()), entry, folder, words)
 
 
-def unlike(source, entry, folder, command):
+def unlike(source, entry, folder, command, hardening=Hardening):
     """The forms in which a command makes something else, without a policy and under a list of system calls, and what."""
     policy = os.path.join(folder, "policy")
     Path(policy).write_text(policy_text(CALLS))
-    for form in FORMS:
-        yield from unlike_in(form, Hardening(source, entry, form), folder, command(form, "none", files_in(folder)))
-        listed = Hardening(source, entry, form, policy_text(CALLS))
+    for form in hardening.FORMS:
+        yield from unlike_in(form, hardening(source, entry, form), folder, command(form, "none", files_in(folder)))
+        listed = hardening(source, entry, form, policy_text(CALLS))
         yield from unlike_in(form + " with a list", listed, folder, command(form, policy, files_in(folder)))
 
 

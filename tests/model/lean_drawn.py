@@ -120,13 +120,17 @@ def cases(name, built, runs):
         yield Case(built._replace(starts=starts), seed, harts, 200 * (1 + harts // 3), k % 2 == 1)
 
 
+def pairs(rng, many):
+    """Drawn pairs, each with its sort."""
+    whole = list(hardened(rng, 60 * many))
+    yield from (("hardened", built) for built in whole)
+    yield from (("changed", changed(rng, rng.choice(whole))) for _ in range(2500 * many))
+
+
 def checks(seed, many):
     """What fails, told in a line; and at last what was counted."""
-    rng, said, runs, steps = random.Random(seed), Counter(), 0, 0
-    whole = list(hardened(rng, 60 * many))
-    pairs = [("hardened", built) for built in whole]
-    pairs += [("changed", changed(rng, rng.choice(whole))) for _ in range(2500 * many)]
-    for number, (sort, built) in enumerate(pairs):
+    said, runs, steps = Counter(), 0, 0
+    for number, (sort, built) in enumerate(pairs(random.Random(seed), many)):
         answer = told(built.version, built.words, built.graph)
         said["%s: %s" % (sort, " ".join(answer.split()[:2] if answer != "accepted" else [answer]))] += 1
         if sort == "hardened" and answer != "accepted":

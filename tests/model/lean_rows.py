@@ -28,10 +28,11 @@ LIMIT = 1000000
 
 
 class Case(NamedTuple):
-    """What a case is, what is got of it, and what is wanted."""
+    """What a case is, what is got of it, and what is wanted; and the pair that is judged, where it is one."""
     name: str
     got: object
     wanted: object
+    pair: Built = None
 
 
 def numbers(text):
@@ -65,7 +66,7 @@ def edited(built, words={}, lines={}):
 
 
 def verified(name, built, wanted):
-    return Case(name, told(built.version, built.words, built.graph), wanted)
+    return Case(name, told(built.version, built.words, built.graph), wanted, built)
 
 
 def script(*lines):
