@@ -4,8 +4,8 @@
     python3 tests/model/lean.py [--program PATH] [--all] [--many N] [--seed N] [--levels=-O2,..]
 
 (a) Each case of lean_rows.py and lean_cases.py has to have its literal numbers. (b) Each pair of lean_faults.py has to be rejected by
-the rule that its row tells, and its run has to leave its graph where and as the row tells, or to stay in it where it tells that. (c) No
-run of a drawn pair that is accepted may leave its graph. (d) Where levels are named, the programs of tests/real are compiled, and have
+the rule that its row tells, and its run has to leave its graph where and as the row tells, or to stay in it where it tells that. Rules
+and parts of them are switched off in turn, and some such pair whose run leaves its graph has to be accepted then. (c) No run of a drawn pair that is accepted may leave its graph. (d) Where levels are named, the programs of tests/real are compiled, and have
 to run hardened as in form `split`. With a program, its `verify` is asked of the pairs of versions 1 and 2 that
 confinement.py has, and has to answer as this model does; of version 3 it is asked with `--all` alone, `run` and `harden` too. The
 status is 1 where something failed.
@@ -28,6 +28,7 @@ import lean_drawn
 import lean_faults
 import lean_real
 import lean_rows
+import lean_switched
 from confined import started
 from confinement import Told
 from lean_rules import pair_of, told as told_of
@@ -51,15 +52,18 @@ def failure_of(fault):
 
 
 def run_faults(told):
-    rules, left = Counter(), 0
+    """That rows are as they tell; what is answered are the pairs whose runs leave their graphs."""
+    rules, left = Counter(), []
     for fault in lean_faults.faults():
         said, failure = told_of(fault.built.version, fault.built.words, fault.built.graph), failure_of(fault)
         told.check(said.startswith("rejected %s " % fault.rule), "%s: %s, not %s" % (fault.name, said, fault.rule))
         got = (failure.pc, failure.clauses) if failure else (None, ())
         told.check(got == (fault.pc, fault.clauses), "%s: %s, not at %s %s" % (fault.name, failure, fault.pc, fault.clauses))
-        rules[fault.rule], left = rules[fault.rule] + 1, left + (failure is not None)
+        rules[fault.rule] += 1
+        left += [fault.built] if failure else []
     counts = ", ".join("%s %d" % each for each in sorted(rules.items()))
-    print("with a fault: %d pairs (%s); the runs of %d leave their graph" % (sum(rules.values()), counts, left))
+    print("with a fault: %d pairs (%s); the runs of %d leave their graph" % (sum(rules.values()), counts, len(left)))
+    return left
 
 
 def run_checks(told, lines):
@@ -94,7 +98,7 @@ def main():
     with tempfile.TemporaryDirectory() as folder:
         told = Told(options.program and str(Path(options.program).resolve()), folder)
         run_cases(told)
-        run_faults(told)
+        run_checks(told, lean_switched.checks(run_faults(told)))
         run_checks(told, lean_drawn.checks(options.seed, options.many))
         levels = options.levels.split(",") if options.levels else []
         run_checks(told, lean_real.checks(levels) if levels else ())

@@ -165,10 +165,9 @@ def masks(built, at):
 def enters_changed(built, at):
     """Enters that are none, and x3 moved."""
     begun = at["f enter"]
-    other = lean(SAVED, LOADED, call("f"), RESTORED, function("f"), label("in f"), plain(addi(1, 5, 0)), label("returns"), a_return,
-                 data=pointers("main body"))
-    yield Fault("an enter that saves another register", patched(other, {other.labels["f enter"] + 12: s_form(SD, 3, 5, 0)}), "Unit",
-                other.labels["returns"] + 16, ("Moves Jalr x0",))
+    other = lean(SAVED, LOADED, call("f"), RESTORED, function("f"), plain(addi(1, 5, 0)), a_return, data=pointers("main body"))
+    saves = other.labels["f enter"] + 12
+    yield Fault("an enter that saves another register", patched(other, {saves: s_form(SD, 3, 5, 0)}), "Unit", saves, ("Saves",))
     yield Fault("an enter that saves behind its slot", patched(built, {begun + 12: s_form(SD, 3, 1, 8)}), "Unit", begun + 12, ("WritesOwn",))
     far = lean(MAIN, function("f"), SAVED, call("g"), RESTORED, function("g"), a_return)
     yield Fault("an enter that takes two slots", patched(far, {far.labels["f enter"] + 16: addi(3, 3, 16)}), "Unit",
@@ -239,6 +238,9 @@ def falling(built, at):
     yield Fault("x1 is taken from data, and an enter is fallen into", hostile, "Leaf", hostile.labels["g"] - 40, ("x3", "x1"))
     double = lean(enters, a_return)
     yield Fault("an enter behind an enter", double, "Leaf", FIRST + 24, ("x3",))
+    for name, put in ("an enter", units(enters, a_return)), ("a leaf", leaf("f", LEAF_RETURN)):
+        bare = small(enters, put, program=LeanProgram())
+        yield Fault("an entry's enter before " + name, bare, "Leaf", FIRST + 20, ("x3",))
     into = lean(call("f"), a_return, lambda p: p.function("f"), leaf("inner", LEAF_RETURN))
     yield Fault("an enter before a leaf", into, "Leaf", into.labels["inner"], ("x3",))
     out = lean(MAIN, leaf("f", NOP), label("out"), a_return)

@@ -9,6 +9,7 @@ unit starts, fresh or saved. A clause that fails is told by its name: those of c
     Within KIND    the word is none of the unit that was begun last
     End TURN       a unit ends so that may not
     x4, pending, x3, slots, x1       at a unit's start, the mask; how many sites pend; the registers and the slots that hold them
+    Saves          what is written into the slot of the newest call is another thing than its site
 """
 
 from confined import PART_SIZE, PROFILES, Failure, Profile, Statement, Watched, part_of, slot
@@ -149,7 +150,9 @@ class LeanStatement(Statement):
     def after_step(self, machine, hart, pending):
         failing = self.units.before(machine, hart, pending) if self.units else []
         more, turn, newer = super().after_step(machine, hart, pending)
-        return failing + more + (self.units.after(machine, hart, turn) if self.units else []), turn, newer
+        own = slot(part_of(hart), len(pending) - 1)
+        is_saved = own not in machine.bytes.was or machine.read(own, 8) == (pending or (0,))[0]
+        return failing + more + ["Saves"] * (not is_saved) + (self.units.after(machine, hart, turn) if self.units else []), turn, newer
 
 
 class Left(Exception):
