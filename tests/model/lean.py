@@ -3,12 +3,13 @@
 
     python3 tests/model/lean.py [--program PATH] [--all] [--many N] [--seed N] [--levels=-O2,..]
 
-(a) Each case of lean_rows.py and lean_cases.py has to have its literal numbers. (b) Each pair of lean_faults.py has to be rejected by
-the rule that its row tells, and its run has to leave its graph where and as the row tells, or to stay in it where it tells that. Rules
-and parts of them are switched off in turn, and some such pair whose run leaves its graph has to be accepted then. (c) No run of a drawn pair that is accepted may leave its graph. (d) Where levels are named, the programs of tests/real are compiled, and have
-to run hardened as in form `split`. With a program, its `verify` is asked of the pairs of versions 1 and 2 that
-confinement.py has, and has to answer as this model does; of version 3 it is asked with `--all` alone, `run` and `harden` too. The
-status is 1 where something failed.
+(a) Each case of lean_rows.py and lean_cases.py has to have its literal numbers. (b) Each pair of lean_faults.py has to be rejected
+by the rule that its row tells, and its run has to leave its graph where and as the row tells, or to stay in it where it tells that.
+Rules and parts of them are switched off in turn, and some such pair whose run leaves its graph has to be accepted then. (c) No run
+of a drawn pair that is accepted may leave its graph. (d) Where levels are named, the programs of tests/real are compiled, and have
+to run hardened as in form `split`. With a program, its `verify` is asked of the pairs of versions 1 and 2 that confinement.py has,
+and has to answer as this model does; of version 3 it is asked with `--all` alone, `run` and `harden` too. The status is 1 where
+something failed.
 """
 
 import argparse
