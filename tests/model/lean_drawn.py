@@ -1,5 +1,6 @@
 """Pairs with graphs of version 3 that are drawn: objects with leaves, hardened, and such with a change, and runs of those that are
-accepted, under an attacker who changes data before each step. No run may leave its graph.
+accepted, under an attacker who changes data before each step. No run may leave its graph. And undisturbed runs of drawn objects begin the
+same instructions in these forms as in form `split`, up to the same end.
 
 A change is one of a word or a line, or a direct transfer that leads to another unit with its line, or a leaf range that begins or ends
 elsewhere: most of these are rejected, and what is accepted all the same has to be as safe as the others.
@@ -11,12 +12,12 @@ from collections import Counter
 import drawn
 from accepted import LISTS, Case, Writing
 from forms import LEAN, LISTING, ROWS, STORING
-from hardener import Source, policy_text, small_object
+from hardener import Hardening, Source, policy_text, small_object
 from lean_hardener import LeanHardening
 from lean_program import NOP, enter
 from lean_rules import pair_of, told
 from lean_walk import LeanStatement
-from machine import CODE
+from machine import CODE, START, Machine
 from make_vectors import RETURN, addi, beq, jal, jalr, lui
 from program import jal as jump_word, u_form
 from rules import jal_target
@@ -120,6 +121,31 @@ def cases(name, built, runs):
         yield Case(built._replace(starts=starts), seed, harts, 200 * (1 + harts // 3), k % 2 == 1)
 
 
+def way(made, limit=1500):
+    """Which instructions of an object the undisturbed run of its program begins, and how it ends: with which status, or in which handler."""
+    machine = Machine(made.built.version, made.built.code, made.built.data, b"abc", 1)
+    places, begun, stop = {at: k for k, at in enumerate(made.layout.words)}, [], None
+    while limit and not stop:
+        begun += [places[at] for at in machine.pcs if at in places]
+        stop, limit = machine.step(0), limit - 1
+    return begun, stop and (stop[0], stop[1] if stop[0] == "exit" or stop[1] < START else None)
+
+
+def unlike_ways(rng, count):
+    """Drawn objects whose programs go another way in these forms than with masks and calls of version 2, each told in a line."""
+    for number in range(count):
+        calls = rng.choice(LISTS)
+        source = Source(LeanWriting(rng, tuple(calls)).object().file())
+        policy = policy_text(*rng.choice(((), (calls,))))
+        wanted, ended = way(Hardening(source, "main", "split", policy))
+        for form in LEAN:
+            got, end = way(LeanHardening(source, "main", form, policy))
+            both = min(len(got), len(wanted))
+            is_same = (got, end) == (wanted, ended) if end and ended else got[:both] == wanted[:both]
+            if not is_same:
+                yield "drawn object %d in form %s goes another way" % (number, form)
+
+
 def pairs(rng, many):
     """Drawn pairs, each with its sort."""
     whole = list(hardened(rng, 60 * many))
@@ -129,6 +155,7 @@ def pairs(rng, many):
 
 def checks(seed, many):
     """What fails, told in a line; and at last what was counted."""
+    yield from unlike_ways(random.Random("ways %d" % seed), 100 * many)
     said, runs, steps = Counter(), 0, 0
     for number, (sort, built) in enumerate(pairs(random.Random(seed), many)):
         answer = told(built.version, built.words, built.graph)
