@@ -91,16 +91,19 @@ def check(at, rs1, imm, label, past=0):
             branch(0, 30, 4, 8), jal(0, at + 44, BAD_TARGET)]
 
 
-def prologue(entry, version=1):
-    """The words before the first unit. In version 2 x2 and x3 are a hart's own, by its number in x10."""
+def prologue(entry, version=1, graph=1):
+    """The words before the first unit. In version 2 x2 and x3 are a hart's own, by its number in x10. Under a graph of version 3 x4 is
+    the mask of stores, and the entry saves the site of its call."""
     stack, shadow = [u_form(0x37, 2, 0x10000)], [u_form(0x37, 3, 0x60000)]
+    if graph == 3:
+        stack += [u_form(0x37, 4, 0x10000), addi(4, 4, -1)]
     if version == 2:
         stack += [i_form(0x13, 1, 31, 10, 20), r_form(0x33, 0, 0x20, 2, 2, 31)]
         shadow += [i_form(0x13, 1, 31, 10, 16), r_form(0x33, 0, 0, 3, 3, 31)]
     words = [0x00100073] * 3 + stack + shadow + [addi(3, 3, 8)]
     at = CODE + 4 * len(words)
-    words += push(at) + [jal(1, at + 28, entry)]
-    return words + [addi(17, 0, 93), 0x00000073]
+    saved = push(at) if graph < 3 else []
+    return words + saved + [jal(1, at + 4 * len(saved), entry), addi(17, 0, 93), 0x00000073]
 
 
 def layout(rng, words, grouped=False):

@@ -69,6 +69,8 @@ def image_fault(content):
 class Text:
     """A graph that is read line by line."""
 
+    VERSIONS = "1", "2"
+
     def __init__(self, text):
         self.lines = text.decode("latin-1").split("\n")  # the last is what stands behind the last newline
         self.version, self.code, self.last = None, None, None
@@ -80,7 +82,7 @@ class Text:
         return self.lines[number - 1]
 
     def read(self):
-        if self.line(1) not in ("rvcfi-graph 1", "rvcfi-graph 2"):
+        if self.line(1) not in ["rvcfi-graph " + version for version in self.VERSIONS]:
             raise Refused(1, "Form")
         self.version = int(self.lines[0][-1])
         self.code = self.length(self.line(2))
@@ -104,9 +106,13 @@ class Text:
         at = int(digits, 16)
         return at % 4 == 0 and CODE <= at < CODE + self.code
 
+    def readers(self, number):
+        """What reads the line with a number; of a line that is none of its own each answers None."""
+        return [self.calls] * (number == 3) + [self.targets, self.transfer]
+
     def check(self, number, line):
         """Asks a line from the third on for its form, its numbers and its order, and goes on behind it."""
-        for read in (self.calls if number == 3 else lambda line: None), self.targets, self.transfer:
+        for read in self.readers(number):
             found = read(line)
             if found:
                 in_range, rises, key = found
@@ -144,10 +150,10 @@ class Text:
         return self.is_address(at) and (int(other, 16) > 0 if site else self.is_address(other)), True, (2, int(at, 16))
 
 
-def graph_fault(text):
+def graph_fault(text, reader=Text):
     """The words behind `refused 23` of a text that is no graph, or None."""
     try:
-        Text(text).read()
+        reader(text).read()
     except Refused as why:
         return "Graph %d %s" % why.args
     return None

@@ -3,7 +3,7 @@ other's return addresses and at addresses of the shadow stack. Graphs are of eit
 
 import struct
 
-from program import CODE, EBREAK, ECALL, UNITS, Program, addi, branch, i_form, jal, r_form, s_form, u_form
+from program import CODE, EBREAK, ECALL, Program, addi, branch, first_unit, i_form, jal, r_form, s_form, u_form
 from worked import SD, add, load, shift
 
 CALLED, JUMPED = 1, 2  # labels of classes; in graphs of version 1 that of jumps is that of calls too
@@ -232,7 +232,7 @@ def changed_words(rng, built):
     """The words of a program with one unit's word changed: a bit is turned, or it is a gate, a word that does nothing, another word of
     the program or the load of a check by either word of its destination; or it changes places with the one after it, or it is one of
     several stores, or leads elsewhere."""
-    words, first = list(built.words), (UNITS[built.version] - CODE) // 4
+    words, first = list(built.words), (first_unit(built.version, int(built.graph.split()[1])) - CODE) // 4
     at = rng.randrange(first, len(words) - 1)
     loads = [k for k in range(first, len(words)) if words[k] in (0x000FAF03, 0x004FAF03)]
     targets = [k for k in range(first, len(words) - 1) if words[k] & 0xFFF == 0x37]

@@ -34,6 +34,10 @@ FORMS = {"plain": Form(1, 1, "rvcfi-map 1"), "harts": Form(2, 1, "rvcfi-map 2 ha
          "harts-split": Form(2, 2, "rvcfi-map 2 harts-split")}
 
 
+# the forms of graphs of version 3, of which there are no tables
+LEAN = {"lean": Form(1, 3, "rvcfi-map 2 lean"), "harts-lean": Form(2, 3, "rvcfi-map 2 harts-lean")}
+
+
 class Listed(Program):
     """A program whose places are listed: an object's section 1, from offset 0 on."""
 

@@ -26,7 +26,7 @@ import make_stores
 import make_vectors
 from forms import FORMS, LISTING, ROWS, STORING, made
 from images import CODE, image_file
-from program import ECALL, UNITS, Program, calls_line
+from program import ECALL, UNITS, Program, calls_line, first_unit
 from rules import branch_offset, jal_target
 
 PROGBITS, RELA, SYMTAB, NOTE, NOBITS = 1, 4, 2, 7, 8
@@ -280,10 +280,12 @@ def size_of(item, calls):
 class Layout:
     """The gates and the words of places, with stores in groups and as many short branches as there can be."""
 
+    GROUPS = Groups
+
     def __init__(self, source, flow, first, entry):
         self.source, self.flow, self.first, items = source, flow, first, source.items
         self.targets = [source.index[item.target] if item.target else None for item in items]
-        self.group = {group[0]: group for group in Groups(source, flow, entry).all()}
+        self.group = {group[0]: group for group in self.GROUPS(source, flow, entry).all()}
         branches = [k for k, item in enumerate(items) if item.kind == "branch"]
         self.long = {k for k in branches if self.is_kept(k)}
         self.place()
@@ -297,13 +299,17 @@ class Layout:
     def is_kept(self, k):
         """Whether a branch over one word is read as two words because that word is a jump."""
         over = self.source.items[k + 1].kind
-        return self.targets[k] == k + 2 and (over == "stop" or over == "jump" and not self.flow.is_target(k + 1))
+        return self.targets[k] == k + 2 and (over == "stop" or over == "jump" and not self.lead(k + 1))
+
+    def lead(self, k):
+        """How many bytes stand before a place's unit."""
+        return 4 * len(self.flow.leads) if self.flow.is_target(k) else 0
 
     def place(self):
         self.gates, self.words, at = [], [], self.first
         for k, item in enumerate(self.source.items):
             self.gates.append(at)
-            at += 4 * len(self.flow.leads) if self.flow.is_target(k) else 0
+            at += self.lead(k)
             self.words.append(at)
             at += self.size(k, item.kind)
 
@@ -322,19 +328,28 @@ def high(value):
 class Hardening:
     """What an object, or several as one, becomes in a form: its image, its graph and its map."""
 
+    FORMS, LAYOUT = FORMS, Layout
+
     def __init__(self, source, entry, form, policy=""):
         self.source = source
-        self.form = FORMS[form]
-        self.flow = Flow(self.source, self.form.graph == 2, policy)
+        self.form = self.FORMS[form]
+        self.flow = Flow(self.source, self.form.graph > 1, policy)
         first = self.source.named(entry)
         start = self.source.index[first.section, first.value]
-        self.layout = Layout(self.source, self.flow, UNITS[self.form.image], start)
+        self.layout = self.LAYOUT(self.source, self.flow, first_unit(self.form.image, self.form.graph), start)
         self.data, self.places = self.data_places()
-        self.program = Program(self.form.image, self.form.graph, self.flow.calls)
+        self.program = self.new_program()
         self.write_units()
-        self.built = self.program.built(self.layout.gates[start], self.patched_data())
+        self.built = self.program.built(self.called(start), self.patched_data())
         self.image, self.graph = image_file(self.built.code, self.built.data, self.form.image), self.built.graph
         self.map = self.map_text().encode()
+
+    def new_program(self):
+        return Program(self.form.image, self.form.graph, self.flow.calls)
+
+    def called(self, k):
+        """Where calls of a place go."""
+        return self.layout.gates[k]
 
     def data_places(self):
         """The address of each section of data, and where initialised data end; and the addresses of common symbols."""
@@ -391,16 +406,19 @@ class Hardening:
         for site in self.flow.sites:
             if not self.flow.targets(site):
                 kind = {"icall": "call", "ijump": "jump"}[source.items[site].kind]
-                program.listed(kind + "class" if self.form.graph == 2 else "class", self.flow.label[site])
+                program.listed(kind + "class" if self.form.graph > 1 else "class", self.flow.label[site])
         for k, item in enumerate(source.items):
             assert program.at == self.layout.gates[k] or item.kind == "store" and k not in self.layout.group
-            if self.flow.is_target(k):
-                labels = [lead.get(k) for lead in self.flow.leads]
-                if self.form.graph == 2:
-                    program.target(*labels)
-                else:
-                    program.gate(labels[0])
+            self.write_lead(k)
             self.write_unit(k, item, self.patched(k, item))
+
+    def write_lead(self, k):
+        """The words before a place's unit."""
+        labels = [lead.get(k) for lead in self.flow.leads]
+        if self.form.graph == 2 and any(labels):
+            self.program.target(*labels)
+        elif any(labels):
+            self.program.gate(labels[0])
 
     def write_unit(self, k, item, word):
         program, target = self.program, self.layout.targets[k]
@@ -409,8 +427,10 @@ class Hardening:
         if item.kind == "branch":
             put = program.branch if k in self.layout.long else program.near
             put(funct3 ^ 1 if k in self.layout.long else funct3, rs1, rs2, to)
-        elif item.kind in ("jump", "call"):
-            getattr(program, item.kind)(to)
+        elif item.kind == "jump":
+            program.jump(to)
+        elif item.kind == "call":
+            program.call(self.called(target))
         elif item.kind in ("ijump", "icall"):
             getattr(program, item.kind)(rs1, imm, self.flow.label[k])
         elif item.kind == "store":
@@ -491,13 +511,13 @@ def differences(tool, path, entry, folder):
     yield from unlike(Source(Path(path).read_bytes()), entry, folder, words)
 
 
-def unlike(source, entry, folder, command):
+def unlike(source, entry, folder, command, hardening=Hardening):
     """The forms in which a command makes something else, without a policy and under a list of system calls, and what."""
     policy = os.path.join(folder, "policy")
     Path(policy).write_text(policy_text(CALLS))
-    for form in FORMS:
-        yield from unlike_in(form, Hardening(source, entry, form), folder, command(form, "none", files_in(folder)))
-        listed = Hardening(source, entry, form, policy_text(CALLS))
+    for form in hardening.FORMS:
+        yield from unlike_in(form, hardening(source, entry, form), folder, command(form, "none", files_in(folder)))
+        listed = hardening(source, entry, form, policy_text(CALLS))
         yield from unlike_in(form + " with a list", listed, folder, command(form, policy, files_in(folder)))
 
 

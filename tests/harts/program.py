@@ -15,6 +15,7 @@ from images import CODE, OPENING, addi, branch, check, i_form, image_file, jal, 
 IMAGE_VERSIONS = {1: "OneHart", 2: "EightHarts"}  # their names in tables of crates/
 UNITS = {1: 0x40000040, 2: 0x40000050}
 CLOSING = {1: 0x40000038, 2: 0x40000048}
+UNITS_OF_3 = {1: 0x4000002C, 2: 0x4000003C}  # under graphs of version 3
 HANDLERS = {CODE: "__cfi_bad_target", CODE + 4: "__cfi_bad_return", CODE + 8: "__cfi_deep"}
 ECALL, EBREAK = 0x00000073, 0x00100073
 
@@ -37,6 +38,11 @@ class Built(NamedTuple):
         return image_file(self.code, self.data, self.version)
 
 
+def first_unit(version, graph):
+    """Where the units begin of an image of a version, under a graph of one. The call of the opening is 12 bytes before it, the closing 8."""
+    return (UNITS_OF_3 if graph == 3 else UNITS)[version]
+
+
 def guarded(at, numbers):
     """The words of a system call behind a test of its number."""
     tests = [word for k, number in enumerate(numbers) for word in (addi(31, 0, number), branch(0, 31, 17, 8 * (len(numbers) - k)))]
@@ -53,8 +59,8 @@ class Program:
     numbers of system calls are listed, each is guarded."""
 
     def __init__(self, version, graph=1, calls=None):
-        self.version, self.graph, self.calls, self.at = version, graph, calls, UNITS[version]
-        self.units, self.labels, self.classes = [], {}, {}
+        self.version, self.graph, self.calls, self.at = version, graph, calls, first_unit(version, graph)
+        self.units, self.labels, self.classes, self.ranges = [], {}, {}, []
 
     def put(self, size, words, line=None):
         """Adds a unit of so many words: what its words are, and its line of the graph, by its address and the labels."""
@@ -139,7 +145,7 @@ class Program:
 
     def built(self, entry, data=b""):
         """The image that is entered at a label. Where data are a function, they are what it makes of the labels."""
-        words = prologue(self.address(entry), self.version)
+        words = prologue(self.address(entry), self.version, self.graph)
         lines = ["call %08x %08x" % (OPENING, self.address(entry))]
         for at, unit, line in self.units:
             words += unit(at)
@@ -147,7 +153,8 @@ class Program:
         heads = ["%s %05x%s" % (sort, label, "".join(" %08x" % at for at in targets))
                  for (label, sort), targets in sorted(self.classes.items())]
         calls = [calls_line(self.calls)] if self.calls is not None else []
-        text = ["rvcfi-graph %d" % self.graph, "code %08x %08x" % (CODE, 4 * len(words))] + calls + heads + lines + ["end", ""]
-        starts = {at for at, _, _ in self.units} | set(HANDLERS) | {OPENING, CLOSING[self.version]}
+        ranges = ["leaf %08x %08x" % each for each in self.ranges]
+        text = ["rvcfi-graph %d" % self.graph, "code %08x %08x" % (CODE, 4 * len(words))] + calls + ranges + heads + lines + ["end", ""]
+        starts = {at for at, _, _ in self.units} | set(HANDLERS) | {OPENING, first_unit(self.version, self.graph) - 8}
         data = data(self.labels) if callable(data) else data
         return Built(self.version, words, data, "\n".join(text).encode(), starts, dict(self.labels))

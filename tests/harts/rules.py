@@ -4,12 +4,13 @@ The split looks at one word after another, and each rule at one address after an
 """
 
 from machine import CODE, IMMEDIATE, REGISTER, WORD, field, signed
-from program import CLOSING, EBREAK, ECALL, HANDLERS, OPENING, UNITS, addi, branch, check, guarded, i_form, jal, prologue, push
+from program import EBREAK, ECALL, HANDLERS, OPENING, addi, branch, check, first_unit, guarded, i_form, jal, prologue, push
 
 STOP, GATE, CALL, GUARDED = "stop", "gate", "system call", "guarded"
 KEPT = (3, 4, 30, 31)  # registers that no plain instruction writes
 MOST_STORES = 16  # behind one mask
 MOST_NUMBERS = 8  # of system calls
+MOST_WORDS = 64  # no unit has as many
 
 
 def jal_target(word, at, rd):
@@ -57,13 +58,17 @@ def member(word):
     return word & 127 == 0x23 and funct3 < 4 and word >> 15 & 31 == 31 and distance < 2048
 
 
-def stores(words):
+def masked(words, mask):
     """How many words a mask and the stores that follow it have, or None."""
-    mask = [addi(31, words[0] >> 15 & 31, words[0] >> 20), i_form(0x13, 1, 31, 31, 36), i_form(0x13, 5, 31, 31, 36)]
-    if words[:3] != mask:
+    if words[:len(mask)] != mask:
         return None
-    count = next((k for k, word in enumerate(words[3:]) if not member(word)), len(words) - 3)
-    return 3 + min(count, MOST_STORES) if count else None
+    count = next((k for k, word in enumerate(words[len(mask):]) if not member(word)), len(words) - len(mask))
+    return len(mask) + min(count, MOST_STORES) if count else None
+
+
+def stores(words):
+    """How many words a unit of stores has, or None."""
+    return masked(words, [addi(31, words[0] >> 15 & 31, words[0] >> 20), i_form(0x13, 1, 31, 31, 36), i_form(0x13, 5, 31, 31, 36)])
 
 
 def numbers(words, at):
@@ -75,8 +80,9 @@ def numbers(words, at):
     return None
 
 
-def unit(words, at):
-    """The unit that begins at an address: its kind, what it asks for or where it leads, and how many words it has; or None."""
+def common(words, at):
+    """The unit that begins at an address, of those that graphs of each version have: its kind, what it asks for or where it leads, and
+    how many words it has; or None."""
     first = words[0]
     if first & 0xFFF == 0x37:
         return GATE, first >> 12, 1
@@ -91,17 +97,23 @@ def unit(words, at):
     if offset is not None:
         to = jal_target(words[1] if len(words) > 1 else None, at + 4, 0)
         return ("edge", to, 2) if offset == 8 and to is not None else ("edge", at + offset, 1)
-    to = jal_target(words[7], at + 28, 1) if len(words) > 7 else None
-    if to is not None and words[:7] == push(at):
-        return "direct", to, 8
     returns = [i_form(0x03, 3, 31, 3, -8), addi(3, 3, -8), branch(0, 31, 1, 8), jal(0, at + 12, CODE + 4), i_form(0x67, 0, 0, 31, 0)]
     if words[:5] == returns:
         return "return", None, 5
-    size = stores(words)
-    if size:
-        return "stores", None, size
     listed = numbers(words, at)
-    return (GUARDED, listed, 2 * len(listed) + 2) if listed else computed(words, at)
+    return (GUARDED, listed, 2 * len(listed) + 2) if listed else None
+
+
+def unit(words, at):
+    """The unit that begins at an address under graphs of versions 1 and 2, as `common` tells it."""
+    found = common(words, at)
+    if found:
+        return found
+    to = jal_target(words[7], at + 28, 1) if len(words) > 7 else None
+    if to is not None and words[:7] == push(at):
+        return "direct", to, 8
+    size = stores(words)
+    return ("stores", None, size) if size else computed(words, at)
 
 
 class Lines:
@@ -110,10 +122,12 @@ class Lines:
     def __init__(self, text):
         lines = [line.split() for line in text.decode().split("\n")[:-2]]
         self.version, self.code = int(lines[0][1]), int(lines[1][2], 16)
-        self.classes, self.lines, self.calls = {}, {}, None
+        self.classes, self.lines, self.calls, self.ranges = {}, {}, None, []
         for words in lines[2:]:
             if words[0] == "calls":
                 self.calls = [int(word) for word in words[1:]]
+            elif words[0] == "leaf":
+                self.ranges.append((int(words[1], 16), int(words[2], 16)))
             elif words[0].endswith("class"):
                 self.classes[int(words[1], 16)] = words[0], [int(word, 16) for word in words[2:]]
             else:
@@ -139,15 +153,27 @@ class Pair:
 
     def __init__(self, version, words, text):
         self.version, self.words, self.graph = version, words, Lines(text)
-        self.end = CODE + 4 * len(words)
+        self.first, self.end = first_unit(version, self.graph.version), CODE + 4 * len(words)
         self.units, self.last, self.unfit = {}, None, None
+
+    def words_from(self, at):
+        """The words from an address on, as many as a unit may have."""
+        k = (at - CODE) // 4
+        return self.words[k:k + MOST_WORDS]
+
+    def unit_at(self, at):
+        """The unit that begins at an address, if this graph admits it."""
+        found, read = unit(self.words_from(at), at), 4 if self.graph.version == 2 else 0
+        if not found or (found[0] == "jump" and found[1][1] != read) or not self.graph.allows(*found[:2]):
+            return None
+        return found
 
     def split(self):
         """Cuts the words into units, up to the first place where none fits."""
-        at, read = UNITS[self.version], 4 if self.graph.version == 2 else 0
+        at = self.first
         while at < self.end:
-            found = unit(self.words[(at - CODE) // 4:], at)
-            if not found or (found[0] == "jump" and found[1][1] != read) or not self.graph.allows(*found[:2]):
+            found = self.unit_at(at)
+            if not found:
                 self.unfit = at
                 return
             self.units[at] = found
@@ -155,12 +181,12 @@ class Pair:
 
     def opened(self):
         """Where the opening leads."""
-        at = UNITS[self.version] - 12
+        at = self.first - 12
         return jal_target(self.words[(at - CODE) // 4], at, 1)
 
     def prologue(self):
         """The first word of the prologue that is missing or another one."""
-        call, wanted = UNITS[self.version] - 12, prologue(UNITS[self.version], self.version)
+        call, wanted = self.first - 12, prologue(self.first, self.version, self.graph.version)
         for k, word in enumerate(wanted):
             at, own = CODE + 4 * k, self.words[k] if k < len(self.words) else None
             if (jal_target(own, at, 1) is None) if at == call else own != word:
@@ -173,6 +199,10 @@ class Pair:
             if kind in ("edge", "direct"):
                 yield at, "edge" if kind == "edge" else "call", to
         yield OPENING, "call", self.opened()
+
+    def may_lead(self, at, to):
+        """Whether a direct transfer may lead to an address, as rule Target asks."""
+        return to in self.units
 
     def wrong_sites(self):
         asked = {at: (kind, to[0]) for at, (kind, to, _) in self.units.items() if kind in ("jump", "call")}
@@ -204,7 +234,7 @@ class Pair:
     def failing(self):
         """The rules after Prologue and Unit in their order, each with the addresses at which it fails."""
         leads = list(self.leads())
-        yield "Target", [at for at, _, to in leads if to not in self.units]
+        yield "Target", [at for at, _, to in leads if not self.may_lead(at, to)]
         yield "Unlisted", [at for at, name, to in leads if not self.graph.is_line(at, name, to)]
         started = {(at, name) for at, name, _ in leads}
         yield "Unused", [at for at, words in self.graph.lines.items() if words[0] != "site" and (at, words[0]) not in started]
@@ -212,7 +242,12 @@ class Pair:
         yield "Gate", list(self.lacking())
         yield "Astray", list(self.astray())
         ends = self.last is not None and self.units[self.last][0] == STOP
-        yield "End", [] if ends else [self.last or UNITS[self.version]]
+        yield "End", [] if ends else [self.last or self.first]
+
+    def starts(self):
+        """Where something starts, if the pair is accepted."""
+        self.split()
+        return set(self.units) | set(HANDLERS) | {OPENING, self.first - 8}
 
     def verdict(self):
         """The text that `rvcfi verify` puts."""
@@ -236,6 +271,4 @@ def verdict(version, words, graph):
 
 def starts(version, words, graph):
     """Where something starts in an accepted pair."""
-    pair = Pair(version, words, graph)
-    pair.split()
-    return set(pair.units) | set(HANDLERS) | {OPENING, CLOSING[version]}
+    return Pair(version, words, graph).starts()

@@ -91,8 +91,10 @@ class Run:
     """A run of a built program under a script, for at most so many steps: how it stopped, by which hart, after how many steps,
     and each hart's walk."""
 
+    MACHINE = Machine
+
     def __init__(self, built, script, given, limit):
-        self.machine = Machine(built.version, built.code, built.data, given, script.harts)
+        self.machine = self.MACHINE(built.version, built.code, built.data, given, script.harts)
         self.walks = [[] for _ in range(script.harts)]
         self.stop, self.hart, self.steps = None, 0, 0
         changes, harts = list(script.changes), harts_in_turn(script.turns)

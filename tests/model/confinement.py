@@ -28,18 +28,6 @@ from machine import START
 from rules import verdict
 from switched import STRICTER, WEAKER
 
-MOST_WORDS = 64  # no unit has as many
-
-
-class Words(list):
-    """The words of a code, from which a judge that looks at one unit after another takes no more than it needs."""
-
-    def __getitem__(self, at):
-        if isinstance(at, slice) and at.stop is None:
-            at = slice(at.start, at.start + MOST_WORDS)
-        return super().__getitem__(at)
-
-
 class Told:
     """How many checks passed, which failed, and the program that is asked too, if one is."""
 
@@ -55,7 +43,7 @@ class Told:
         """That a pair is accepted, or is rejected by a rule, by the independent judge and by the program."""
         image, graph = built.image, built.graph
         fault = image_fault(image) or graph_fault(graph)
-        said = "refused " + fault if fault else verdict(built.version, Words(built.words), graph)
+        said = "refused " + fault if fault else verdict(built.version, built.words, graph)
         wanted = "rejected %s " % rule if rule else "accepted"
         self.check(said.startswith(wanted), "%s: %s, not %s" % (name, said, wanted))
         if self.program:

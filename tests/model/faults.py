@@ -48,7 +48,23 @@ def base(version=1, graph=1, calls=None):
     """Goes along each kind of line once, and ends by its entry's return: f is called, f is called and g is jumped to through pointers.
     Under a list of system calls it makes one of its first number."""
     p = Program(version, graph, calls)
-    p.label("main")
+
+    def begin(name, label=None, jump=None):
+        p.label(name)
+        if label and graph == 2:
+            p.target(label, jump)
+        elif label:
+            p.gate(label)
+
+    going(p, begin, graph)
+    p.label("stop")
+    p.stop()
+    return p.built("main", pointers("f", "g", "h"))
+
+
+def going(p, begin, jumped, call=lambda: None):
+    """Puts the units of `base`, where functions are begun by `begin`, a class of jumps has a label, and more calls stand behind the first."""
+    begin("main")
     p.label("near")
     p.near(BEQ, 0, 0, "on")
     p.plain(NOP, NOP)
@@ -67,7 +83,8 @@ def base(version=1, graph=1, calls=None):
     p.store(SD, 1, 8, 2)
     p.label("call")
     p.call("f")
-    p.plain(addi(17, 0, calls[0] if calls else 5), NOP)
+    call()
+    p.plain(addi(17, 0, p.calls[0] if p.calls else 5), NOP)
     p.label("ecall")
     p.ecall()
     p.plain(u_form(0x37, 5, 0x10), load(5, 0, 5))
@@ -75,24 +92,17 @@ def base(version=1, graph=1, calls=None):
     p.icall(5, 0, CLASS)
     p.plain(load(1, 8, 2), addi(2, 2, 16), u_form(0x37, 5, 0x10), load(5, 8, 5), NOP)
     p.label("ijump")
-    p.ijump(5, 0, graph)
-    for name, label in ("f", CLASS), ("g", CLASS), ("h", OTHER):
-        p.label(name)
-        if graph == 2:
-            p.target(label, 2 if name == "g" else None)
-        else:
-            p.gate(label)
+    p.ijump(5, 0, jumped)
+    for name, label, jump in ("f", CLASS, None), ("g", CLASS, jumped), ("h", OTHER, None):
+        begin(name, label, jump)
         p.plain(addi(10, 0, 1))
         p.label(name + " returns")
         p.returns()
-    p.label("stop")
-    p.stop()
-    return p.built("main", pointers("f", "g", "h"))
 
 
-def small(*units, version=1, calls=None, data=b""):
+def small(*units, version=1, calls=None, data=b"", program=None):
     """A program whose units are put by functions of it, and a stop."""
-    p = Program(version, 1, calls)
+    p = program or Program(version, 1, calls)
     p.label("main")
     for put in units:
         put(p)
@@ -132,7 +142,7 @@ def relined(built, old=None, *new):
     lines = built.graph.decode().split("\n")[:-2]
     if old:
         lines.remove(old)
-    is_head = lambda line: line.startswith(("rvcfi", "code", "calls")) or "class " in line
+    is_head = lambda line: line.startswith(("rvcfi", "code", "calls", "leaf")) or "class " in line
     heads, others = [line for line in lines if is_head(line)], [line for line in lines if not is_head(line)]
     for line in new:
         (heads if is_head(line) else others).append(line)

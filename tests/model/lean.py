@@ -1,0 +1,115 @@
+#!/usr/bin/env python3
+"""Runs the model of graphs of version 3: of the rules, of runs and of hardening in the forms `lean` and `harts-lean`.
+
+    python3 tests/model/lean.py [--program PATH] [--all] [--many N] [--seed N] [--levels=-O2,..]
+
+(a) Each case of lean_rows.py and lean_cases.py has to have its literal numbers. (b) Each pair of lean_faults.py has to be rejected
+by the rule that its row tells, and its run has to leave its graph where and as the row tells, or to stay in it where it tells that.
+Rules and parts of them are switched off in turn, and some such pair whose run leaves its graph has to be accepted then. (c) No run
+of a drawn pair that is accepted may leave its graph. (d) Where levels are named, the programs of tests/real are compiled, and have
+to run hardened as in form `split`. With a program, its `verify` is asked of the pairs of versions 1 and 2 that confinement.py has,
+and has to answer as this model does; of version 3 it is asked with `--all` alone, `run` and `harden` too. The status is 1 where
+something failed.
+"""
+
+import argparse
+import sys
+import tempfile
+from collections import Counter
+from pathlib import Path
+
+sys.dont_write_bytecode = True
+sys.path[:0] = [str(Path(__file__).resolve().parents[1] / name) for name in ("harts", "objects")]
+
+import accepted
+import faults
+import lean_asked
+import lean_cases
+import lean_drawn
+import lean_faults
+import lean_real
+import lean_rows
+import lean_switched
+from confined import started
+from confinement import Told
+from lean_rules import pair_of, told as told_of
+from lean_walk import LeanStatement
+
+
+def run_cases(told):
+    count = 0
+    for cases in (*lean_rows.ALL, *lean_cases.ALL):
+        for case in cases():
+            count += 1
+            told.check(case.got == case.wanted, "%s: %s, not %s" % case[:3])
+    print("cases with literal numbers: %d" % count)
+
+
+def failure_of(fault):
+    """Where the run of a row leaves its graph, or None."""
+    built = fault.built
+    statement = LeanStatement(pair_of(built.version, built.words, built.graph), built.graph)
+    return statement.failure(started(built, fault.harts), fault.steps())
+
+
+def run_faults(told):
+    """That rows are as they tell; what is answered are the pairs whose runs leave their graphs."""
+    rules, left = Counter(), []
+    for fault in lean_faults.faults():
+        said, failure = told_of(fault.built.version, fault.built.words, fault.built.graph), failure_of(fault)
+        told.check(said.startswith("rejected %s " % fault.rule), "%s: %s, not %s" % (fault.name, said, fault.rule))
+        got = (failure.pc, failure.clauses) if failure else (None, ())
+        told.check(got == (fault.pc, fault.clauses), "%s: %s, not at %s %s" % (fault.name, failure, fault.pc, fault.clauses))
+        rules[fault.rule] += 1
+        left += [fault.built] if failure else []
+    counts = ", ".join("%s %d" % each for each in sorted(rules.items()))
+    print("with a fault: %d pairs (%s); the runs of %d leave their graph" % (sum(rules.values()), counts, len(left)))
+    return left
+
+
+def run_checks(told, lines):
+    """That nothing fails: each line tells of what does."""
+    for line in lines:
+        told.check(False, line)
+
+
+def run_program(told, seed, levels, is_all):
+    """What a program tells of pairs of versions 1 and 2, and of version 3 where it is asked of all."""
+    pairs = [built for _, built in accepted.pairs(seed, 1)] + [fault.built for fault in faults.faults()]
+    for number, built in enumerate(pairs):
+        said = told_of(built.version, built.words, built.graph)
+        got = told.verified(built.image, built.graph)
+        told.check(got == (0 if said == "accepted" else 1, said + "\n"), "pair %d: the program says %r, not %s" % (number, got, said))
+    print("asked of the program: %d pairs of versions 1 and 2" % len(pairs))
+    if is_all:
+        lean_asked.check_pairs(told, seed)
+        lean_asked.check_objects(told, levels)
+
+
+def main():
+    words = argparse.ArgumentParser(description=__doc__, formatter_class=argparse.RawDescriptionHelpFormatter)
+    words.add_argument("--program", help="asked to verify pairs of versions 1 and 2")
+    words.add_argument("--all", action="store_true", help="the program is asked of version 3 too: to verify, run and harden")
+    words.add_argument("--many", type=int, default=1, help="so many times as many drawn pairs, at least 1")
+    words.add_argument("--seed", type=int, default=1)
+    words.add_argument("--levels", help="of compiled programs; with =, as --levels=-O2,-Os")
+    options = words.parse_args()
+    if options.many < 1:
+        words.error("--many is at least 1")
+    with tempfile.TemporaryDirectory() as folder:
+        told = Told(options.program and str(Path(options.program).resolve()), folder)
+        run_cases(told)
+        run_checks(told, lean_switched.checks(run_faults(told)))
+        run_checks(told, lean_drawn.checks(options.seed, options.many))
+        levels = options.levels.split(",") if options.levels else []
+        run_checks(told, lean_real.checks(levels) if levels else ())
+        if options.program and Path(options.program).exists():
+            run_program(told, options.seed, levels, options.all)
+        elif options.program:
+            print("not run, since there is no program: what it says of pairs")
+    print("%d passed, %d failed" % (told.passed, told.failed))
+    return 1 if told.failed else 0
+
+
+if __name__ == "__main__":
+    sys.exit(main())

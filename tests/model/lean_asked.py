@@ -1,0 +1,74 @@
+"""What a program answers of graphs of version 3, compared with the model: `verify` of pairs, `run` of those that are accepted, and
+`harden` of objects in both forms, byte for byte. A program that does not judge them yet fails each of these."""
+
+import random
+from pathlib import Path
+
+import lean_cases
+import lean_drawn
+import lean_faults
+import lean_rows
+import programs
+from forms import LEAN, LISTING, ROWS, STORING
+from hardener import Source, files_in, small_object, unlike, unlike_in
+from lean_hardener import LeanHardening
+from lean_real import compiled
+from lean_rules import pair_of, told as told_of
+from runs import answer
+
+LIMIT = 1000
+
+
+def pairs(seed):
+    """Pairs, each with a name."""
+    for cases in (*lean_rows.ALL, *lean_cases.ALL):
+        yield from ((case.name, case.pair) for case in cases() if case.pair)
+    yield from ((fault.name, fault.built) for fault in lean_faults.faults())
+    yield from (("pair %d of seed %d" % (number, seed), built) for number, (_, built) in enumerate(lean_drawn.pairs(random.Random(seed), 1)))
+
+
+def turned(rng, built):
+    """A script that changes data, of one hart or of several."""
+    harts = rng.randrange(1, 9) if built.version == 2 else 1
+    lines = ["rvcfi-script 2", "harts %d" % harts]
+    lines += ["turn %d %d" % (rng.randrange(harts), rng.randrange(1, 60)) for _ in range(rng.randrange(12))]
+    for step in sorted(rng.sample(range(200), 4)):
+        lines.append("at %d %08x %s" % (step, 0x10000 + 8 * rng.randrange(12), rng.choice(sorted(built.starts)).to_bytes(8, "little").hex()))
+    return "\n".join([*lines, "end", ""]).encode()
+
+
+def check_pairs(told, seed):
+    """`verify` of each pair, and `run` of those that are accepted."""
+    rng, count, runs = random.Random(seed), 0, 0
+    for name, built in pairs(seed):
+        said, count = told_of(built.version, built.words, built.graph), count + 1
+        got = told.verified(built.image, built.graph)
+        told.check(got == (0 if said == "accepted" else 1, said + "\n"), "%s: the program says %r, not %s" % (name, got, said))
+        if said == "accepted":
+            whole = built._replace(starts=pair_of(built.version, built.words, built.graph).starts())
+            script, runs = turned(rng, whole), runs + 1
+            (told.folder / "script").write_bytes(script)
+            done = programs.run([told.program, "run", *(str(told.folder / each) for each in ("image", "graph", "script")), "none", str(LIMIT)])
+            wanted = answer(whole, script, b"", LIMIT)
+            told.check((done.returncode, done.stdout) == wanted, "%s: the program runs it to %r, not %r" % (name, done.stdout, wanted))
+    print("asked of the program: %d pairs with graphs of version 3, and %d runs" % (count, runs))
+
+
+def check_objects(told, levels):
+    """`harden` of the small objects of tests/harts/forms.py, and of compiled ones."""
+    folder, count = str(told.folder), 0
+    path, policy = (str(told.folder / each) for each in ("object", "policy"))
+    for row in ROWS + STORING + LISTING:
+        Path(path).write_bytes(small_object(row))
+        Path(policy).write_text(row.policy_text())
+        for form in LEAN:
+            made, count = LeanHardening(Source(small_object(row)), row.entry, form, row.policy_text()), count + 1
+            words = [told.program, "harden", form, path, row.entry, policy if row.policy_text() else "none", *files_in(folder)]
+            differing = list(unlike_in(form, made, folder, words))
+            told.check(not differing, "%s: %s" % (row.name, ", ".join(differing)))
+    for name, content, _ in compiled(levels, folder) if levels else ():
+        Path(path).write_bytes(content)
+        words = lambda form, policy, files: [told.program, "harden", form, path, programs.ENTRY, policy, *files]
+        differing, count = list(unlike(Source(content), programs.ENTRY, folder, words, LeanHardening)), count + 2 * len(LEAN)
+        told.check(not differing, "%s: %s" % (name, ", ".join(differing)))
+    print("asked of the program: %d objects hardened" % count)
