@@ -8,10 +8,12 @@ set -eu
 cd "$(dirname "$0")"
 cc=${CC:-cc}
 flags="-std=c99 -O2 -Wall -Wextra -pedantic -Iinclude"
-if ! command -v "$cc" >/dev/null; then
-    echo "not built, since there is no $cc: the library for C"
-    exit 0
-fi
+for command in "$cc" python3; do
+    if ! command -v "$command" >/dev/null; then
+        echo "not built, since there is no $command: the library for C"
+        exit 0
+    fi
+done
 
 # archives FOLDER COMPILER ARCHIVER WORD ..: the archives, by archive.py with these words
 archives() {
