@@ -431,13 +431,13 @@ impl Processor {
     {
         let memory = self.mem();
         match op {
-            LoadOp::Lb => Ok(sext(memory.read(addr, 1)?, 8)),
-            LoadOp::Lh => Ok(sext(memory.read(addr, 2)?, 16)),
-            LoadOp::Lw => Ok(arithmetic::word(memory.read(addr, 4)?)),
-            LoadOp::Ld => memory.read(addr, 8),
-            LoadOp::Lbu => memory.read(addr, 1),
-            LoadOp::Lhu => memory.read(addr, 2),
-            LoadOp::Lwu => memory.read(addr, 4),
+            LoadOp::Lb => Ok(sext(memory.load_byte(addr)?, 8)),
+            LoadOp::Lh => Ok(sext(memory.load_half_word(addr)?, 16)),
+            LoadOp::Lw => Ok(arithmetic::word(memory.load_word(addr)?)),
+            LoadOp::Ld => memory.load_double_word(addr),
+            LoadOp::Lbu => memory.load_byte(addr),
+            LoadOp::Lhu => memory.load_half_word(addr),
+            LoadOp::Lwu => memory.load_word(addr),
         }
     }
 

@@ -205,21 +205,69 @@ impl Memory {
     }
 
     /// The number in the `n` bytes from `addr` on, the lowest byte first.
-    #[inline(always)]
     pub fn read(&self, addr: u64, n: u8) -> Result<u64, LoadFault>
         requires { IsAccessSize n }
         ensures value { IfOk result (λ value. value ≡ read n (memory_of self.now) addr) }
         ensures fault { IsErr result ↔ (can_load (profile_of self.now.version) addr n ≡ false) }
     {
-        if !is_loadable(self.version, addr, n) {
-            return Err(LoadFault);
+        match n {
+            1 => self.load_byte(addr),
+            2 => self.load_half_word(addr),
+            4 => self.load_word(addr),
+            _ => self.load_double_word(addr),
         }
-        Ok(match n {
-            1 => u64::from(self.byte(addr)),
-            2 => u64::from(self.half_word(addr)),
-            4 => u64::from(self.word(addr)),
-            _ => self.double_word(addr),
-        })
+    }
+
+    /// The byte at an address, where it may be loaded.
+    #[inline(always)]
+    pub fn load_byte(&self, addr: u64) -> Result<u64, LoadFault>
+        ensures value { IfOk result (λ value. value ≡ read 1 (memory_of self.now) addr) }
+        ensures fault { IsErr result ↔ (can_load (profile_of self.now.version) addr 1 ≡ false) }
+    {
+        if is_loadable(self.version, addr, 1) {
+            Ok(u64::from(self.byte(addr)))
+        } else {
+            Err(LoadFault)
+        }
+    }
+
+    /// The half-word at an address, where it may be loaded.
+    #[inline(always)]
+    pub fn load_half_word(&self, addr: u64) -> Result<u64, LoadFault>
+        ensures value { IfOk result (λ value. value ≡ read 2 (memory_of self.now) addr) }
+        ensures fault { IsErr result ↔ (can_load (profile_of self.now.version) addr 2 ≡ false) }
+    {
+        if is_loadable(self.version, addr, 2) {
+            Ok(u64::from(self.half_word(addr)))
+        } else {
+            Err(LoadFault)
+        }
+    }
+
+    /// The word at an address, where it may be loaded.
+    #[inline(always)]
+    pub fn load_word(&self, addr: u64) -> Result<u64, LoadFault>
+        ensures value { IfOk result (λ value. value ≡ read 4 (memory_of self.now) addr) }
+        ensures fault { IsErr result ↔ (can_load (profile_of self.now.version) addr 4 ≡ false) }
+    {
+        if is_loadable(self.version, addr, 4) {
+            Ok(u64::from(self.word(addr)))
+        } else {
+            Err(LoadFault)
+        }
+    }
+
+    /// The double word at an address, where it may be loaded.
+    #[inline(always)]
+    pub fn load_double_word(&self, addr: u64) -> Result<u64, LoadFault>
+        ensures value { IfOk result (λ value. value ≡ read 8 (memory_of self.now) addr) }
+        ensures fault { IsErr result ↔ (can_load (profile_of self.now.version) addr 8 ≡ false) }
+    {
+        if is_loadable(self.version, addr, 8) {
+            Ok(self.double_word(addr))
+        } else {
+            Err(LoadFault)
+        }
     }
 
     /// The half-word at an address.
