@@ -268,7 +268,7 @@ impl Running {
 
     /// Tries a step of the selected hart at an address, without asking the meddler: how it ended, or none where it
     /// is not known whether something starts there. That the run has ended, and that no instruction stands there, is
-    /// excluded, so it is not asked.
+    /// excluded, so neither is asked.
     #[inline(always)]
     fn step_quietly(&mut self, starts: &Starts, pc: &mut u64) -> Result<Option<Turn>, NoMemory>
         requires going { last_exit (harts_share self.old.machine).events ≡ None }
@@ -283,9 +283,7 @@ impl Running {
         ensures resting { IfOk result (λ _. self.new.resting ≡ self.old.resting) }
         ensures count { IfOk result (λ _. self.new.trail.count ≤ self.old.trail.count + 1) }
     {
-        let Some((word, instr)) = self.machine.fetch_at(*pc) else {
-            unreachable!();
-        };
+        let (word, instr) = self.machine.fetch_known(*pc);
         let Some(is_start) = starts.get(word) else {
             return Ok(None);
         };

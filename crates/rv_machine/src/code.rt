@@ -1,11 +1,11 @@
 //! Code, decoded once.
 
-ghost use Rattle.std.specs.Prelude.{◌≡◌, ◌+◌, ◌*◌, ◌<◌, ◌≤◌, [], ℕ, Some, IfOk, length, slice_get};
+ghost use Rattle.std.specs.Prelude.{◌≡◌, ◌+◌, ◌*◌, ◌<◌, ◌≤◌, [], ℕ, Some, IfOk, IsSome, length, slice_get};
 ghost use Rattle.rv_word.specs.MemoryMap.{CODE_SIZE, CODE_START};
 ghost use Rattle.rv_word.specs.Memory.{read};
 ghost use Rattle.rv_mem.specs.Cells.{memory_of};
 ghost use Rattle.rv_code.specs.Decode.{decoded};
-ghost use Rattle.rv_machine.specs.Code.{instr_in};
+ghost use Rattle.rv_machine.specs.Code.{instr_in, known_as};
 
 use rv_code::decode;
 use rv_instr::Instr;
@@ -20,15 +20,20 @@ use std::marker::Model;
 #[derive(Drop)]
 pub(crate) struct Code {
     instrs: Vec<Option<Instr>>,
+    /// The same words where they are instructions, for a step that knows that its word is one; others say nothing.
+    known: Vec<Instr>,
 }
 
 impl Model for Code {
     ghost use Rattle.std.specs.Prelude.{List, Option};
     ghost use Rattle.rv_instr.specs.declared.instr.Instr.{Instr};
+    ghost use Rattle.rv_machine.specs.Code.{AreKnown};
 
     ghost Value = { List (Option Instr) };
 
     ghost view = { λ c. c.instrs.items };
+
+    ghost invariant = { λ c. AreKnown c.instrs.items c.known.items };
 }
 
 impl Code {
@@ -38,6 +43,7 @@ impl Code {
     {
         Code {
             instrs: Vec::new(alloc),
+            known: Vec::new(alloc),
         }
     }
 
@@ -49,10 +55,13 @@ impl Code {
             slice_get code k ≡ Some (decoded (read 4 (memory_of memory.now) (CODE_START + 4 * k)))) }
     {
         let mut instrs = Vec::with_capacity(alloc, words)?;
+        let mut known = Vec::with_capacity(alloc, words)?;
         for k in 0..words {
-            instrs.push_reserved(decode(memory.word(CODE_START + 4 * k as u64)));
+            let instr = decode(memory.word(CODE_START + 4 * k as u64));
+            known.push_reserved(known_as(&instr));
+            instrs.push_reserved(instr);
         }
-        Ok(Code { instrs })
+        Ok(Code { instrs, known })
     }
 
     /// The instruction with an index.
@@ -60,5 +69,24 @@ impl Code {
         ensures { result ≡ instr_in self.now index }
     {
         *self.instrs.get(index)?
+    }
+
+    /// The instruction with an index, where there is one. Nothing is tested.
+    #[inline(always)]
+    pub(crate) fn known(&self, index: usize) -> Instr
+        requires { IsSome (instr_in self.now index) }
+        ensures { instr_in self.now index ≡ Some result }
+    {
+        self.known[index]
+    }
+}
+
+/// The instruction, and any other one where there is none.
+fn known_as(instr: &Option<Instr>) -> Instr
+    ensures { result ≡ known_as instr.now }
+{
+    match *instr {
+        Some(instr) => instr,
+        None => Instr::Ebreak,
     }
 }

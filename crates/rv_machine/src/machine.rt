@@ -175,16 +175,16 @@ impl Machine {
         self.processor.is_over()
     }
 
-    /// The number of the word of code at an address and the instruction that it is, if there is one; where there is
-    /// none, a step of the selected hart from there ends so.
+    /// The number of the word of code at an address and the instruction that stands there, where a step of the selected
+    /// hart from there does not end for want of one. So nothing is tested.
     #[inline(always)]
-    pub fn fetch_at(&self, pc: u64) -> Option<(usize, Instr)>
-        ensures word { IfSome result (λ found. pc ≡ CODE_START + 4 * found.0) }
-        ensures fetched { IfSome result (λ found. IsFetched (harts_share self.now) pc found.1) }
-        ensures none { result ≡ None → last_exit (harts_share self.now).events ≡ None
-            → IsNoFetch (stepped (profile_of self.now.processor.memory.version) (harts_in (at_pc self.now pc)) (harts_share self.now) (record { hart = self.now.current; changes = [] })).turn }
+    pub fn fetch_known(&self, pc: u64) -> (usize, Instr)
+        requires going { last_exit (harts_share self.now).events ≡ None }
+        requires stands { IsNoFetch (stepped (profile_of self.now.processor.memory.version) (harts_in (at_pc self.now pc)) (harts_share self.now) (record { hart = self.now.current; changes = [] })).turn → ⊥ }
+        ensures word { pc ≡ CODE_START + 4 * result.0 }
+        ensures fetched { IsFetched (harts_share self.now) pc result.1 }
     {
-        self.processor.fetch_at(pc)
+        self.processor.fetch_known(pc)
     }
 
     /// One step of the selected hart as if it stood at an address, with the instruction that stands there, in a run that

@@ -11,7 +11,7 @@ ghost use Rattle.rv_code.specs.Step.{address, can_fetch, exec, offset, puts, ran
 ghost use Rattle.rv_mem.specs.Cells.{HasRoom, has_room, memory_of};
 ghost use Rattle.rv_machine.specs.Code.{IsCodeOf};
 ghost use Rattle.rv_machine.specs.Room.{KeepsVersionAndRoom, LacksRoom, LacksRoomAtPc};
-ghost use Rattle.rv_machine.specs.Parts.{after_at, after_step, hart_at, hart_in, may_take_memory, shared_in, IsFetched, IsNoFetch, MayTakeMemory};
+ghost use Rattle.rv_machine.specs.Parts.{after_at, after_step, hart_at, hart_in, may_take_memory, shared_in, IsFetched, MayTakeMemory};
 
 use crate::arithmetic;
 use crate::code::Code;
@@ -219,18 +219,15 @@ impl Processor {
         self.ended().is_some()
     }
 
-    /// The number of the word of code at an address and the instruction that it is, if there is one.
+    /// The number of the word of code at an address where an instruction stands, and that instruction. Nothing is tested.
     #[inline(always)]
-    pub(crate) fn fetch_at(&self, pc: u64) -> Option<(usize, Instr)>
-        ensures word { IfSome result (λ found. pc ≡ CODE_START + 4 * found.0) }
-        ensures fetched { IfSome result (λ found. IsFetched (shared_in self.now) pc found.1) }
-        ensures none { result ≡ None → last_exit (shared_in self.now).events ≡ None
-            → IsNoFetch (step (profile_of self.now.memory.version) (hart_at self.now pc) (shared_in self.now)).turn }
+    pub(crate) fn fetch_known(&self, pc: u64) -> (usize, Instr)
+        requires { (instr : Instr) × IsFetched (shared_in self.now) pc instr }
+        ensures word { pc ≡ CODE_START + 4 * result.0 }
+        ensures fetched { IsFetched (shared_in self.now) pc result.1 }
     {
-        match self.fetch(pc) {
-            Some(instr) => Some(((pc.wrapping_sub(CODE_START) / 4) as usize, instr)),
-            None => None,
-        }
+        let word = (pc.wrapping_sub(CODE_START) / 4) as usize;
+        (word, self.code.known(word))
     }
 
     /// The step with an instruction that stands at an address, which takes the place of the pc, in a run that goes on.

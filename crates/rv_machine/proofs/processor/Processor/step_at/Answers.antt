@@ -1,4 +1,4 @@
-use Rattle.std.proofs.Common.{◌≡◌, ◌∙◌, ap, sym}
+use Rattle.std.proofs.Common.{◌∙◌, ap, sym}
 use Rattle.rv_word.specs.MemoryMap.{profile_of}
 use Rattle.rv_code.specs.State.{After, last_exit}
 use Rattle.rv_machine.specs.Parts.{hart_at, shared_in}
