@@ -339,11 +339,11 @@ impl Running {
                     return Ok((Turn::Ran, steps));
                 }
                 Some(turn) => {
-                    steps += 1;
                     if is_stop(turn) {
                         self.machine.go_to(pc);
-                        return Ok((turn, steps));
+                        return Ok((turn, steps + 1));
                     }
+                    steps += 1;
                 }
             }
         }
