@@ -283,12 +283,12 @@ impl Running {
         ensures resting { IfOk result (λ _. self.new.resting ≡ self.old.resting) }
         ensures count { IfOk result (λ _. self.new.trail.count ≤ self.old.trail.count + 1) }
     {
-        let (word, instr) = self.machine.fetch_known(*pc);
+        let (word, ready) = self.machine.fetch_known(*pc);
         let Some(is_start) = starts.get(word) else {
             return Ok(None);
         };
         self.note_start(*pc, is_start);
-        Ok(Some(self.machine.step_at(pc, &instr)?))
+        Ok(Some(self.machine.step_at(pc, &ready)?))
     }
 
     /// Lets the hart that took the last step go on, at most until so many steps are taken, as long as the meddler need

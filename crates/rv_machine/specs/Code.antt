@@ -8,6 +8,8 @@ use Rattle.rv_instr.specs.declared.instr.Instr.TheVariants.{Ebreak}
 use Rattle.rv_code.specs.Decode.{decoded}
 use Rattle.rv_code.specs.State.{last_exit}
 use Rattle.rv_code.specs.declared.event.Event.{Event}
+use Rattle.rv_machine.specs.Ready.{instr_of}
+use Rattle.rv_machine.specs.declared.ready.Ready.{Ready}
 
 -- the instruction with an index, if one was kept
 abbrev pub instr_in : List (Option Instr) → ℕ → Option Instr
@@ -19,8 +21,8 @@ known_as None = Ebreak
 known_as (Some instr) = instr
 
 -- the same words, as they are kept for who knows that one is an instruction
-pub record AreKnown (instrs : List (Option Instr)) (known : List Instr) : Type 0 where
-  pub each : known ≡ map known_as instrs
+pub record AreKnown (instrs : List (Option Instr)) (known : List Ready) : Type 0 where
+  pub each : map instr_of known ≡ map known_as instrs
 
 -- at each word of code memory holds the word of the instruction that is kept of it, and no more are kept
 pub record IsCodeOf (instrs : List (Option Instr)) (m : Memory) : Type 0 where

@@ -6,7 +6,9 @@ ghost use Rattle.rv_word.specs.Memory.{read};
 ghost use Rattle.rv_mem.specs.Cells.{memory_of};
 ghost use Rattle.rv_code.specs.Decode.{decoded};
 ghost use Rattle.rv_machine.specs.Code.{instr_in, known_as};
+ghost use Rattle.rv_machine.specs.Ready.{instr_of};
 
+use crate::ready::Ready;
 use rv_code::decode;
 use rv_instr::Instr;
 use rv_mem::Memory;
@@ -21,7 +23,7 @@ use std::marker::Model;
 pub(crate) struct Code {
     instrs: Vec<Option<Instr>>,
     /// The same words where they are instructions, for a step that knows that its word is one; others say nothing.
-    known: Vec<Instr>,
+    known: Vec<Ready>,
 }
 
 impl Model for Code {
@@ -58,7 +60,7 @@ impl Code {
         let mut known = Vec::with_capacity(alloc, words)?;
         for k in 0..words {
             let instr = decode(memory.word(CODE_START + 4 * k as u64));
-            known.push_reserved(known_as(&instr));
+            known.push_reserved(ready_as(&instr));
             instrs.push_reserved(instr);
         }
         Ok(Code { instrs, known })
@@ -73,20 +75,20 @@ impl Code {
 
     /// The instruction with an index, where there is one. Nothing is tested.
     #[inline(always)]
-    pub(crate) fn known(&self, index: usize) -> Instr
+    pub(crate) fn known(&self, index: usize) -> Ready
         requires { IsSome (instr_in self.now index) }
-        ensures { instr_in self.now index ≡ Some result }
+        ensures { instr_in self.now index ≡ Some (instr_of result) }
     {
         self.known[index]
     }
 }
 
 /// The instruction, and any other one where there is none.
-fn known_as(instr: &Option<Instr>) -> Instr
-    ensures { result ≡ known_as instr.now }
+fn ready_as(instr: &Option<Instr>) -> Ready
+    ensures { instr_of result ≡ known_as instr.now }
 {
     match *instr {
-        Some(instr) => instr,
-        None => Instr::Ebreak,
+        Some(instr) => Ready::of(instr),
+        None => Ready::Other(Instr::Ebreak),
     }
 }

@@ -1,6 +1,7 @@
 use Rattle.std.proofs.Common.{sym, subst}
 use Rattle.rv_machine.specs.Harts.{MachineParts, harts_share}
 use Rattle.rv_machine.specs.Parts.{IsFetched}
+use Rattle.rv_machine.specs.Ready.{instr_of}
 use Rattle.rv_code.specs.State.{last_exit}
 use Rattle.std.proofs.Common.{◌≡◌, None}
 use Rattle.cfi_step.proofs.Stretched.{quiet_so, start_at}
@@ -12,7 +13,7 @@ step_at-requires-clause-going c =
 
 pub step_at-requires-clause-fetched : goal.step_at-requires-clause-fetched
 step_at-requires-clause-fetched c =
-    subst (λ (m : MachineParts). IsFetched (harts_share m) c.args.pc.now c.fetch_known-word.result.1) (sym c.note_start.ensures.machine) c.fetch_known-word.ensures.fetched
+    subst (λ (m : MachineParts). IsFetched (harts_share m) c.args.pc.now (instr_of c.fetch_known-word.result.1)) (sym c.note_start.ensures.machine) c.fetch_known-word.ensures.fetched
 
 pub returns-clause-tried : goal.returns-clause-tried
 returns-clause-tried c = λ p words are.

@@ -5,6 +5,7 @@ use Rattle.rv_word.specs.Memory.{read}
 use Rattle.rv_mem.specs.Cells.{memory_of}
 use Rattle.rv_code.specs.Decode.{decoded}
 use Rattle.rv_machine.specs.Code.{known_as}
+use Rattle.rv_machine.specs.Ready.{instr_of}
 use Rattle.rv_machine.proofs.code.Code.of.Given as goal
 
 abbrev pub invariant-loop-k : goal.invariant-loop-k
@@ -12,6 +13,6 @@ invariant-loop-k l = record {
   len : length l.instrs.items ≡ l.k;
   room : l.words ≤ vec_capacity l.instrs;
   known_room : l.words ≤ vec_capacity l.known;
-  known : l.known.items ≡ map known_as l.instrs.items;
+  known : map instr_of l.known.items ≡ map known_as l.instrs.items;
   each : (j : ℕ) → j < l.k → slice_get l.instrs.items j ≡ Some (decoded (read 4 (memory_of l.memory) (CODE_START + 4 * j)));
 }
