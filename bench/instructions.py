@@ -1,10 +1,11 @@
 #!/usr/bin/env python3
-"""Counts instructions of `rvcfi`, by valgrind's callgrind: `python3 bench/instructions.py [--program PATH]`.
+"""Counts instructions of `rvcfi`, by valgrind's callgrind: `python3 bench/instructions.py [--program PATH] [--example PATH]`.
 
 Printed are those of `verify` of bench/verify.py's images of 1,024 KiB, with one store behind a mask and with several; of `rewrite` and
 `verify` of bench/rewrite.py's 950 functions; and those of a step of `run`, of `loop` and of the compiled programs of bench/run.py, as the
-difference of two runs of other lengths, in which the start falls out; and of bench/run.py's `loop` and `worker` for several harts, by
-its scripts of turns. The same program, files and machine give the same counts.
+difference of two runs of other lengths, in which the start falls out, also of the library's example `run` (library/build.sh), which
+calls `rvcfi_run`; and of bench/run.py's `loop` and `worker` for several harts, by its scripts of turns. The same program, files and
+machine give the same counts.
 """
 
 import argparse
@@ -21,6 +22,7 @@ from families import compiled
 from verify import written
 
 SHORT, LONG = 100000, 300000  # steps of the two runs
+EXAMPLE = os.path.join(os.path.dirname(os.path.abspath(__file__)), "..", "library", "out", "run")
 CALLGRIND = ["valgrind", "--tool=callgrind", "--callgrind-out-file=/dev/null"]
 
 
@@ -30,9 +32,9 @@ def instructions(command):
     return int(re.search(r"Collected : (\d+)", told).group(1))
 
 
-def of_a_step(program, paths, given):
-    """How many instructions a step of a run takes."""
-    counts = [instructions([program, "run", *paths, "none", given, str(steps)]) for steps in (SHORT, LONG)]
+def of_a_step(command, paths, given):
+    """How many instructions a step of a run takes, by this command."""
+    counts = [instructions([*command, *paths, "none", given, str(steps)]) for steps in (SHORT, LONG)]
     return (counts[1] - counts[0]) / (LONG - SHORT)
 
 
@@ -47,6 +49,11 @@ def print_files(program, folder):
     print("verify of them: %d" % instructions([program, "verify", *made[:2]]))
 
 
+def print_steps(what, command, cases):
+    for name, paths, given in cases:
+        print("%s, a step of %s: %.1f" % (what, name, of_a_step(command, paths, given)))
+
+
 def print_harts(program, folder):
     """A step of the programs for several harts: the commands are in pairs, all steps and none."""
     for name, build in (("loop", run.looping), ("worker", run.working)):
@@ -58,13 +65,17 @@ def print_harts(program, folder):
 def main():
     asked = argparse.ArgumentParser(description="Counts instructions of rvcfi.")
     asked.add_argument("--program", default=run.PROGRAM)
+    asked.add_argument("--example", default=EXAMPLE, help="the library's example run")
     asked = asked.parse_args()
     with tempfile.TemporaryDirectory() as folder:
         print_files(asked.program, folder)
-        loop = run.write_pair(folder, "loop", run.loop(run.MANY))
-        print("run, a step of loop: %.1f" % of_a_step(asked.program, loop, "none"))
-        for case, _ in run.compiled_cases(asked.program, folder):
-            print("run, a step of %s: %.1f" % (case.name, of_a_step(asked.program, case.paths, case.given)))
+        cases = [("loop", run.write_pair(folder, "loop", run.loop(run.MANY)), "none")]
+        cases += [(case.name, case.paths, case.given) for case, _ in run.compiled_cases(asked.program, folder)]
+        print_steps("run", [asked.program, "run"], cases)
+        if os.path.exists(asked.example):
+            print_steps("rvcfi_run for C", [asked.example], cases)
+        else:
+            print("not run, since %s is not there (library/build.sh): rvcfi_run for C" % asked.example)
         print_harts(asked.program, folder)
 
 

@@ -60,10 +60,6 @@ pub none_of : (ended : Option ℕ) → is_some ended ≡ false → ended ≡ Non
 none_of None fact = refl
 none_of (Some status) fact = absurd (cc)
 
-pub none_if_not : {A : Type 0} (o : Option A) → ((x : A) → o ≡ Some x → ⊥) → o ≡ None
-none_if_not None never = refl
-none_if_not (Some x) never = absurd (never x refl)
-
 -- no end that may come is want of an instruction
 no_end : (place : Place) (pc : ℕ) (turn : Turn) → MayEnd place pc turn → IsNoFetch turn → ⊥
 no_end place pc Ran may none = none

@@ -268,7 +268,7 @@ impl Running {
 
     /// Tries a step of the selected hart at an address, without asking the meddler: how it ended, or none where it
     /// is not known whether something starts there. That the run has ended, and that no instruction stands there, is
-    /// excluded, so it is not asked.
+    /// excluded, so neither is asked.
     #[inline(always)]
     fn step_quietly(&mut self, starts: &Starts, pc: &mut u64) -> Result<Option<Turn>, NoMemory>
         requires going { last_exit (harts_share self.old.machine).events ≡ None }
@@ -283,14 +283,12 @@ impl Running {
         ensures resting { IfOk result (λ _. self.new.resting ≡ self.old.resting) }
         ensures count { IfOk result (λ _. self.new.trail.count ≤ self.old.trail.count + 1) }
     {
-        let Some((word, instr)) = self.machine.fetch_at(*pc) else {
-            unreachable!();
-        };
+        let (word, ready) = self.machine.fetch_known(*pc);
         let Some(is_start) = starts.get(word) else {
             return Ok(None);
         };
         self.note_start(*pc, is_start);
-        Ok(Some(self.machine.step_at(pc, &instr)?))
+        Ok(Some(self.machine.step_at(pc, &ready)?))
     }
 
     /// Lets the hart that took the last step go on, at most until so many steps are taken, as long as the meddler need
@@ -341,11 +339,11 @@ impl Running {
                     return Ok((Turn::Ran, steps));
                 }
                 Some(turn) => {
-                    steps += 1;
                     if is_stop(turn) {
                         self.machine.go_to(pc);
-                        return Ok((turn, steps));
+                        return Ok((turn, steps + 1));
                     }
+                    steps += 1;
                 }
             }
         }

@@ -1,8 +1,8 @@
 -- Code as it was decoded is that of the memory in which a run starts, and stays so under all that a machine does.
 use Rattle.std.proofs.Common.{◌≡◌, ℕ, ◌+◌, ◌*◌, ◌≤◌, ◌<◌, inl, inr, List, [], ◌∷◌, ◌++◌, ◌⊎◌, length, get_or, Bool, true, false, Option, Some, None, refl, sym, ap, ◌∙◌, arith}
-use Rattle.std.specs.Prelude.{slice_get, option_and_then, nat_le}
+use Rattle.std.specs.Prelude.{slice_get, option_and_then, option_map, nat_le, IsSome}
 use Rattle.std.proofs.lemmas.Bool.{leb-true, and_parts, or_cases, cases_lt}
-use Rattle.std.proofs.lemmas.Option.{slice_get_past, slice_get-get_or, get_or_from_slice_get}
+use Rattle.std.proofs.lemmas.Option.{slice_get-map, slice_get_past, slice_get-get_or, get_or_from_slice_get}
 use Rattle.std.proofs.lemmas.List.{length-append}
 use Rattle.std.proofs.Math.ListN.{get_or-append}
 use Rattle.std.proofs.Math.Seq.{get_or-append_seam}
@@ -17,7 +17,9 @@ use Rattle.rv_code.specs.SystemCall.{system_call}
 use Rattle.rv_code.proofs.Calls as calls
 use Rattle.rv_code.proofs.Calls.{AfterCall, answered, ended}
 use Rattle.rv_code.proofs.Frames.{placed_outside, read_same, write_outside}
-use Rattle.rv_machine.specs.Code.{IsCodeOf}
+use Rattle.rv_machine.specs.Code.{AreKnown, IsCodeOf, instr_in, known_as}
+use Rattle.rv_machine.specs.Ready.{instr_of}
+use Rattle.rv_machine.specs.declared.ready.Ready.{Ready}
 
 -- code is the same as long as nothing writes its region
 pub code_kept : (instrs : List (Option Instr)) (m m' : Memory) → SameOn CODE_START (CODE_START + CODE_SIZE) m m' → IsCodeOf instrs m → IsCodeOf instrs m'
@@ -95,3 +97,24 @@ one_more f xs more k x grown count here is j low =
           let same : k ≡ j = omega arith in
           ap (λ i. get_or (xs ++ x ∷ []) i (f j)) last ∙ get_or-append_seam xs x [] (f j) ∙ here ∙ ap f same
     ])
+
+-- the word of an index, as it is kept for who knows that it is an instruction
+pub known_there : (instrs : List (Option Instr)) (known : List Ready) (k : ℕ) (instr : Instr) → AreKnown instrs known → instr_in instrs k ≡ Some instr → option_map instr_of (slice_get known k) ≡ Some instr
+known_there instrs known k instr are is =
+    sym (slice_get-map instr_of known k) ∙ ap (λ (xs : List Instr). slice_get xs k) are.each ∙ slice_get-map known_as instrs k ∙ by (slice_get instrs k) is
+  where
+    by : (o : Option (Option Instr)) → option_and_then (λ instr. instr) o ≡ Some instr → option_map known_as o ≡ Some instr
+    by None e = absurd (cc)
+    by (Some None) e = absurd (cc)
+    by (Some (Some other)) e = e
+
+pub known_is : (instrs : List (Option Instr)) (known : List Ready) (k : ℕ) (ready : Ready) → AreKnown instrs known → IsSome (instr_in instrs k) → ready ≡ get_or known k ready → instr_in instrs k ≡ Some (instr_of ready)
+known_is instrs known k ready are some got = by (instr_in instrs k) refl some
+  where
+    found : (o : Option Ready) (instr : Instr) → slice_get known k ≡ o → option_map instr_of o ≡ Some instr → Some instr ≡ Some (instr_of ready)
+    found None instr is there = absurd (cc)
+    found (Some one) instr is there = sym there ∙ ap (λ (r : Ready). Some (instr_of r)) (sym (got ∙ get_or_from_slice_get known k one ready is))
+
+    by : (o : Option Instr) → instr_in instrs k ≡ o → IsSome o → o ≡ Some (instr_of ready)
+    by None e none = absurd (cc)
+    by (Some instr) e there = found (slice_get known k) instr refl (known_there instrs known k instr are e)

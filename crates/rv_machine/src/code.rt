@@ -1,12 +1,14 @@
 //! Code, decoded once.
 
-ghost use Rattle.std.specs.Prelude.{◌≡◌, ◌+◌, ◌*◌, ◌<◌, ◌≤◌, [], ℕ, Some, IfOk, length, slice_get};
+ghost use Rattle.std.specs.Prelude.{◌≡◌, ◌+◌, ◌*◌, ◌<◌, ◌≤◌, [], ℕ, Some, IfOk, IsSome, length, slice_get};
 ghost use Rattle.rv_word.specs.MemoryMap.{CODE_SIZE, CODE_START};
 ghost use Rattle.rv_word.specs.Memory.{read};
 ghost use Rattle.rv_mem.specs.Cells.{memory_of};
 ghost use Rattle.rv_code.specs.Decode.{decoded};
-ghost use Rattle.rv_machine.specs.Code.{instr_in};
+ghost use Rattle.rv_machine.specs.Code.{instr_in, known_as};
+ghost use Rattle.rv_machine.specs.Ready.{instr_of};
 
+use crate::ready::Ready;
 use rv_code::decode;
 use rv_instr::Instr;
 use rv_mem::Memory;
@@ -20,15 +22,20 @@ use std::marker::Model;
 #[derive(Drop)]
 pub(crate) struct Code {
     instrs: Vec<Option<Instr>>,
+    /// The same words where they are instructions, for a step that knows that its word is one; others say nothing.
+    known: Vec<Ready>,
 }
 
 impl Model for Code {
     ghost use Rattle.std.specs.Prelude.{List, Option};
     ghost use Rattle.rv_instr.specs.declared.instr.Instr.{Instr};
+    ghost use Rattle.rv_machine.specs.Code.{AreKnown};
 
     ghost Value = { List (Option Instr) };
 
     ghost view = { λ c. c.instrs.items };
+
+    ghost invariant = { λ c. AreKnown c.instrs.items c.known.items };
 }
 
 impl Code {
@@ -38,6 +45,7 @@ impl Code {
     {
         Code {
             instrs: Vec::new(alloc),
+            known: Vec::new(alloc),
         }
     }
 
@@ -49,10 +57,13 @@ impl Code {
             slice_get code k ≡ Some (decoded (read 4 (memory_of memory.now) (CODE_START + 4 * k)))) }
     {
         let mut instrs = Vec::with_capacity(alloc, words)?;
+        let mut known = Vec::with_capacity(alloc, words)?;
         for k in 0..words {
-            instrs.push_reserved(decode(memory.word(CODE_START + 4 * k as u64)));
+            let instr = decode(memory.word(CODE_START + 4 * k as u64));
+            known.push_reserved(ready_as(&instr));
+            instrs.push_reserved(instr);
         }
-        Ok(Code { instrs })
+        Ok(Code { instrs, known })
     }
 
     /// The instruction with an index.
@@ -60,5 +71,24 @@ impl Code {
         ensures { result ≡ instr_in self.now index }
     {
         *self.instrs.get(index)?
+    }
+
+    /// The instruction with an index, where there is one. Nothing is tested.
+    #[inline(always)]
+    pub(crate) fn known(&self, index: usize) -> Ready
+        requires { IsSome (instr_in self.now index) }
+        ensures { instr_in self.now index ≡ Some (instr_of result) }
+    {
+        self.known[index]
+    }
+}
+
+/// The instruction, and any other one where there is none.
+fn ready_as(instr: &Option<Instr>) -> Ready
+    ensures { instr_of result ≡ known_as instr.now }
+{
+    match *instr {
+        Some(instr) => Ready::of(instr),
+        None => Ready::Other(Instr::Ebreak),
     }
 }

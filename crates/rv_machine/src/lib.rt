@@ -6,6 +6,7 @@
 pub use arithmetic::branches;
 pub use machine::Machine;
 pub use processor::Processor;
+pub use ready::Ready;
 pub use rv_code::Turn;
 pub use rv_mem::Change;
 
@@ -14,3 +15,4 @@ mod code;
 mod hart;
 mod machine;
 mod processor;
+mod ready;

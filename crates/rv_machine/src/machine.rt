@@ -6,12 +6,14 @@ ghost use Rattle.rv_code.specs.State.{last_exit, start_hart, start_shared};
 ghost use Rattle.rv_mem.specs.Cells.{HasRoom, has_room};
 ghost use Rattle.rv_machine.specs.Harts.{at_pc, harts_in, harts_share, resting_at, run_after};
 ghost use Rattle.rv_machine.specs.Parts.{IsFetched, IsNoFetch, MayTakeMemory, hart_in};
+ghost use Rattle.rv_machine.specs.Ready.{instr_of};
 ghost use Rattle.rv_machine.specs.Room.{KeepsRoom, LacksRoomAtPc};
 
 use crate::hart::Hart;
 use crate::processor::Processor;
+use crate::ready::Ready;
 use rv_code::{Events, Turn};
-use rv_instr::{Instr, Reg};
+use rv_instr::Reg;
 use rv_mem::{Change, Memory};
 use rv_sys::System;
 use rv_word::{Bytes, Image, NoMemory};
@@ -175,32 +177,32 @@ impl Machine {
         self.processor.is_over()
     }
 
-    /// The number of the word of code at an address and the instruction that it is, if there is one; where there is
-    /// none, a step of the selected hart from there ends so.
+    /// The number of the word of code at an address and the instruction that stands there, where a step of the selected
+    /// hart from there does not end for want of one. So nothing is tested.
     #[inline(always)]
-    pub fn fetch_at(&self, pc: u64) -> Option<(usize, Instr)>
-        ensures word { IfSome result (λ found. pc ≡ CODE_START + 4 * found.0) }
-        ensures fetched { IfSome result (λ found. IsFetched (harts_share self.now) pc found.1) }
-        ensures none { result ≡ None → last_exit (harts_share self.now).events ≡ None
-            → IsNoFetch (stepped (profile_of self.now.processor.memory.version) (harts_in (at_pc self.now pc)) (harts_share self.now) (record { hart = self.now.current; changes = [] })).turn }
+    pub fn fetch_known(&self, pc: u64) -> (usize, Ready)
+        requires going { last_exit (harts_share self.now).events ≡ None }
+        requires stands { IsNoFetch (stepped (profile_of self.now.processor.memory.version) (harts_in (at_pc self.now pc)) (harts_share self.now) (record { hart = self.now.current; changes = [] })).turn → ⊥ }
+        ensures word { pc ≡ CODE_START + 4 * result.0 }
+        ensures fetched { IsFetched (harts_share self.now) pc (instr_of result.1) }
     {
-        self.processor.fetch_at(pc)
+        self.processor.fetch_known(pc)
     }
 
     /// One step of the selected hart as if it stood at an address, with the instruction that stands there, in a run that
     /// goes on. The address goes on in place of its pc, which is neither read nor written: a run in which one hart steps
     /// often keeps it at hand, and gives it back by `go_to`.
     #[inline(always)]
-    pub fn step_at(&mut self, pc: &mut u64, instr: &Instr) -> Result<Turn, NoMemory>
+    pub fn step_at(&mut self, pc: &mut u64, ready: &Ready) -> Result<Turn, NoMemory>
         requires going { last_exit (harts_share self.old).events ≡ None }
-        requires fetched { IsFetched (harts_share self.old) pc.old instr.now }
+        requires fetched { IsFetched (harts_share self.old) pc.old (instr_of ready.now) }
         ensures stepped { IfOk result (λ turn. run_after (at_pc self.new pc.new) turn ≡ stepped (profile_of self.old.processor.memory.version) (harts_in (at_pc self.old pc.old)) (harts_share self.old) (record { hart = self.old.current; changes = [] })) }
         ensures going { IfOk result (λ turn. turn ≡ Turn.Ran → last_exit (harts_share self.new).events ≡ None) }
         ensures current { self.new.current ≡ self.old.current }
         ensures resting { self.new.resting ≡ self.old.resting }
         ensures version { self.new.processor.memory.version ≡ self.old.processor.memory.version }
     {
-        self.processor.step_at(pc, instr)
+        self.processor.step_at(pc, ready)
     }
 
     /// Puts the selected hart at an address.

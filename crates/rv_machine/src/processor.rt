@@ -10,12 +10,14 @@ ghost use Rattle.rv_code.specs.State.{last_exit, start_hart, start_shared};
 ghost use Rattle.rv_code.specs.Step.{address, can_fetch, exec, offset, puts, ran, step};
 ghost use Rattle.rv_mem.specs.Cells.{HasRoom, has_room, memory_of};
 ghost use Rattle.rv_machine.specs.Code.{IsCodeOf};
+ghost use Rattle.rv_machine.specs.Ready.{instr_of};
 ghost use Rattle.rv_machine.specs.Room.{KeepsVersionAndRoom, LacksRoom, LacksRoomAtPc};
-ghost use Rattle.rv_machine.specs.Parts.{after_at, after_step, hart_at, hart_in, may_take_memory, shared_in, IsFetched, IsNoFetch, MayTakeMemory};
+ghost use Rattle.rv_machine.specs.Parts.{after_at, after_step, hart_at, hart_in, may_take_memory, shared_in, IsFetched, MayTakeMemory};
 
 use crate::arithmetic;
 use crate::code::Code;
 use crate::hart::Hart;
+use crate::ready::Ready;
 use rv_code::{Events, Turn};
 use rv_instr::{
     BranchOp, Immediate, ImmediateOp, Instr, LoadOp, Reg, RegisterOp, ShiftOp, ShiftWordOp,
@@ -219,31 +221,28 @@ impl Processor {
         self.ended().is_some()
     }
 
-    /// The number of the word of code at an address and the instruction that it is, if there is one.
+    /// The number of the word of code at an address where an instruction stands, and that instruction. Nothing is tested.
     #[inline(always)]
-    pub(crate) fn fetch_at(&self, pc: u64) -> Option<(usize, Instr)>
-        ensures word { IfSome result (λ found. pc ≡ CODE_START + 4 * found.0) }
-        ensures fetched { IfSome result (λ found. IsFetched (shared_in self.now) pc found.1) }
-        ensures none { result ≡ None → last_exit (shared_in self.now).events ≡ None
-            → IsNoFetch (step (profile_of self.now.memory.version) (hart_at self.now pc) (shared_in self.now)).turn }
+    pub(crate) fn fetch_known(&self, pc: u64) -> (usize, Ready)
+        requires { (instr : Instr) × IsFetched (shared_in self.now) pc instr }
+        ensures word { pc ≡ CODE_START + 4 * result.0 }
+        ensures fetched { IsFetched (shared_in self.now) pc (instr_of result.1) }
     {
-        match self.fetch(pc) {
-            Some(instr) => Some(((pc.wrapping_sub(CODE_START) / 4) as usize, instr)),
-            None => None,
-        }
+        let word = (pc.wrapping_sub(CODE_START) / 4) as usize;
+        (word, self.code.known(word))
     }
 
     /// The step with an instruction that stands at an address, which takes the place of the pc, in a run that goes on.
     #[tactic(auto, unfolding(rv_code::specs::Step::step))]
     #[inline(always)]
-    pub(crate) fn step_at(&mut self, pc: &mut u64, instr: &Instr) -> Result<Turn, NoMemory>
+    pub(crate) fn step_at(&mut self, pc: &mut u64, ready: &Ready) -> Result<Turn, NoMemory>
         requires going { last_exit (shared_in self.old).events ≡ None }
-        requires fetched { IsFetched (shared_in self.old) pc.old instr.now }
+        requires fetched { IsFetched (shared_in self.old) pc.old (instr_of ready.now) }
         ensures stepped { IfOk result (λ turn. after_at self.new pc.new turn ≡ step (profile_of self.old.memory.version) (hart_at self.old pc.old) (shared_in self.old)) }
         ensures going { IfOk result (λ turn. turn ≡ Turn.Ran → last_exit (shared_in self.new).events ≡ None) }
         ensures version { self.new.memory.version ≡ self.old.memory.version }
     {
-        self.execute_at(pc, instr)
+        self.perform(pc, ready)
     }
 
     /// Makes the pages of memory of the `len` bytes from `addr` on: no store there wants memory from
@@ -320,6 +319,48 @@ impl Processor {
             }
             Instr::Ecall => return self.environment_call(pc),
             Instr::Ebreak => Turn::Break(*pc),
+        })
+    }
+
+    /// Executes an instruction as `execute_at` does, in the form in which a step takes it.
+    #[inline(always)]
+    fn perform(&mut self, pc: &mut u64, ready: &Ready) -> Result<Turn, NoMemory>
+        requires { pc.old < 2 ^ 63 }
+        ensures executed { IfOk result (λ turn. after_at self.new pc.new turn ≡ exec (profile_of self.old.memory.version) (instr_of ready.now) (hart_at self.old pc.old) (shared_in self.old)) }
+        ensures kept { KeepsVersionAndRoom self.old self.new }
+    {
+        Ok(match *ready {
+            Ready::Lui(rd, imm) => self.upper(pc, UpperOp::Lui, rd, imm),
+            Ready::Jal(rd, imm) => self.jump(pc, rd, imm),
+            Ready::Jalr(rd, rs1, imm) => self.jump_register(pc, rd, rs1, imm),
+            Ready::Beq(rs1, rs2, imm) => self.branch(pc, BranchOp::Beq, rs1, rs2, imm),
+            Ready::Bne(rs1, rs2, imm) => self.branch(pc, BranchOp::Bne, rs1, rs2, imm),
+            Ready::Blt(rs1, rs2, imm) => self.branch(pc, BranchOp::Blt, rs1, rs2, imm),
+            Ready::Bge(rs1, rs2, imm) => self.branch(pc, BranchOp::Bge, rs1, rs2, imm),
+            Ready::Bltu(rs1, rs2, imm) => self.branch(pc, BranchOp::Bltu, rs1, rs2, imm),
+            Ready::Bgeu(rs1, rs2, imm) => self.branch(pc, BranchOp::Bgeu, rs1, rs2, imm),
+            Ready::Lw(rd, rs1, imm) => self.load(pc, LoadOp::Lw, rd, rs1, imm),
+            Ready::Ld(rd, rs1, imm) => self.load(pc, LoadOp::Ld, rd, rs1, imm),
+            Ready::Lbu(rd, rs1, imm) => self.load(pc, LoadOp::Lbu, rd, rs1, imm),
+            Ready::Sb(rs1, rs2, imm) => return self.store(pc, StoreOp::Sb, rs1, rs2, imm),
+            Ready::Sw(rs1, rs2, imm) => return self.store(pc, StoreOp::Sw, rs1, rs2, imm),
+            Ready::Sd(rs1, rs2, imm) => return self.store(pc, StoreOp::Sd, rs1, rs2, imm),
+            Ready::Addi(rd, rs1, imm) => self.immediate(pc, ImmediateOp::Addi, rd, rs1, imm),
+            Ready::Andi(rd, rs1, imm) => self.immediate(pc, ImmediateOp::Andi, rd, rs1, imm),
+            Ready::Addiw(rd, rs1, imm) => self.immediate(pc, ImmediateOp::Addiw, rd, rs1, imm),
+            Ready::Slli(rd, rs1, amount) => self.shift(pc, ShiftOp::Slli, rd, rs1, amount),
+            Ready::Srli(rd, rs1, amount) => self.shift(pc, ShiftOp::Srli, rd, rs1, amount),
+            Ready::Slliw(rd, rs1, imm) => self.shift_word(pc, ShiftWordOp::Slliw, rd, rs1, imm),
+            Ready::Srliw(rd, rs1, imm) => self.shift_word(pc, ShiftWordOp::Srliw, rd, rs1, imm),
+            Ready::Add(rd, rs1, rs2) => self.register(pc, RegisterOp::Add, rd, rs1, rs2),
+            Ready::Sub(rd, rs1, rs2) => self.register(pc, RegisterOp::Sub, rd, rs1, rs2),
+            Ready::Xor(rd, rs1, rs2) => self.register(pc, RegisterOp::Xor, rd, rs1, rs2),
+            Ready::Or(rd, rs1, rs2) => self.register(pc, RegisterOp::Or, rd, rs1, rs2),
+            Ready::And(rd, rs1, rs2) => self.register(pc, RegisterOp::And, rd, rs1, rs2),
+            Ready::Addw(rd, rs1, rs2) => self.register(pc, RegisterOp::Addw, rd, rs1, rs2),
+            Ready::Mul(rd, rs1, rs2) => self.register(pc, RegisterOp::Mul, rd, rs1, rs2),
+            Ready::Register(op, rd, rs1, rs2) => self.register(pc, op, rd, rs1, rs2),
+            Ready::Other(instr) => return self.execute_at(pc, &instr),
         })
     }
 
@@ -431,13 +472,13 @@ impl Processor {
     {
         let memory = self.mem();
         match op {
-            LoadOp::Lb => Ok(sext(memory.read(addr, 1)?, 8)),
-            LoadOp::Lh => Ok(sext(memory.read(addr, 2)?, 16)),
-            LoadOp::Lw => Ok(arithmetic::word(memory.read(addr, 4)?)),
-            LoadOp::Ld => memory.read(addr, 8),
-            LoadOp::Lbu => memory.read(addr, 1),
-            LoadOp::Lhu => memory.read(addr, 2),
-            LoadOp::Lwu => memory.read(addr, 4),
+            LoadOp::Lb => Ok(sext(memory.load_byte(addr)?, 8)),
+            LoadOp::Lh => Ok(sext(memory.load_half_word(addr)?, 16)),
+            LoadOp::Lw => Ok(arithmetic::word(memory.load_word(addr)?)),
+            LoadOp::Ld => memory.load_double_word(addr),
+            LoadOp::Lbu => memory.load_byte(addr),
+            LoadOp::Lhu => memory.load_half_word(addr),
+            LoadOp::Lwu => memory.load_word(addr),
         }
     }
 

@@ -101,6 +101,7 @@ impl Memory {
     }
 
     /// What stands from an address to the end of its page, or of code, but for zeros at its end.
+    #[inline(always)]
     fn rest_of_page(&self, addr: u64) -> &[u8]
         ensures within { (k : ℕ) → k < length result.now → slice_index result.now k ≡ memory_of self.now (addr + k) }
         ensures past { (k : ℕ) → addr % PAGE_SIZE + k < PAGE_SIZE → slice_index result.now k ≡ memory_of self.now (addr + k) }
@@ -204,23 +205,73 @@ impl Memory {
     }
 
     /// The number in the `n` bytes from `addr` on, the lowest byte first.
-    #[inline(always)]
     pub fn read(&self, addr: u64, n: u8) -> Result<u64, LoadFault>
         requires { IsAccessSize n }
         ensures value { IfOk result (λ value. value ≡ read n (memory_of self.now) addr) }
         ensures fault { IsErr result ↔ (can_load (profile_of self.now.version) addr n ≡ false) }
     {
-        if !is_loadable(self.version, addr, n) {
-            return Err(LoadFault);
+        match n {
+            1 => self.load_byte(addr),
+            2 => self.load_half_word(addr),
+            4 => self.load_word(addr),
+            _ => self.load_double_word(addr),
         }
-        Ok(match n {
-            1 => u64::from(self.byte(addr)),
-            2 => u64::from(self.half_word(addr)),
-            4 => u64::from(self.word(addr)),
-            _ => self.double_word(addr),
-        })
     }
 
+    /// The byte at an address, where it may be loaded.
+    #[inline(always)]
+    pub fn load_byte(&self, addr: u64) -> Result<u64, LoadFault>
+        ensures value { IfOk result (λ value. value ≡ read 1 (memory_of self.now) addr) }
+        ensures fault { IsErr result ↔ (can_load (profile_of self.now.version) addr 1 ≡ false) }
+    {
+        if is_loadable(self.version, addr, 1) {
+            Ok(u64::from(self.byte(addr)))
+        } else {
+            Err(LoadFault)
+        }
+    }
+
+    /// The half-word at an address, where it may be loaded.
+    #[inline(always)]
+    pub fn load_half_word(&self, addr: u64) -> Result<u64, LoadFault>
+        ensures value { IfOk result (λ value. value ≡ read 2 (memory_of self.now) addr) }
+        ensures fault { IsErr result ↔ (can_load (profile_of self.now.version) addr 2 ≡ false) }
+    {
+        if is_loadable(self.version, addr, 2) {
+            Ok(u64::from(self.half_word(addr)))
+        } else {
+            Err(LoadFault)
+        }
+    }
+
+    /// The word at an address, where it may be loaded.
+    #[inline(always)]
+    pub fn load_word(&self, addr: u64) -> Result<u64, LoadFault>
+        ensures value { IfOk result (λ value. value ≡ read 4 (memory_of self.now) addr) }
+        ensures fault { IsErr result ↔ (can_load (profile_of self.now.version) addr 4 ≡ false) }
+    {
+        if is_loadable(self.version, addr, 4) {
+            Ok(u64::from(self.word(addr)))
+        } else {
+            Err(LoadFault)
+        }
+    }
+
+    /// The double word at an address, where it may be loaded.
+    #[inline(always)]
+    pub fn load_double_word(&self, addr: u64) -> Result<u64, LoadFault>
+        ensures value { IfOk result (λ value. value ≡ read 8 (memory_of self.now) addr) }
+        ensures fault { IsErr result ↔ (can_load (profile_of self.now.version) addr 8 ≡ false) }
+    {
+        if is_loadable(self.version, addr, 8) {
+            Ok(self.double_word(addr))
+        } else {
+            Err(LoadFault)
+        }
+    }
+
+    /// The half-word at an address.
+    #[inline(always)]
     fn half_word(&self, addr: u64) -> u16
         requires { addr < 2 ^ 63 }
         ensures { result ≡ read 2 (memory_of self.now) addr }
@@ -228,7 +279,19 @@ impl Memory {
         let bytes = self.rest_of_page(addr);
         if bytes.len() >= 2 {
             half_word_at(bytes, 0)
-        } else if bytes.is_empty() && ends_in_page(addr, 2) {
+        } else {
+            self.half_word_beyond(addr)
+        }
+    }
+
+    /// The same where the page has no such bytes from there on: it never was made, or the last of them are in the next one.
+    #[inline(never)]
+    fn half_word_beyond(&self, addr: u64) -> u16
+        requires { addr < 2 ^ 63 }
+        ensures { result ≡ read 2 (memory_of self.now) addr }
+    {
+        let bytes = self.rest_of_page(addr);
+        if bytes.is_empty() && ends_in_page(addr, 2) {
             0
         } else {
             u16::from(self.byte(addr)) + (u16::from(self.byte(addr + 1)) << 8)
@@ -244,7 +307,19 @@ impl Memory {
         let bytes = self.rest_of_page(addr);
         if bytes.len() >= 4 {
             word_at(bytes, 0)
-        } else if bytes.is_empty() && ends_in_page(addr, 4) {
+        } else {
+            self.word_beyond(addr)
+        }
+    }
+
+    /// The same where the page has no such bytes from there on: it never was made, or the last of them are in the next one.
+    #[inline(never)]
+    fn word_beyond(&self, addr: u64) -> u32
+        requires { addr < 2 ^ 62 }
+        ensures { result ≡ read 4 (memory_of self.now) addr }
+    {
+        let bytes = self.rest_of_page(addr);
+        if bytes.is_empty() && ends_in_page(addr, 4) {
             0
         } else {
             u32::from(self.half_word(addr)) + (u32::from(self.half_word(addr + 2)) << 16)
@@ -260,7 +335,19 @@ impl Memory {
         let bytes = self.rest_of_page(addr);
         if bytes.len() >= 8 {
             double_word_at(bytes, 0)
-        } else if bytes.is_empty() && ends_in_page(addr, 8) {
+        } else {
+            self.double_word_beyond(addr)
+        }
+    }
+
+    /// The same where the page has no such bytes from there on: it never was made, or the last of them are in the next one.
+    #[inline(never)]
+    fn double_word_beyond(&self, addr: u64) -> u64
+        requires { addr < 2 ^ 61 }
+        ensures { result ≡ read 8 (memory_of self.now) addr }
+    {
+        let bytes = self.rest_of_page(addr);
+        if bytes.is_empty() && ends_in_page(addr, 8) {
             0
         } else {
             u64::from(self.word(addr)) + (u64::from(self.word(addr + 4)) << 32)

@@ -45,6 +45,7 @@ impl Page {
     }
 
     /// Puts bytes over those from a place on.
+    #[inline(always)]
     pub(crate) fn put(&mut self, at: usize, bytes: &[u8])
         requires { at + length bytes.now ≤ PAGE_SIZE }
         ensures bytes { bytes_in self.new ≡ placed (bytes_in self.old) at bytes.now }

@@ -44,6 +44,7 @@ impl Pages {
 
     /// The bytes of a page: none where it was never made.
     #[tactic(auto, unfolding(crate::specs::Pages::page_of))]
+    #[inline(always)]
     pub(crate) fn page(&self, number: usize) -> &[u8]
         requires { number < PAGE_COUNT }
         ensures page { result.now ≡ page_of self.now number }
@@ -118,6 +119,7 @@ impl Pages {
     }
 
     /// Puts bytes into the page at a place among those that were made.
+    #[inline(always)]
     fn put_into(&mut self, place: usize, at: usize, bytes: &[u8])
         requires place { entry self.old (at / PAGE_SIZE) ≡ place + 1 }
         requires one { at % PAGE_SIZE + length bytes.now ≤ PAGE_SIZE }
@@ -139,6 +141,7 @@ impl Pages {
     }
 
     /// Writes bytes into one page, which is made if it never was.
+    #[inline(always)]
     pub(crate) fn write(&mut self, at: usize, bytes: &[u8]) -> Result<(), NoMemory>
         requires inside { at / PAGE_SIZE < PAGE_COUNT }
         requires one { at % PAGE_SIZE + length bytes.now ≤ PAGE_SIZE }

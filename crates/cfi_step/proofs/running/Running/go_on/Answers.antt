@@ -1,5 +1,4 @@
-use Rattle.std.proofs.Common.{◌≡◌, ◌<◌, ◌-◌, ◌+◌, ℕ, suc, length, Some, refl, sym, ap, ◌∙◌, subst, arith}
-use Rattle.rv_code.specs.declared.turn.Turn.TheVariants.{Ran}
+use Rattle.std.proofs.Common.{◌≡◌, ◌<◌, ◌-◌, ◌+◌, ℕ, length, Some, sym, ap, ◌∙◌, subst, arith}
 use Rattle.cfi_step.specs.Stretch.{AreQuiet, IsStaying, at}
 use Rattle.cfi_step.proofs.Continues.{ran_of}
 use Rattle.cfi_step.proofs.Stretched.{goes_on_at, goes_on_so, may_fetch, more_quiet, no_stretch, none_of, none_quiet, stays_on, stops_at}
