@@ -1,10 +1,13 @@
 #!/usr/bin/env python3
-"""Runs the gate and tells what each crate took of it: `python3 bench/gate.py [--kept] [--top N]`.
+"""Runs the gate and tells what each crate took of it: `python3 bench/gate.py [--kept | --first] [--top N]`.
 
 Runs `rt ci --anew` at the top of the repository, so that all is proved and tried from nothing (`--kept`: only what no earlier run on this
 machine passed), and looks each second at the processes of the prover. Printed are the minutes of the clock, and by crate the processor
 seconds of its proof, of its tests' proof and of its must-fail edits, the dearest first, all or N of them, with their sums. What a process
 takes in its last second is not seen. Other work on the machine makes the clock's time longer, and hardly the processor's.
+
+`--first` runs README's first command in its place, which proves and builds the program alone. It is from nothing only in a new clone, on a
+machine where no other one was checked: what those kept lies beside the kit, in the folder `rattle-kept`.
 """
 
 import argparse
@@ -18,6 +21,7 @@ from pathlib import Path
 ROOT = Path(__file__).resolve().parent.parent
 TICKS = os.sysconf("SC_CLK_TCK")
 KINDS = ("proof", "tests", "edits")
+FIRST = ["rt", "run", "--", "verify", "data/a.img", "data/a.graph"]
 
 
 def words(process):
@@ -47,10 +51,10 @@ def looked_at(found):
         found[process.name, begun] = crate, kind, taken
 
 
-def gate(command):
+def gate(command, folder=ROOT):
     """Runs the gate. Answers its status, the minutes of the clock, and by crate and kind the seconds."""
     found, begun = {}, time.monotonic()
-    with subprocess.Popen(command, cwd=ROOT) as run:
+    with subprocess.Popen(command, cwd=folder) as run:
         while run.poll() is None:
             looked_at(found)
             time.sleep(1)
@@ -62,10 +66,15 @@ def gate(command):
 
 def main():
     asked = argparse.ArgumentParser(description=__doc__.split("\n")[0])
-    asked.add_argument("--kept", action="store_true")
+    which = asked.add_mutually_exclusive_group()
+    which.add_argument("--kept", action="store_true")
+    which.add_argument("--first", action="store_true")
     asked.add_argument("--top", type=int)
     asked = asked.parse_args()
-    status, minutes, sums = gate(["rt", "ci"] + ([] if asked.kept else ["--anew"]))
+    if asked.first:
+        status, minutes, sums = gate(FIRST, ROOT / "crates" / "rvcfi")
+    else:
+        status, minutes, sums = gate(["rt", "ci"] + ([] if asked.kept else ["--anew"]))
     print(f"\n{minutes:.0f} minutes of the clock, {sum(sum(each.values()) for each in sums.values()) / 60:.0f} processor minutes\n")
     print("| crate | " + " | ".join(KINDS) + " |\n|---|---|---|---|")
     for crate, each in sorted(sums.items(), key=lambda row: -sum(row[1].values()))[:asked.top]:
