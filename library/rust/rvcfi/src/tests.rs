@@ -99,7 +99,7 @@ fn images_that_are_none() {
 #[test]
 fn graphs_that_are_none() {
     let cases = [
-        (with("rvcfi-graph 1", "rvcfi-graph 3"), 1, Reason::Form),
+        (with("rvcfi-graph 1", "rvcfi-graph 4"), 1, Reason::Form),
         (with("00000974", "00000975"), 2, Reason::Range),
         (
             with("4000042c 400004bc", "400004bc 4000042c"),
