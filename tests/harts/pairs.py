@@ -15,7 +15,7 @@ from program import IMAGE_VERSIONS
 from rules import verdict
 
 CRATES = Path(__file__).resolve().parents[2] / "crates"
-TABLES = ["test_hostile/src/pairs.rt", "test_hardened/src/pieces.rt", "test_hardened/src/apart.rt", "test_harts/src/images.rt",
+TABLES = ["test_hostile/src/pairs.rt", "test_pieces/src/pieces.rt", "test_pieces/src/apart.rt", "test_harts/src/images.rt",
           "test_graph/src/pairs.rt"]
 SHARED = ["sample_programs/src/units.rt", "sample_programs/src/graphs.rt", "sample_runs/src/codes.rt"]
 OF_HARTS = ("SHARED", "JOBS")  # programs for several harts whose names do not say so

@@ -8,8 +8,9 @@ use Rattle.rv_instr.specs.declared.instr.Instr.TheVariants.{Immediate}
 use Rattle.rv_instr.specs.declared.instr.ImmediateOp.TheVariants.{Addi}
 use Rattle.cfi_unit.specs.declared.unit.Unit as U
 use Rattle.cfi_unit.specs.declared.unit.Unit.TheVariants as V
+use Rattle.cfi_unit.specs.Flow as F
 use Rattle.cfi_unit.specs.Leads.{Legal}
-use Rattle.cfi_pending.specs.Kinds.{Leaf, may_be_called, may_be_reached, stands_by, start_at}
+use Rattle.cfi_pending.specs.Kinds.{IsOfItsKind, Leaf, is_right_behind, is_right_target, may_be_called, may_be_reached, stands_by, start_at}
 use Rattle.cfi_pending.specs.Opening.{set_up, site_of}
 use Rattle.cfi_pending.specs.PendingLeads.{PendingLeads}
 use Rattle.cfi_pending.specs.Starts.{StandsBy, fresh, may_stand, next_start, saved}
@@ -83,6 +84,19 @@ behind_the_leaf = refl
 
 at_the_gate : start_at units leaves 0x400000b8 ≡ fresh
 at_the_gate = refl
+
+-- these meet what their kinds ask; what falls into an enter does not
+enter_right : IsOfItsKind units leaves 0x40000030 V.Enter
+enter_right = record { stands = refl; behind = λ on. refl; target = refl }
+
+jump_right : IsOfItsKind units leaves 0x4000002c (V.Jump 0x40000044)
+jump_right = record { stands = refl; behind = λ on. absurd cc; target = refl }
+
+falls_into_it : is_right_behind units leaves None 0x4000002c (V.Plain (Immediate Addi 10 1 0)) ≡ false
+falls_into_it = refl
+
+jumps_to_it : is_right_target units leaves 0x4000002c F.keeps (F.to 0x40000030) ≡ false
+jumps_to_it = refl
 
 -- called are an enter and a leaf's first unit, reached from outside is neither
 called_leaf : may_be_called units leaves 0x40000074 ≡ true

@@ -1,4 +1,4 @@
-use Rattle.test_hardened.proofs.cuts.listed.Given as goal
+use Rattle.test_pieces.proofs.cuts.listed.Given as goal
 
 -- the name and the parts of the blank that is opened
 abbrev pub ghosts-fed : goal.ghosts-fed

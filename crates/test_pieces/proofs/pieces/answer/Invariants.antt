@@ -1,4 +1,4 @@
-use Rattle.test_hardened.proofs.pieces.answer.Given as goal
+use Rattle.test_pieces.proofs.pieces.answer.Given as goal
 
 -- the name and the parts of the blank that is opened
 abbrev pub ghosts-scanned : goal.ghosts-scanned
