@@ -8,7 +8,7 @@ use Rattle.rv_code.specs.declared.turn.Turn.TheVariants.{Ran}
 use Rattle.rv_word.specs.Image.{Contents}
 use Rattle.rv_word.specs.Memory.{Memory, loaded}
 use Rattle.rv_word.specs.MemoryMap.{Profile}
-use Rattle.rv_word.proofs.Versions.{laid_out}
+use Rattle.rv_word.proofs.Profiles.{laid_out}
 use Rattle.obj_program.specs.Program.{count, is_end, item_of}
 use Rattle.cfi_map.specs.GraphAtMap.{gate, word}
 use Rattle.cfi_unit.specs.declared.unit.Unit as U

@@ -5,7 +5,7 @@ use Rattle.std.proofs.lemmas.Bool.{cases_eq, eq-eqb, eqb-true, le-leb, ne_eqb}
 use Rattle.std.proofs.lemmas.Option.{get_or_from_slice_get, slice_get-map, slice_get_within}
 use Rattle.rv_word.specs.Image.{Contents}
 use Rattle.rv_word.specs.MemoryMap.{CODE_START, IsProfile, Profile, version_1, version_2}
-use Rattle.rv_word.proofs.Versions.{LaidOut, laid_out}
+use Rattle.rv_word.proofs.Profiles.{LaidOut, laid_out}
 use Rattle.rv_word.specs.Memory.{read, loaded}
 use Rattle.rv_instr.specs.declared.instr.Instr.{Instr}
 use Rattle.rv_instr.specs.declared.instr.Instr.TheVariants.{Jal}

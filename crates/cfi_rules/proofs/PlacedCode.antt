@@ -7,7 +7,7 @@ use Rattle.std.proofs.lemmas.List.{drop_at}
 use Rattle.std.proofs.lemmas.Option.{same_Some, slice_get-map, slice_get-get_or}
 use Rattle.rv_word.specs.declared.version.GraphVersion.{GraphVersion}
 use Rattle.rv_word.specs.MemoryMap.{CODE_START, IsProfile, Profile, lies_within}
-use Rattle.rv_word.proofs.Versions.{laid_out}
+use Rattle.rv_word.proofs.Profiles.{laid_out}
 use Rattle.rv_instr.specs.declared.instr.Instr.{Instr}
 use Rattle.rv_instr.specs.declared.instr.Instr.TheVariants.{Jal}
 use Rattle.rv_code.specs.Decode.{decoded}

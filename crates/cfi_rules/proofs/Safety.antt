@@ -8,7 +8,7 @@ use Rattle.rv_word.specs.Image.{Contents}
 use Rattle.rv_word.specs.MemoryMap.{DATA_END, PART_SIZE, IsProfile, MayRun, Profile, part_of}
 use Rattle.rv_word.specs.Memory.{Memory, loaded}
 use Rattle.rv_word.specs.Same.{SameOn}
-use Rattle.rv_word.proofs.Versions.{laid_out}
+use Rattle.rv_word.proofs.Profiles.{laid_out}
 use Rattle.rv_code.specs.Run.{ByteChange, HartStep, IsDataChange, changed, disturbed}
 use Rattle.rv_code.specs.State.{Hart, Harts, Shared, After, last_exit, with_hart}
 use Rattle.rv_code.specs.Step.{step}

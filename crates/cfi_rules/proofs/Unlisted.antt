@@ -8,7 +8,7 @@ use Rattle.rv_word.specs.Image.{Contents}
 use Rattle.rv_word.specs.MemoryMap.{MayRun, Profile, version_1, version_2}
 use Rattle.rv_word.specs.Memory.{loaded, placed, write}
 use Rattle.rv_word.specs.Numbers.{is_listed}
-use Rattle.rv_word.proofs.Versions.{laid_out}
+use Rattle.rv_word.proofs.Profiles.{laid_out}
 use Rattle.rv_code.specs.Decode.{decoded}
 use Rattle.rv_code.specs.Encode.{code_of}
 use Rattle.rv_code.specs.Run.{ByteChange, disturbed_step}

@@ -6,7 +6,7 @@ use Rattle.std.proofs.lemmas.Bool.{cases_Bool, cases_lt, cases_eq, le-leb, lt-le
 use Rattle.std.proofs.lemmas.List.{drop-drop}
 use Rattle.rv_word.specs.declared.version.GraphVersion.{GraphVersion}
 use Rattle.rv_word.specs.MemoryMap.{CODE_START, Profile, lies_within, START}
-use Rattle.rv_word.proofs.Versions.{LaidOut}
+use Rattle.rv_word.proofs.Profiles.{LaidOut}
 use Rattle.rv_code.specs.Decode.{decoded}
 use Rattle.cfi_graph.specs.declared.line.GraphLine.{GraphLine}
 use Rattle.cfi_graph.specs.declared.line.GraphLine.TheVariants.{Calls, Leaf, Class, Site, Edge, Call}

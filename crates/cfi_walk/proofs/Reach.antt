@@ -5,7 +5,7 @@ use Rattle.std.proofs.lemmas.Bool.{eqb-true, or_cases}
 use Rattle.rv_word.specs.Image.{Contents, IsImageSize}
 use Rattle.rv_word.specs.MemoryMap.{CODE_START, Profile}
 use Rattle.rv_word.proofs.Cases.{cases_Option, chosen}
-use Rattle.rv_word.proofs.Versions.{LaidOut}
+use Rattle.rv_word.proofs.Profiles.{LaidOut}
 use Rattle.cfi_unit.specs.declared.unit.Unit as U
 use Rattle.cfi_unit.specs.declared.place.Place.{Place}
 use Rattle.cfi_unit.specs.declared.place.Place.TheVariants.{Handler as handler, Opening as opening, Closing as closing, Body as body}

@@ -4,7 +4,7 @@ use Rattle.std.proofs.lemmas.Bool.{false≢true}
 use Rattle.rv_word.specs.Image.{Contents}
 use Rattle.rv_word.specs.MemoryMap.{Profile}
 use Rattle.rv_word.proofs.Cases.{cases_Option}
-use Rattle.rv_word.proofs.Versions.{LaidOut, laid_out}
+use Rattle.rv_word.proofs.Profiles.{LaidOut, laid_out}
 use Rattle.cfi_graph.specs.declared.line.GraphLine.{GraphLine}
 use Rattle.cfi_graph.specs.declared.line.SiteKind.{SiteKind}
 use Rattle.cfi_graph.specs.declared.line.SiteKind.TheVariants as K

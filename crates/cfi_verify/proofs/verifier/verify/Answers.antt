@@ -1,6 +1,6 @@
 use Rattle.std.proofs.Common.{rules}
 use Rattle.rv_word.specs.Image.{image_profile}
-use Rattle.rv_word.proofs.Versions.{is_profile}
+use Rattle.rv_word.proofs.Profiles.{is_profile}
 use Rattle.cfi_rules.specs.Rules.{IsWellFormed}
 use Rattle.cfi_rules.proofs.Safety.{well_formed_is_safe}
 use Rattle.cfi_verify.proofs.verifier.verify.Goals as goal

@@ -1,6 +1,6 @@
 use Rattle.std.proofs.Common.{subst}
 use Rattle.rv_word.specs.Image.{image_profile}
-use Rattle.rv_word.proofs.Versions.{is_profile}
+use Rattle.rv_word.proofs.Profiles.{is_profile}
 use Rattle.cfi_rules.specs.Split.{code_words}
 use Rattle.cfi_rules.specs.Walks.{WalkState}
 use Rattle.cfi_walk.specs.Trail.{StopAt}

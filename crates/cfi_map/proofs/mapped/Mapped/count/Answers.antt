@@ -1,5 +1,5 @@
 use Rattle.std.proofs.Common.{◌≡◌, length, subst}
-use Rattle.rv_word.proofs.Versions.{is_profile}
+use Rattle.rv_word.proofs.Profiles.{is_profile}
 use Rattle.rv_word.specs.Form.{image_version}
 use Rattle.rv_word.specs.MemoryMap.{IsProfile}
 use Rattle.obj_program.specs.Program.{count}

@@ -1,6 +1,6 @@
 use Rattle.std.proofs.Common.{◌≡◌, ◌+◌, ◌*◌, ℕ, true, refl, sym, arith, length, []}
 use Rattle.rv_word.specs.MemoryMap.{profile_of}
-use Rattle.rv_word.proofs.Versions.{is_profile, laid_out}
+use Rattle.rv_word.proofs.Profiles.{is_profile, laid_out}
 use Rattle.cfi_unit.specs.Opens.{InCode}
 use Rattle.cfi_reader.specs.Reading.{is_stuck}
 use Rattle.cfi_scan.proofs.Ended.{as_ended, splits_before, splits_on, splits_stuck}

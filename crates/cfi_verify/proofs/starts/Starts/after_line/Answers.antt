@@ -1,6 +1,6 @@
 use Rattle.std.proofs.Common.{◌≤◌, ◌<◌, ◌∙◌, ◌+◌, ◌-◌, ◌*◌, ◌/◌, ℕ, arith, subst, sym}
 use Rattle.rv_word.specs.MemoryMap.{Profile}
-use Rattle.rv_word.proofs.Versions.{is_profile, laid_out}
+use Rattle.rv_word.proofs.Profiles.{is_profile, laid_out}
 use Rattle.cfi_graph.specs.Graph.{IsGraph}
 use Rattle.cfi_verify.specs.Pass.{HasPassed, HoldsAt, NoneStands}
 use Rattle.cfi_verify.specs.Scan.{profile_in}

@@ -1,5 +1,5 @@
 use Rattle.std.proofs.Common.{◌*◌, ◌∙◌, ap, sym}
-use Rattle.rv_word.proofs.Versions.{is_profile, laid_out}
+use Rattle.rv_word.proofs.Profiles.{is_profile, laid_out}
 use Rattle.cfi_verify.proofs.OnePass.{pass_holds}
 use Rattle.cfi_verify.proofs.starts.Starts.all_hold.Goals as goal
 

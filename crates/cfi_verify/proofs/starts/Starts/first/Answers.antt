@@ -1,5 +1,5 @@
 use Rattle.std.proofs.Common.{refl, sym}
-use Rattle.rv_word.proofs.Versions.{is_profile, laid_out}
+use Rattle.rv_word.proofs.Profiles.{is_profile, laid_out}
 use Rattle.least.proofs.Leasts.{least_same}
 use Rattle.cfi_rules.specs.declared.reject.Rule.TheVariants as R
 use Rattle.cfi_verify.proofs.Told.{fails_told}

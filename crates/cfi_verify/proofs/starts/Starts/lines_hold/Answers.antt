@@ -1,6 +1,6 @@
 use Rattle.std.proofs.Common.{inl, inr, ◌≡◌, ◌≤◌, length, ap, arith}
 use Rattle.std.proofs.lemmas.Bool.{cases_lt}
-use Rattle.rv_word.proofs.Versions.{is_profile, laid_out}
+use Rattle.rv_word.proofs.Profiles.{is_profile, laid_out}
 use Rattle.cfi_graph.specs.Graph.{GraphParts}
 use Rattle.cfi_verify.proofs.OnePass.{gates_passed, none_after}
 use Rattle.cfi_verify.proofs.starts.Starts.lines_hold.Goals as goal

@@ -1,4 +1,4 @@
-use Rattle.rv_word.proofs.Versions.{is_profile, laid_out}
+use Rattle.rv_word.proofs.Profiles.{is_profile, laid_out}
 use Rattle.cfi_verify.proofs.OnePass.{entry_there, quiet_word}
 use Rattle.cfi_verify.proofs.starts.Starts.next_busy.Goals as goal
 

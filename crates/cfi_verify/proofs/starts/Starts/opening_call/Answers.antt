@@ -1,5 +1,5 @@
 use Rattle.std.proofs.Common.{arith}
-use Rattle.rv_word.proofs.Versions.{is_profile, laid_out}
+use Rattle.rv_word.proofs.Profiles.{is_profile, laid_out}
 use Rattle.cfi_verify.proofs.starts.Starts.opening_call.Goals as goal
 
 pub returns-clause-at : goal.returns-clause-at

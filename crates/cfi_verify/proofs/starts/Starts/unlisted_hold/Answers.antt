@@ -1,7 +1,7 @@
 use Rattle.std.proofs.Common.{inl, inr, ◌≡◌, ◌+◌, ◌*◌, ℕ, arith, subst}
 use Rattle.std.proofs.lemmas.Bool.{cases_lt}
 use Rattle.rv_word.specs.MemoryMap.{Profile}
-use Rattle.rv_word.proofs.Versions.{is_profile, laid_out}
+use Rattle.rv_word.proofs.Profiles.{is_profile, laid_out}
 use Rattle.cfi_verify.specs.Pass.{HoldsAt}
 use Rattle.cfi_verify.specs.Scan.{profile_in}
 use Rattle.cfi_verify.proofs.OnePass.{quiet_holds}
