@@ -37,8 +37,12 @@ pub enum Entry {
     LeanIcall(Immediate<20>),
     /// A return to the site in x1.
     LeafReturn,
+    /// Stores behind a mask by shifts.
+    Stores,
     /// Stores behind a mask by x4.
     LeanStores,
+    /// A plain unit whose instruction writes x1, or a return: what may not stand in a function that calls nothing.
+    OutsideLeaves,
     /// Any other unit.
     Other,
 }

@@ -115,6 +115,8 @@ fn plain(rd: Reg) -> First
 {
     if rd.is_reserved() {
         at_node(0)
+    } else if rd.number() == 1 {
+        First::Done(Entry::OutsideLeaves)
     } else {
         First::Done(Entry::Other)
     }
