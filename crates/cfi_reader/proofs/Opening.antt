@@ -116,6 +116,7 @@ first_entry D.Stop i = E.Stop
 first_entry D.Ecall i = E.Ecall
 first_entry D.LinkCall (Jal rd imm) = E.LinkCall imm
 first_entry D.LeafReturn i = E.LeafReturn
+first_entry D.Ebreak i = E.Break
 first_entry D.Plain i = plain_entry (writes_link i)
 first_entry _ i = E.Other
 

@@ -34,7 +34,7 @@ writes_link instr = is_link (written instr)
 
 -- the entry of a plain unit, by whether it writes x1
 abbrev pub plain_entry : Bool → Entry
-plain_entry links = if links then E.OutsideLeaves else E.Other
+plain_entry links = if links then E.WritesLink else E.Other
 
 -- the entry of a unit at an address, under a list
 abbrev pub entry_of : List ℕ → U.Unit → ℕ → Entry
@@ -45,13 +45,13 @@ entry_of calls (V.Near op rs1 rs2 target) at = E.Near (near_offset at target)
 entry_of calls (V.Jump target) at = E.Jump (jump_offset at target)
 entry_of calls V.Stop at = E.Stop
 entry_of calls (V.System S.Ecall) at = E.Ecall
-entry_of calls (V.System S.Ebreak) at = E.Other
+entry_of calls (V.System S.Ebreak) at = E.Break
 entry_of calls (V.Guarded numbers) at = E.Guarded (are_same numbers calls)
 entry_of calls (V.Stores mask rs1 imm members) at = stores_entry mask
 entry_of calls (V.Call target) at = E.Call (jump_offset (at + 28) target)
 entry_of calls (V.Ijump which rs1 imm label) at = E.Ijump which label
 entry_of calls (V.Icall rs1 imm label) at = E.Icall label
-entry_of calls V.Return at = E.OutsideLeaves
+entry_of calls V.Return at = E.Return
 entry_of calls (V.LinkCall target) at = E.LinkCall (jump_offset at target)
 entry_of calls V.Enter at = E.Enter
 entry_of calls (V.LeanIjump rs1 imm label) at = E.LeanIjump label
@@ -72,7 +72,9 @@ abbrev pub is_quiet : Entry → Bool
 is_quiet E.Inside = true
 is_quiet E.Stop = true
 is_quiet E.Other = true
-is_quiet E.OutsideLeaves = true
+is_quiet E.WritesLink = true
+is_quiet E.Return = true
+is_quiet E.Break = true
 is_quiet E.Stores = true
 is_quiet _ = false
 

@@ -88,4 +88,4 @@ first_step calls (ShiftWord op rd rs1 amount) at = plain_step rd
 first_step calls (Register op rd rs1 rs2) at = if opens_stores op rd rs2 then at_node 99 else plain_step rd
 first_step calls (Fence word) at = Done E.Other
 first_step calls Ecall at = Done E.Ecall
-first_step calls Ebreak at = Done E.Other
+first_step calls Ebreak at = Done E.Break

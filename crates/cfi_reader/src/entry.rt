@@ -41,8 +41,12 @@ pub enum Entry {
     Stores,
     /// Stores behind a mask by x4.
     LeanStores,
-    /// A plain unit whose instruction writes x1, or a return: what may not stand in a function that calls nothing.
-    OutsideLeaves,
-    /// Any other unit.
+    /// A return.
+    Return,
+    /// An ebreak.
+    Break,
+    /// A plain unit whose instruction writes x1.
+    WritesLink,
+    /// Any other plain unit.
     Other,
 }

@@ -63,7 +63,7 @@ pub(crate) fn entry_by(
         End::LeanIjump => Entry::LeanIjump(label),
         End::LeanIcall => Entry::LeanIcall(label),
         End::Full(mask) => stores_entry(mask),
-        End::Return => Entry::OutsideLeaves,
+        End::Return => Entry::Return,
         _ => Entry::Other,
     }
 }
