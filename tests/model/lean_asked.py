@@ -1,5 +1,5 @@
 """What a program answers of graphs of version 3, compared with the model: `verify` of pairs, `run` of those that are accepted, and
-`harden` of objects in both forms, byte for byte. A program that does not judge them yet fails each of these."""
+`harden` of objects in both forms, byte for byte."""
 
 import random
 from pathlib import Path
