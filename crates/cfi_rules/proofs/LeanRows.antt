@@ -35,7 +35,7 @@ rules = R.Prologue ∷ R.Unit ∷ R.Leaf ∷ R.Target ∷ R.Unlisted ∷ R.Unuse
 abbrev pub any_fails : Profile → List ℕ → List GraphLine → List ℕ → Bool
 any_fails p words lines at = list_any (λ a. list_any (λ rule. fails_by p rule words lines a) rules) at
 
--- the prologue of a lone hart, whose call leads so many bytes on
+-- the prologue of a lone hart, with this word as its call
 abbrev opening : ℕ → List ℕ
 opening call = 0x00100073 ∷ 0x00100073 ∷ 0x00100073 ∷ 0x10000137 ∷ 0x10000237 ∷ 0xfff20213 ∷ 0x600001b7 ∷ 0x00818193 ∷ call ∷ 0x05d00893 ∷ 0x00000073 ∷ []
 
