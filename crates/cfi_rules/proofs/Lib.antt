@@ -30,6 +30,7 @@ pub mod PlacedGraph
 pub mod PlacedRows
 pub mod ApartRows
 pub mod CallRows
+pub mod LeanRows
 pub mod Walks
 pub mod Trails
 pub mod OneHart
