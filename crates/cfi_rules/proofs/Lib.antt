@@ -10,6 +10,8 @@ pub mod LineOrder
 pub mod Served
 pub mod RuleFacts
 pub mod Labels
+pub mod StartKinds
+pub mod LeanOpening
 pub mod Leading
 pub mod Moves
 pub mod OnRan
