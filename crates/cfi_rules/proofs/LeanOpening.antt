@@ -1,13 +1,13 @@
 -- The opening of a lean image: which of the two it is, where its words stand, and that none of them is a system call.
-use Rattle.std.proofs.Common.{◌≡◌, ℕ, ◌+◌, ◌-◌, ◌*◌, ◌<◌, inl, inr, Bool, true, false, List, [], Some, refl, sym, ap, subst, ◌∙◌, arith}
+use Rattle.std.proofs.Common.{◌≡◌, ℕ, ◌+◌, ◌*◌, ◌<◌, inl, inr, Bool, true, false, [], Some, refl, sym, ap, subst, ◌∙◌, arith}
 use Rattle.std.specs.Prelude.{slice_get}
 use Rattle.std.proofs.lemmas.Option.{slice_get_cases}
-use Rattle.rv_word.specs.MemoryMap.{SHADOW_START, IsLeanProfile, Profile, lean_version_1, lean_version_2, part_of}
+use Rattle.rv_word.specs.MemoryMap.{IsLeanProfile, Profile, lean_version_1, lean_version_2, part_of}
 use Rattle.rv_word.specs.Memory.{Memory}
 use Rattle.rv_instr.specs.declared.instr.Instr.{Instr}
 use Rattle.rv_instr.specs.declared.instr.Instr.TheVariants.{Ecall}
 use Rattle.rv_code.specs.State.{After, Hart, Shared}
-use Rattle.rv_code.specs.Step.{exec, step}
+use Rattle.rv_code.specs.Step.{step}
 use Rattle.cfi_unit.specs.declared.place.Place.TheVariants.{Opening as opening}
 use Rattle.cfi_unit.specs.Context.{Context}
 use Rattle.cfi_unit.specs.EventLaw.{Adds, adds_none}
@@ -41,7 +41,6 @@ own_opening = record { instrs = λ entry. refl; call = refl; site = refl; first 
 pub lean_opening : (p : Profile) → IsLeanProfile p → (several : Bool) × IsLeanOpening p several
 lean_opening p (inl e) = (false, subst (λ (q : Profile). IsLeanOpening q false) (sym e) lone_opening)
 lean_opening p (inr e) = (true, subst (λ (q : Profile). IsLeanOpening q true) (sym e) own_opening)
-
 
 lone_word : {part : ℕ} {h : Hart} → InLone part h → (k : ℕ) × (OPENING + 4 * k < lean.site_of false) × (h.pc ≡ OPENING + 4 * k)
 lone_word (lone_stack e mine) = (0, omega arith, omega arith)

@@ -1,6 +1,6 @@
 -- Where a place leads by its words, it leads the walk too: to a place that stands, with the pending sites that
 -- such a place asks for.
-use Rattle.std.proofs.Common.{◌≡◌, ℕ, suc, ◌+◌, ◌*◌, ◌%◌, ◌^◌, ◌≤◌, ◌<◌, inl, inr, true, false, List, [], ◌∷◌, length, refl, sym, ap, subst, ◌∙◌, Some, arith, lit≤}
+use Rattle.std.proofs.Common.{◌≡◌, ℕ, suc, ◌+◌, ◌*◌, ◌%◌, ◌^◌, ◌≤◌, ◌<◌, inl, inr, true, false, List, [], ◌∷◌, length, refl, sym, ap, subst, ◌∙◌, Some, arith}
 use Rattle.std.specs.Prelude.{option_map}
 use Rattle.std.proofs.lemmas.Bool.{eqb-true}
 use Rattle.rv_word.specs.declared.version.GraphVersion.{GraphVersion}
@@ -43,11 +43,11 @@ use Rattle.cfi_rules.proofs.Bytes.{loaded_small}
 use Rattle.cfi_rules.proofs.Find.{UnitHere, unit_here}
 use Rattle.cfi_rules.proofs.Labels.{label_in_class}
 use Rattle.cfi_rules.proofs.Leading.{class_parts}
-use Rattle.cfi_rules.proofs.Places.{PlaceFacts, is_whole, unit_facts, at_unit, at_closing, at_bad_target, at_bad_return, at_deep}
+use Rattle.cfi_rules.proofs.Places.{is_whole, unit_facts, at_unit, at_closing, at_bad_target, at_bad_return, at_deep}
 use Rattle.cfi_rules.proofs.RuleFacts.{Reads, edge_starts, call_starts, landing, next_starts, target_bears, unit_borne, gate_borne, site_class, the_leaves, unit_reads}
 use Rattle.cfi_rules.proofs.Served.{read_by}
 use Rattle.cfi_rules.proofs.Standing.{unit_stands}
-use Rattle.cfi_rules.proofs.StartKinds.{agrees_there, all_saved, comes_back, entry_fresh, landing_kind, lands, leaves_site, stands_there, start_there}
+use Rattle.cfi_rules.proofs.StartKinds.{agrees_there, full_there, comes_back, entry_fresh, landing_kind, lands, leaves_site, stands_there, start_there}
 
 -- how many sites may be pending at a start of each kind: at a fresh one the newest stands in x1
 abbrev pub most_at : Start → ℕ
@@ -231,15 +231,14 @@ module _ (p : Profile) (profile : IsProfile p) (image : Contents) (graph : Graph
     class = λ asked v reads low. labelled asked.kind asked.which asked.label v a (body u) reads low is;
   }
 
-  module _ (following v : ℕ) (r : Registers) (newer : List ℕ) where
-    return_arrives : (pending : List ℕ) → InBody saved pending → Returns r pending newer v → Settled saved v newer
-    return_arrives [] inside l = absurd l
-    return_arrives (site ∷ pending) inside (inl l) = let most = inside.most in to_site site v pending newer inside.sites (omega arith) l.1.0 l.1.1
-    return_arrives (site ∷ pending) inside (inr l) = to_bad_return saved v newer l.1.1
+  return_arrives : (v : ℕ) (r : Registers) (pending newer : List ℕ) → InBody saved pending → Returns r pending newer v → Settled saved v newer
+  return_arrives v r [] newer inside l = absurd l
+  return_arrives v r (site ∷ pending) newer inside (inl l) = let most = inside.most in to_site site v pending newer inside.sites (omega arith) l.1.0 l.1.1
+  return_arrives v r (site ∷ pending) newer inside (inr l) = to_bad_return saved v newer l.1.1
 
-    leaf_arrives : (pending : List ℕ) → InBody fresh pending → GoesBack pending newer v → Settled saved v newer
-    leaf_arrives [] inside l = absurd l
-    leaf_arrives (site ∷ pending) inside l = let most = inside.most in to_site site v pending newer inside.sites (omega arith) l.0 l.1
+  leaf_arrives : (v : ℕ) (pending newer : List ℕ) → InBody fresh pending → GoesBack pending newer v → Settled saved v newer
+  leaf_arrives v [] newer inside l = absurd l
+  leaf_arrives v (site ∷ pending) newer inside l = let most = inside.most in to_site site v pending newer inside.sites (omega arith) l.0 l.1
 
   module _ (following v : ℕ) (r : Registers) (pending newer : List ℕ) (start : Start) (inside : InBody start pending) where
     goes_to : (target : ℕ) → is_start p W target ≡ true → At v ≡ start → Goes pending newer v target → Settled start v newer
@@ -265,16 +264,15 @@ module _ (p : Profile) (profile : IsProfile p) (image : Contents) (graph : Graph
     abbrev Steps : Flow → Type 0
     Steps f = LeadsBy (by_class graph.lines) f × Settled (next_by start f.sites f.exit) v newer
 
-    at_saved : start ≡ saved → InBody saved pending
-    at_saved e = subst (λ (s : Start). InBody s pending) e inside
-
     flow_arrives : (f : Flow) → Suits f → Ruled start f following → LeadsBy (by_label (loaded image)) f → Steps f
     flow_arrives f (untested exit act is) ruled l = (l, exit_arrives exit is ruled.agrees ruled.next ruled.edge l)
     flow_arrives f (direct_call target) ruled (inl l) =
         let room = most_low start in
-        let few = l.0 in
-        (inl l, to_start start target v newer (ruled.call target refl) l.2 (ruled.agrees v l.2)
-        (added start following pending newer (ruled.next refl) (ruled.back refl) inside.sites (omega arith) l.1))
+        let few = l.0 in (
+          inl l,
+          to_start start target v newer (ruled.call target refl) l.2 (ruled.agrees v l.2)
+              (added start following pending newer (ruled.next refl) (ruled.back refl) inside.sites (omega arith) l.1),
+        )
     flow_arrives f (direct_call target) ruled (inr l) = (inr l, to_deep start v newer l.2)
     flow_arrives f (guarded_call numbers) ruled (inl l) = (inl l, goes_to following (ruled.next refl) (ruled.agrees v l.1.1) l.1)
     flow_arrives f (guarded_call numbers) ruled (inr l) = (inr l, to_bad_target start v newer l.1.1)
@@ -291,35 +289,43 @@ module _ (p : Profile) (profile : IsProfile p) (image : Contents) (graph : Graph
         let target = ruled.class (asks K.Call First label) to ruled.reads ruled.fits refl has in
         let at = is_saved start f refl ruled.stands in
         let room = most_low start in
-        let few = l.0 in
-        (inl (target, inl l), to_target K.Call First label to v start newer ruled.reads target l.2 (sym at)
-        (added start following pending newer (ruled.next refl) (ruled.back refl) inside.sites (omega arith) l.1))
+        let few = l.0 in (
+          inl (target, inl l),
+          to_target K.Call First label to v start newer ruled.reads target l.2 (sym at)
+              (added start following pending newer (ruled.next refl) (ruled.back refl) inside.sites (omega arith) l.1),
+        )
     flow_arrives f (computed_call rs1 imm label) ruled (inl (has, inr l)) =
         (inl (ruled.class (asks K.Call First label) (destination r rs1 imm) ruled.reads ruled.fits refl has, inr l), to_deep start v newer l.2)
     flow_arrives f (computed_call rs1 imm label) ruled (inr l) =
         (inr ((λ target. l.0 (in_class_label K.Call First label (destination r rs1 imm) ruled.reads target)), l.1), to_bad_target start v newer l.1.1)
     flow_arrives f turned_back ruled l =
         let at = is_saved start f refl ruled.stands in
-        (l, subst (λ (s : Start). Settled s v newer) (sym at) (return_arrives following v r newer pending (at_saved at) l))
+        (l, subst (λ (s : Start). Settled s v newer) (sym at) (return_arrives v r pending newer (subst (λ (s : Start). InBody s pending) at inside) l))
     flow_arrives f (linking_call target) ruled l =
-        let few = l.0 in
-        (l, to_start fresh target v newer (ruled.call target refl) l.2 (ruled.agrees v l.2)
-        (added fresh following pending newer (ruled.next refl) (ruled.back refl) inside.sites (omega arith) l.1))
-    flow_arrives f entered ruled (inl l) =
-        (inl l, to_start saved following v newer (ruled.next refl) l.1.1 (ruled.agrees v l.1.1)
-        (same_body saved pending newer l.1.0 (record { sites = inside.sites; most = l.0 })))
+        let few = l.0 in (
+          l,
+          to_start fresh target v newer (ruled.call target refl) l.2 (ruled.agrees v l.2)
+              (added fresh following pending newer (ruled.next refl) (ruled.back refl) inside.sites (omega arith) l.1),
+        )
+    flow_arrives f entered ruled (inl l) = (
+      inl l,
+      to_start saved following v newer (ruled.next refl) l.1.1 (ruled.agrees v l.1.1)
+          (same_body saved pending newer l.1.0 (record { sites = inside.sites; most = l.0 })),
+    )
     flow_arrives f entered ruled (inr l) = (inr l, to_deep saved v newer l.1.1)
     flow_arrives f (linking_computed_call rs1 imm label) ruled (inl l) =
         let to = destination r rs1 imm in
         let target = ruled.class (asks K.Call Third label) to ruled.reads ruled.fits refl l.0 in
-        let few = l.1.0 in
-        (inl (target, l.1), to_target K.Call Third label to v fresh newer ruled.reads target l.1.2 refl
-        (added fresh following pending newer (ruled.next refl) (ruled.back refl) inside.sites (omega arith) l.1.1))
+        let few = l.1.0 in (
+          inl (target, l.1),
+          to_target K.Call Third label to v fresh newer ruled.reads target l.1.2 refl
+              (added fresh following pending newer (ruled.next refl) (ruled.back refl) inside.sites (omega arith) l.1.1),
+        )
     flow_arrives f (linking_computed_call rs1 imm label) ruled (inr l) =
         (inr ((λ target. l.0 (in_class_label K.Call Third label (destination r rs1 imm) ruled.reads target)), l.1), to_bad_target fresh v newer l.1.1)
     flow_arrives f linked_back ruled l =
         let at = is_fresh start f refl ruled.stands in
-        (l, leaf_arrives following v r newer pending (subst (λ (s : Start). InBody s pending) at inside) l)
+        (l, leaf_arrives v pending newer (subst (λ (s : Start). InBody s pending) at inside) l)
 
   -- where a unit leads, the walk arrives
   pub unit_arrives : (u : U.Unit) (w : Walk) (v : ℕ) (newer : List ℕ) → place_at p W w.at ≡ Some (body u) → UnitHere p W w.at u → InBody (At w.at) w.pending →
@@ -344,7 +350,7 @@ module _ (p : Profile) (profile : IsProfile p) (image : Contents) (graph : Graph
       called : Calls p.closing w.pending newer v entry → Settled saved v newer
       called (inl m) =
           to_start saved entry v newer (call_starts p image graph formed w.at (opening entry) entry is refl) m.2
-          (all_saved p profile image graph bytes formed (full_saves p full) v) (only_closing saved newer (m.1 ∙ ap (λ ps. p.closing ∷ ps) none))
+          (full_there p profile image graph bytes formed (full_saves p full) v) (only_closing saved newer (m.1 ∙ ap (λ ps. p.closing ∷ ps) none))
       called (inr m) = to_deep saved v newer m.2
 
   pub lean_arrives : IsLeanProfile p → (entry : ℕ) (w : Walk) (v : ℕ) (newer : List ℕ) → place_at p W w.at ≡ Some (opening entry) → w.pending ≡ [] →

@@ -469,19 +469,19 @@ module _ (p : Profile) (profile : IsProfile p) (image : Contents) (graph : Graph
       Shadow place pending = ShadowStands p (part_of k) (start_in (place_at p the_words) graph.lines (hs k).pc) place (hs k) s.memory pending
 
       module _ (start : Start) (pending : List ℕ) (stack : StackStands (part_of k) start (hs k) s.memory pending) (mask : HasMask (hs k).regs) where
-        at_start : AtStart p.callee_saves (part_of k) (loaded image) s.memory start pending (hs k) s
+        abbrev at_start : AtStart p.callee_saves (part_of k) (loaded image) s.memory start pending (hs k) s
         at_start = record { stacked = stack.stacked; stands = stack.stands; pointer = stack.pointer; context = context stack.stacked stack.holds; mask = mask }
 
         unit_begins : (unit : U.Unit) → place_at p the_words (hs k).pc ≡ Some (body unit) → start ≡ At (hs k).pc → InBody p profile image graph bytes formed start pending →
             InUnitNow (part_of k) unit (walk_at pending) (hs k) s.memory
-        unit_begins unit is kind inside =
+        unit_begins unit is kind sites =
             let here = place_facts p profile image graph bytes formed (hs k).pc (body unit) is in
-            let few = few_of start (hs k).regs pending stack.stacked stack.stands inside.most in
+            let few = few_of start (hs k).regs pending stack.stacked stack.stands sites.most in
             let may : may_stand start unit ≡ true = ap (λ x. may_stand x unit) kind ∙ stands_there p profile image graph bytes formed (hs k).pc unit here.is in
             let j = body_begins p.callee_saves p (part_of k) (loaded image) s.memory unit start pending (hs k) s here.begins.fits
-            (unit_stands_in p image graph formed (hs k).pc unit here.is) may (are_sites pending inside.sites) (some_site pending inside.sites) at_start few in
+            (unit_stands_in p image graph formed (hs k).pc unit here.is) may (are_sites pending sites.sites) (some_site pending sites.sites) at_start few in
             record {
-              stage = subst (λ (x : Start). InBody p profile image graph bytes formed x pending) kind inside;
+              stage = subst (λ (x : Start). InBody p profile image graph bytes formed x pending) kind sites;
               stacked = j.stacked;
               stands = subst (λ (x : Start). StandsBy x (hs k).regs pending j.stacked) kind j.stands;
               few = j.few;
@@ -492,10 +492,10 @@ module _ (p : Profile) (profile : IsProfile p) (image : Contents) (graph : Graph
             }
 
         unit_shadow : (unit : U.Unit) → start ≡ At (hs k).pc → InBody p profile image graph bytes formed start pending → Shadow (body unit) pending
-        unit_shadow unit kind inside = (
+        unit_shadow unit kind sites = (
           subst (λ (x : Start). StackStands (part_of k) x (hs k) s.memory pending) (kind ∙ sym (start_is p profile image graph bytes formed (hs k).pc)) stack,
           mask_stands p.callee_saves (hs k).regs mask,
-          some_site pending inside.sites,
+          some_site pending sites.sites,
         )
 
       begins : (place : Place) (start : Start) (pending : List ℕ) → place_at p the_words (hs k).pc ≡ Some place → Stage p profile image graph bytes formed place start (hs k).pc pending →
@@ -516,8 +516,8 @@ module _ (p : Profile) (profile : IsProfile p) (image : Contents) (graph : Graph
       -- where something starts
       enter : (place : Place) (pending : List ℕ) → place_at p the_words (hs k).pc ≡ Some place → Inside (part_of k) place (walk_at pending) (hs k) s.memory →
           Shadow place pending → Arrives p (place_at p the_words) graph.lines (walks k) (hs k).pc pending → Owed
-      enter place pending is inside shadow arrives =
-          let on = step_on (walk_at pending) place is inside in
+      enter place pending is i shadow arrives =
+          let on = step_on (walk_at pending) place is i in
           let goes_there : GoesOn p (part_of k) (place_at p the_words) graph.lines (walks k) (Some place) (hs k) s.memory (walk_at pending) = (refl, refl, arrives, shadow) in (
             walk_at pending,
             subst (λ (o : Option Place). GoesOn p (part_of k) (place_at p the_words) graph.lines (walks k) o (hs k) s.memory (walk_at pending)) (sym is) goes_there,
@@ -525,22 +525,21 @@ module _ (p : Profile) (profile : IsProfile p) (image : Contents) (graph : Graph
             on.on,
           )
 
-      opens_at : part_of k ≡ part_of ((hs k).regs 10) → (hs k).pc ≡ OPENING → InOpens (part_of k) (hs k) s.memory
-      opens_at mine e = elim profile [
-        | inl full ↦ full_opens full (place_begins (part_of k) (loaded image) OPENING (hs k) s.memory p (opening the_entry) []
-            (full_may_stand p profile image graph bytes formed full the_entry OPENING (refl, (prologue p profile image graph bytes formed).1)) mine e)
-        | inr lean ↦
-            let (several, this) = lean_opening p lean in
-            lean_opens lean several this (this.first (part_of k) (hs k) own mine e)
-      ]
-        where
-          the_entry : ℕ
-          the_entry = (prologue p profile image graph bytes formed).0
+      abbrev first_entry : ℕ
+      first_entry = (prologue p profile image graph bytes formed).0
+
+      opens_at : IsFullProfile p ⊎ IsLeanProfile p → part_of k ≡ part_of ((hs k).regs 10) → (hs k).pc ≡ OPENING → InOpens (part_of k) (hs k) s.memory
+      opens_at (inl full) mine e =
+          full_opens full (place_begins (part_of k) (loaded image) OPENING (hs k) s.memory p (opening first_entry) []
+          (full_may_stand p profile image graph bytes formed full first_entry OPENING (refl, (prologue p profile image graph bytes formed).1)) mine e)
+      opens_at (inr lean) mine e =
+          let (several, this) = lean_opening p lean in
+          lean_opens lean several this (this.first (part_of k) (hs k) own mine e)
 
       pub goes_on : Now (part_of k) (walks k) (hs k) s.memory → Owed
       goes_on (starting none e mine) =
-          enter (opening (prologue p profile image graph bytes formed).0) [] (ap (place_at p the_words) e ∙ at_opening p profile image graph bytes formed)
-          (refl, opens_at mine e) tt (subst (λ (b : Option Walk). Arrives p (place_at p the_words) graph.lines b (hs k).pc []) (sym none) (e, refl))
+          enter (opening first_entry) [] (ap (place_at p the_words) e ∙ at_opening p profile image graph bytes formed)
+          (refl, opens_at profile mine e) tt (subst (λ (b : Option Walk). Arrives p (place_at p the_words) graph.lines b (hs k).pc []) (sym none) (e, refl))
       goes_on (within w place b is later i) =
           let facts = place_facts p profile image graph bytes formed w.at place is in
           let on = step_on w place is i in

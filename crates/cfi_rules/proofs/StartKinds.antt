@@ -1,6 +1,6 @@
 -- The kinds of the starts of a well-formed image's units: where callers save sites each is saved, else they go by the leaves and by what
 -- stands there.
-use Rattle.std.proofs.Common.{◌≡◌, ℕ, ◌+◌, ◌||◌, inl, inr, Bool, true, false, List, refl, sym, ap, subst, ◌∙◌, Option, Some, None, arith}
+use Rattle.std.proofs.Common.{◌≡◌, ℕ, ◌+◌, ◌||◌, inl, inr, Bool, true, false, List, refl, sym, ap, ◌∙◌, Option, Some, None, arith}
 use Rattle.std.specs.Prelude.{◌==◌, is_some, option_map, if◌then◌else◌}
 use Rattle.std.proofs.lemmas.Bool.{and_from, cases_Bool, cases_lt}
 use Rattle.rv_word.specs.declared.version.GraphVersion.{GraphVersion}
@@ -13,7 +13,6 @@ use Rattle.cfi_graph.specs.declared.line.SiteKind.TheVariants as K
 use Rattle.cfi_graph.specs.Graph.{GraphParts, has_leaves}
 use Rattle.cfi_unit.specs.declared.unit.Unit as U
 use Rattle.cfi_unit.specs.declared.unit.Unit.TheVariants as V
-use Rattle.cfi_unit.specs.declared.place.Place.{Place}
 use Rattle.cfi_unit.specs.declared.place.Place.TheVariants.{Handler as handler, Opening as opening, Closing as closing, Body as body}
 use Rattle.cfi_unit.specs.declared.target_word.TargetWord.{TargetWord}
 use Rattle.cfi_unit.specs.declared.target_word.TargetWord.TheVariants.{First, Second, Third}
@@ -122,11 +121,8 @@ module _ (p : Profile) (profile : IsProfile p) (image : Contents) (graph : Graph
   abbrev pub start_there : ℕ → Start
   start_there a = start_under p.callee_saves (kind a)
 
-  full_there : p.callee_saves ≡ false → (a : ℕ) → start_there a ≡ saved
+  pub full_there : p.callee_saves ≡ false → (a : ℕ) → start_there a ≡ saved
   full_there full a = ap (λ b. start_under b (kind a)) full
-
-  pub all_saved : p.callee_saves ≡ false → (a : ℕ) → start_there a ≡ saved
-  all_saved full a = full_there full a
 
   lean_there : p.callee_saves ≡ true → (a : ℕ) → start_there a ≡ kind a
   lean_there lean a = ap (λ b. start_under b (kind a)) lean
