@@ -82,6 +82,7 @@ def run_program(told, seed, levels, hardens):
         told.check(got == (0 if said == "accepted" else 1, said + "\n"), "pair %d: the program says %r, not %s" % (number, got, said))
     print("asked of the program: %d pairs of versions 1 and 2" % len(pairs))
     lean_asked.check_pairs(told, seed)
+    lean_asked.check_steps(told)
     if hardens:
         lean_asked.check_objects(told, levels)
 
