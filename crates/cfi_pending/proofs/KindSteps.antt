@@ -82,7 +82,7 @@ begun_found (x ∷ leaves) t e = elim (cases_Bool (in_leaf t x)) [
   ])
 ]
 
-is_false : (b : Bool) → not b ≡ true → b ≡ false
+pub is_false : (b : Bool) → not b ≡ true → b ≡ false
 is_false false e = refl
 is_false true e = absurd cc
 
@@ -99,10 +99,10 @@ module _ (unit_at : ℕ → Option U.Unit) (leaves : List Leaf) where
   in_fresh : (v : ℕ) → is_some (leaf_of leaves v) ≡ true → is_fresh unit_at leaves v ≡ true
   in_fresh v e = rw e refl
 
-  enter_fresh : (v : ℕ) → is_enter (unit_at v) ≡ true → is_fresh unit_at leaves v ≡ true
+  pub enter_fresh : (v : ℕ) → is_enter (unit_at v) ≡ true → is_fresh unit_at leaves v ≡ true
   enter_fresh v e = or_right (is_some (leaf_of leaves v)) _ (rw e refl)
 
-  called_fresh : (t : ℕ) → may_be_called unit_at leaves t ≡ true → is_fresh unit_at leaves t ≡ true
+  pub called_fresh : (t : ℕ) → may_be_called unit_at leaves t ≡ true → is_fresh unit_at leaves t ≡ true
   called_fresh t e = elim (or_cases (is_enter (unit_at t)) (list_any (begins_at t) leaves) e) [
     | inl enters ↦ enter_fresh t enters
     | inr begins ↦ in_fresh t (begun_found leaves t begins)

@@ -94,7 +94,7 @@ module _ (masked : Bool) (p : Profile) (part : ℕ) (image base : Memory) (unit 
       outcome.stays ran below (record { stacked = i.stacked; stands = i.stands; few = i.few; word = word; context = c; link = link; mask = mask })
   from_outcome (leaves newer ran c back leads) =
       left newer ran c back
-      (pending_law_of (by_label image) unit at start pending i.stacked newer r after.hart.regs after.hart.pc may (first_of pending are) i.stands leads (left_with back) link)
+      (pending_law_of (by_label image) unit at start pending i.stacked newer r after.hart.regs after.hart.pc may (first_of pending are) i.stands i.few leads (left_with back) link)
   from_outcome (ends e kept) = outcome.ends i.stacked e kept
 
 pub start_law : StartLaw

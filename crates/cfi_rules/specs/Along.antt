@@ -53,13 +53,18 @@ pub record StackStands (part : ℕ) (start : Start) (h : Hart) (m : Memory) (pen
   pub pointer : h.regs 3 ≡ slot part (length stacked)
   pub holds : Holds part m stacked
 
+-- where callers save sites each start is saved
+abbrev pub start_under : Bool → Start → Start
+start_under false start = saved
+start_under true start = start
+
 -- so it stands where a unit or the closing starts; where a unit starts a site is pending
 abbrev pub ShadowStands : Profile → ℕ → Start → Place → Hart → Memory → List ℕ → Type 0
 ShadowStands p part start handler h m pending = Unit {0}
 ShadowStands p part start (opening entry) h m pending = Unit {0}
 ShadowStands p part start closing h m pending = StackStands part saved h m pending × MaskStands p.callee_saves h.regs
 ShadowStands p part start (body unit) h m pending =
-    StackStands part start h m pending × MaskStands p.callee_saves h.regs × (0 < length pending)
+    StackStands part (start_under p.callee_saves start) h m pending × MaskStands p.callee_saves h.regs × (0 < length pending)
 
 -- where what stands at an address leads, with all pending sites: handlers and the closing end the run, the opening calls the entry
 abbrev pub OpeningLeads : Bool → ℕ → ℕ → List ℕ → List ℕ → ℕ → Type 0

@@ -59,9 +59,9 @@ ComputedCallGoes lines site label pending v after =
     ⊎ (((length pending < MOST_PENDING) × InClass lines K.Call First label v × (after ≡ site ∷ pending))
     ⊎ ((length pending ≡ MOST_PENDING) × HasTarget lines K.Call First label × To DEEP pending v after))
 
--- a call that leaves its site in x1: to its target, the site put on top
+-- a call that leaves its site in x1: to its target, the site put on top of those on the shadow stack
 abbrev pub LinkGoes : ℕ → ℕ → List ℕ → ℕ → List ℕ → Type 0
-LinkGoes site target pending v after = (v ≡ target) × (after ≡ site ∷ pending)
+LinkGoes site target pending v after = (length pending ≤ MOST_PENDING) × (v ≡ target) × (after ≡ site ∷ pending)
 
 -- a computed one: to the handler of bad targets, or past the gate of a target of its class
 abbrev pub ComputedLinkGoes : List GraphLine → TargetWord → ℕ → ℕ → List ℕ → ℕ → List ℕ → Type 0

@@ -2,7 +2,7 @@
 
 ghost use Rattle.std.specs.Prelude.{◌≡◌, ◌+◌, ◌≤◌, ◌^◌};
 ghost use Rattle.rv_word.specs.MemoryMap.{CODE_START, profile_of, profile_with};
-ghost use Rattle.rv_word.specs.Version.{graph_number, image_number};
+ghost use Rattle.rv_word.specs.Version.{image_number};
 
 use crate::memory_map::SHADOW_SIZE;
 use crate::profile::{
@@ -81,19 +81,6 @@ impl ImageVersion {
         match self {
             ImageVersion::OneHart => CLOSING,
             ImageVersion::EightHarts => CLOSING_OF_HARTS,
-        }
-    }
-}
-
-impl GraphVersion {
-    /// Its number, 1 to 3.
-    pub fn number(self) -> u8
-        ensures { result ≡ graph_number self }
-    {
-        match self {
-            GraphVersion::OneLabel => 1,
-            GraphVersion::TwoLabels => 2,
-            GraphVersion::CalleeSaves => 3,
         }
     }
 }
