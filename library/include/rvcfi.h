@@ -57,6 +57,7 @@ extern "C" {
 #define RVCFI_RULE_GATE     8u
 #define RVCFI_RULE_ASTRAY   9u
 #define RVCFI_RULE_END      10u
+#define RVCFI_RULE_LEAF     11u
 
 struct rvcfi_verdict {
     uint32_t outcome; /* RVCFI_ACCEPTED to RVCFI_NO_MEMORY */

@@ -6,7 +6,7 @@ use Rattle.rv_word.specs.Image.{Contents, image_profile}
 use Rattle.rv_word.specs.MemoryMap.{MayRun, profile_of}
 use Rattle.elf_image.specs.Fault.{version_in}
 use Rattle.cfi_graph.specs.Graph.{GraphParts}
-use Rattle.cfi_rules.specs.Rules.{IsWellFormed}
+use Rattle.cfi_rules.specs.Rules.{IsWellFormed, pair_profile}
 use Rattle.cfi_script.specs.Script.{ScriptParts}
 use Rattle.cfi_pair.specs.Spelled.{Spell}
 use Rattle.cfi_pair.specs.declared.opening.PairFault.TheVariants.{Graph, Image}
@@ -47,7 +47,7 @@ module _ (image_bytes graph_bytes : List ℕ) (image : Contents) (graph : GraphP
     no_run NoMemory result has is = inr is
     no_run (Fault fault) result has is = absurd (no_launch_fault fault has)
 
-    pub run_there : (well : IsWellFormed (image_profile image) image graph) (input : List ℕ) (limit : ℕ) (launched : Launched)
+    pub run_there : (well : IsWellFormed (pair_profile image graph) image graph) (input : List ℕ) (limit : ℕ) (launched : Launched)
         → IsLaunchOf image_bytes graph_bytes script input limit launched → HasRun (Ok launched) ⊎ (◌≡◌ {A = Result Launched (End LaunchFault)} (Ok launched) (Err NoMemory))
     run_there well input limit (Ran version report) is = inl tt
     run_there well input limit (Rejected reject) is =

@@ -70,7 +70,7 @@ IsSite site = (site % 2 ≡ 0) × (site < 2 ^ 64)
 module _ (m : Choice) (ok : IsAccepted m) where
   closing_site : IsSite m.layout.profile.closing
   closing_site =
-      let laid = laid_out m.layout.profile ok.profile in
+      let laid = laid_out m.layout.profile (inl ok.profile) in
       let first_unit = laid.closing in
       let high = laid.high in
       let round = laid.round in

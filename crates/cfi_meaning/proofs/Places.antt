@@ -90,8 +90,8 @@ module _ (m : Choice) (image : Contents) (of : IsImageOf m image) where
   pub stands_here : (a : ℕ) (u : U.Unit) → unit_at m.layout.profile (code_words image.code) a ≡ Some u → Fits u a × Stand (loaded image) a (instrs_of u a)
   stands_here a u e =
       let p = m.layout.profile in
-      let laid = laid_out p of.accepted.profile in
-      let here = unit_facts p of.accepted.profile image (written_graph m image of) of.bytes (formed m image of) a u e in
+      let laid = laid_out p (inl of.accepted.profile) in
+      let here = unit_facts p (inl of.accepted.profile) image (written_graph m image of) of.bytes (formed m image of) a u e in
       (here.begins.fits, unit_stands p laid image of.bytes a u here)
 
   -- and is one of code whose callers save sites

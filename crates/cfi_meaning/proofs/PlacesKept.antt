@@ -115,7 +115,7 @@ bound_rises lead last few n less = let more = mul-le (20 + lead) few (20 + lead)
 pub places_kept : law.PlacesKept
 places_kept m image input places next o of chain free on =
     let p = m.layout.profile in
-    let laid = laid_out p of.accepted.profile in
+    let laid = laid_out p (inl of.accepted.profile) in
     let closing = laid.closing in
     let low = laid.low in
     let first = own_start p 0 (entry_gate m) cleared (own_shared image input) in

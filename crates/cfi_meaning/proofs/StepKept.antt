@@ -64,7 +64,7 @@ module _ (m : Choice) (image : Contents) (of : IsImageOf m image) where
   has = written_prologue m image of
 
   own_part : IsPart p SHADOW_START
-  own_part = let some = (laid_out p of.accepted.profile).some in own_is_part p of.accepted.profile 0 (omega arith)
+  own_part = let some = (laid_out p (inl of.accepted.profile)).some in own_is_part p (inl of.accepted.profile) 0 (omega arith)
 
   -- the step of a place leaves pending sites that fit
   pub sites_after : (k : ℕ) (o : Own) → TamePlace m image k o → SitesFit o.pending → SitesFit (place_step m k o).state.pending

@@ -17,8 +17,7 @@ use Rattle.cfi_map.specs.GraphAtMap.{gate, graph_lines}
 use Rattle.cfi_map.specs.LabelOf.{all_classes, empty_classes, next_after, site_label, site_number}
 use Rattle.cfi_unit.specs.declared.target_word.TargetWord.{TargetWord}
 use Rattle.cfi_unit.specs.Leads.{HasLabel}
-use Rattle.cfi_rules.specs.Lines.{class_with, holds_of, if_serves, is_among, targets_for}
-use Rattle.cfi_rules.specs.Rules.{jump_word}
+use Rattle.cfi_rules.specs.Lines.{class_with, holds_of, if_serves, is_among, jump_word, targets_for}
 use Rattle.cfi_rules.specs.Walk.{InClass}
 use Rattle.cfi_rules.proofs.Moves.{in_class_label}
 use Rattle.cfi_rules.proofs.PlacedLines.{class_before, no_class}

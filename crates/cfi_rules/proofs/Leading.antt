@@ -59,7 +59,7 @@ module _ (lines : List GraphLine) where
       OpeningGoes callee_saves site entry pending v newer
   opening_goes false site entry pending newer v (inl l) = inl (l.0, l.2, l.1)
   opening_goes false site entry pending newer v (inr l) = inr (l.0, (l.2, l.1))
-  opening_goes true site entry pending newer v l = (l.1, l.0)
+  opening_goes true site entry pending newer v l = (l.0, l.2, l.1)
 
   module _ (following : ℕ) (pending : List ℕ) (r : Registers) (newer : List ℕ) (v : ℕ) where
     exit_goes : (exit : Exit) → is_untested exit ≡ true → ExitLeads exit F.keeps following pending r newer v → ExitGoes exit F.keeps following pending v newer
@@ -93,9 +93,9 @@ module _ (lines : List GraphLine) where
     flow_goes f (computed_call rs1 imm label) (inl (legal, inr l)) = inr (inr (l.0, has_target K.Call First label _ legal, (l.2, l.1)))
     flow_goes f (computed_call rs1 imm label) (inr l) = inl (l.1.1, l.1.0)
     flow_goes f turned_back l = returns_go r pending newer v l
-    flow_goes f (linking_call target) l = (l.1, l.0)
+    flow_goes f (linking_call target) l = (l.0, l.2, l.1)
     flow_goes f entered l = saves_go l
-    flow_goes f (linking_computed_call rs1 imm label) (inl l) = inr (destination r rs1 imm, l.0, (l.1.1, l.1.0))
+    flow_goes f (linking_computed_call rs1 imm label) (inl l) = inr (destination r rs1 imm, l.0, (l.1.0, l.1.2, l.1.1))
     flow_goes f (linking_computed_call rs1 imm label) (inr l) = inl (l.1.1, l.1.0)
     flow_goes f linked_back l = goes_back pending newer v l
 

@@ -10,6 +10,8 @@ pub mod LineOrder
 pub mod Served
 pub mod RuleFacts
 pub mod Labels
+pub mod StartKinds
+pub mod LeanOpening
 pub mod Leading
 pub mod Moves
 pub mod OnRan
@@ -28,6 +30,7 @@ pub mod PlacedGraph
 pub mod PlacedRows
 pub mod ApartRows
 pub mod CallRows
+pub mod LeanRows
 pub mod Walks
 pub mod Trails
 pub mod OneHart

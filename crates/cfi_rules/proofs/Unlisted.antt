@@ -94,7 +94,7 @@ listed_there p image harts hart k may below run listed =
     (later p (63 ∷ []) k (start_hart hart) start ([] ∷ []) run (listed_alone p (63 ∷ []) hart (calm k ++ ([] ∷ [])) start_hart start along)).0
 
 one : MayRun version_1 1
-one = one_may_run version_1 (laid_out version_1 (inl refl))
+one = one_may_run version_1 (laid_out version_1 (inl (inl refl)))
 
 call_unlisted : IsListed version_1 bare_call (63 ∷ []) → ⊥
 unfolding loaded placed decoded code_of step write last_exit after_calm is_ran all_run first_number

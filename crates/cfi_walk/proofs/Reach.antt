@@ -26,6 +26,10 @@ handler_lies a e =
       ]
     ]
 
+no_opening : (entry : Option ℕ) (u : U.Unit) → option_map opening entry ≡ Some (body u) → ⊥
+no_opening None u e = absurd (cc)
+no_opening (Some entry) u e = absurd (cc)
+
 module _ (p : Profile) (laid : LaidOut p) where
   pub unit_within : (words : List ℕ) (a : ℕ) (u : U.Unit) → unit_at p words a ≡ Some u → IsInUnits p words a
   unfolding unit_at
@@ -56,6 +60,21 @@ module _ (p : Profile) (laid : LaidOut p) where
           | inr c ↦ elim (chosen (a == p.closing) (Some closing) _ (Some place) c.1) [
             | inl h ↦ inr (inr (inl (eqb-true a p.closing h.0)))
             | inr b ↦ inr (inr (inr (body_stands words a place b.1)))
+          ]
+        ]
+      ]
+
+  -- a unit stands from where units begin on
+  pub body_low : (words : List ℕ) (a : ℕ) (u : U.Unit) → place_at p words a ≡ Some (body u) → p.units_from ≤ a
+  unfolding place_at
+  body_low words a u e =
+      elim (chosen (is_handler a) (Some handler) _ (Some (body u)) e) [
+        | inl h ↦ let k = h.1 in absurd (cc)
+        | inr o ↦ elim (chosen (a == OPENING) (option_map opening (entry_of p words)) _ (Some (body u)) o.1) [
+          | inl h ↦ absurd (no_opening (entry_of p words) u h.1)
+          | inr c ↦ elim (chosen (a == p.closing) (Some closing) _ (Some (body u)) c.1) [
+            | inl h ↦ let k = h.1 in absurd (cc)
+            | inr b ↦ let found = body_stands words a (body u) b.1 in (unit_within words a found.0 found.1).low
           ]
         ]
       ]

@@ -28,7 +28,8 @@ use Rattle.cfi_unit.specs.declared.target_word.TargetWord.{TargetWord}
 use Rattle.cfi_unit.specs.declared.target_word.TargetWord.TheVariants.{First, Second, Third}
 use Rattle.cfi_unit.specs.UnitWords.{word_count}
 use Rattle.cfi_rules.specs.Placed.{line_of}
-use Rattle.cfi_rules.specs.Rules.{admits, asks, gate_of, is_of_version, jump_word, may_call, same_word, site_of}
+use Rattle.cfi_rules.specs.Lines.{jump_word}
+use Rattle.cfi_rules.specs.Rules.{admits, asks, gate_of, is_of_version, may_call, same_word, site_of}
 use Rattle.cfi_rules.specs.Sound.{target_of}
 use Rattle.cfi_rules.specs.declared.asks.Asks.{Asks}
 use Rattle.cfi_writer.specs.SideLaws.{word_read}
