@@ -6,7 +6,7 @@ use Rattle.std.specs.List.{list_all}
 use Rattle.std.proofs.lemmas.Bool.{and_parts}
 use Rattle.std.proofs.lemmas.Option.{same_Some, slice_get_cases, slice_get_within}
 use Rattle.rv_word.specs.Bits.{wrap}
-use Rattle.rv_word.specs.MemoryMap.{IsFullProfile, IsLeanProfile, Profile, lean_version_1, lean_version_2}
+use Rattle.rv_word.specs.MemoryMap.{IsFullProfile, Profile}
 use Rattle.rv_word.specs.Memory.{Memory}
 use Rattle.rv_word.proofs.Profiles.{full_saves, laid_out}
 use Rattle.rv_instr.specs.Registers.{Registers}
@@ -46,10 +46,11 @@ use Rattle.cfi_unit.proofs.MemberWords.{member_at}
 use Rattle.cfi_unit.proofs.PlaceWords.{lone_word, own_word}
 use Rattle.cfi_unit.proofs.Parts.{call_site, opening_parts, set_up_length}
 use Rattle.cfi_unit.proofs.StoreUnit.{member_address}
-use Rattle.cfi_pending.specs.Opening.{InLone, InOwn}
+use Rattle.cfi_pending.specs.Opening.{InLone, InOwn, InSetUp}
 use Rattle.cfi_pending.specs.Opening as lean
 use Rattle.cfi_pending.specs.StartLaw.{stands_in}
 use Rattle.cfi_rules.specs.Rules.{edge_of}
+use Rattle.cfi_rules.proofs.LeanOpening.{IsLeanOpening}
 use Rattle.cfi_confined.specs.Confined.{IsHandler, LeadsOver}
 
 -- no site is put on top or taken off
@@ -438,32 +439,49 @@ module _ (p : Profile) (is : IsFullProfile p) (part : ℕ) (low : part < 2 ^ 32)
   opening_here (opening_call v i) = calling_here i
 
 -- and where callees do
-module _ (part : ℕ) (image : Memory) (r : Registers) (h : Hart) (entry : ℕ) where
-  abbrev LeanHere : Profile → Type 0
-  LeanHere q = Here q part image OPENING [] r h (opening entry)
+module _ (p : Profile) (several : Bool) (this : IsLeanOpening p several) (part : ℕ) (image : Memory) (r : Registers) (h : Hart) (entry : ℕ) where
+  abbrev LeanHere : Type 0
+  LeanHere = Here p part image OPENING [] r h (opening entry)
 
-  lone_here : Fits (V.LinkCall entry) lean_version_1.opening_call → InLone part h → LeanHere lean_version_1
-  lone_here fits (lean.lone_stack e mine) = here lean_version_1 part image OPENING [] r h (opening entry) 0 _ refl e (inl (omega arith))
-  lone_here fits (lean.lone_mask e mine) = here lean_version_1 part image OPENING [] r h (opening entry) 1 _ refl e (inl (omega arith))
-  lone_here fits (lean.lone_less e mine x4) = here lean_version_1 part image OPENING [] r h (opening entry) 2 _ refl e (inl (omega arith))
-  lone_here fits (lean.lone_shadow e mine x4) = here lean_version_1 part image OPENING [] r h (opening entry) 3 _ refl e (inl (omega arith))
-  lone_here fits (lean.lone_slot e mine x4 x3) = here lean_version_1 part image OPENING [] r h (opening entry) 4 _ refl e (inl (omega arith))
-  lone_here fits (lean.lone_call e x4 x3) = here lean_version_1 part image OPENING [] r h (opening entry) 5 _ refl e (inr (refl, (sym fits, refl)))
+  lean_whole : (k : ℕ) (i : Instr) → slice_get (lean.opening_instrs several entry) k ≡ Some i → slice_get (place_instrs p (opening entry) OPENING) k ≡ Some i
+  lean_whole k i found = ap (λ l. slice_get l k) (this.instrs entry) ∙ found
 
-  own_here : Fits (V.LinkCall entry) lean_version_2.opening_call → InOwn part h → LeanHere lean_version_2
-  own_here fits (lean.own_stack e mine) = here lean_version_2 part image OPENING [] r h (opening entry) 0 _ refl e (inl (omega arith))
-  own_here fits (lean.own_mask e mine) = here lean_version_2 part image OPENING [] r h (opening entry) 1 _ refl e (inl (omega arith))
-  own_here fits (lean.own_less e mine x4) = here lean_version_2 part image OPENING [] r h (opening entry) 2 _ refl e (inl (omega arith))
-  own_here fits (lean.own_offset e mine x4) = here lean_version_2 part image OPENING [] r h (opening entry) 3 _ refl e (inl (omega arith))
-  own_here fits (lean.own_end e mine x4) = here lean_version_2 part image OPENING [] r h (opening entry) 4 _ refl e (inl (omega arith))
-  own_here fits (lean.own_shadow e mine x4) = here lean_version_2 part image OPENING [] r h (opening entry) 5 _ refl e (inl (omega arith))
-  own_here fits (lean.own_part_offset e mine x4 x3) = here lean_version_2 part image OPENING [] r h (opening entry) 6 _ refl e (inl (omega arith))
-  own_here fits (lean.own_part e mine x4 x3) = here lean_version_2 part image OPENING [] r h (opening entry) 7 _ refl e (inl (omega arith))
-  own_here fits (lean.own_slot e x3 x4) = here lean_version_2 part image OPENING [] r h (opening entry) 8 _ refl e (inl (omega arith))
-  own_here fits (lean.own_call e x4 x3) = here lean_version_2 part image OPENING [] r h (opening entry) 9 _ refl e (inr (refl, (sym fits, refl)))
+  lean_set_up : (k : ℕ) (i : Instr) → slice_get (lean.opening_instrs several entry) k ≡ Some i → is_quiet i ≡ true → OPENING + 4 * (k + 1) < lean.site_of several →
+      h.pc ≡ OPENING + 4 * k → LeanHere
+  lean_set_up k i found quiet below e =
+      let site = this.site in
+      here p part image OPENING [] r h (opening entry) k i (lean_whole k i found) e (quiet_fact p part image OPENING [] r h (opening entry) k i quiet (inl (omega arith)))
 
-  pub lone_opening_here : (p : Profile) → p ≡ lean_version_1 → Fits (V.LinkCall entry) p.opening_call → InLone part h → LeanHere p
-  lone_opening_here p e fits i = subst (λ (q : Profile). Fits (V.LinkCall entry) q.opening_call → LeanHere q) (sym e) (λ fits. lone_here fits i) fits
+  lean_calling : (k : ℕ) → OPENING + 4 * k ≡ lean.call_at several →
+      slice_get (lean.opening_instrs several entry) k ≡ Some (Jal 1 (jump_offset (lean.call_at several) entry)) → Fits (V.LinkCall entry) (lean.call_at several) →
+      h.pc ≡ OPENING + 4 * k → LeanHere
+  lean_calling k at found fits e =
+      let leads : wrap (OPENING + 4 * k + offset 21 (jump_offset (lean.call_at several) entry * 2)) ≡ entry =
+      ap (λ a. wrap (a + offset 21 (jump_offset (lean.call_at several) entry * 2))) at ∙ fits in
+      here p part image OPENING [] r h (opening entry) k _ (lean_whole k _ found) e (inr (refl, (sym leads, at ∙ sym this.call)))
 
-  pub own_opening_here : (p : Profile) → p ≡ lean_version_2 → Fits (V.LinkCall entry) p.opening_call → InOwn part h → LeanHere p
-  own_opening_here p e fits i = subst (λ (q : Profile). Fits (V.LinkCall entry) q.opening_call → LeanHere q) (sym e) (λ fits. own_here fits i) fits
+module _ (p : Profile) (part : ℕ) (image : Memory) (r : Registers) (h : Hart) (entry : ℕ) where
+  lone_here : (this : IsLeanOpening p false) → Fits (V.LinkCall entry) (lean.call_at false) → InLone part h → LeanHere p false this part image r h entry
+  lone_here this fits (lean.lone_stack e mine) = lean_set_up p false this part image r h entry 0 _ refl refl (omega arith) e
+  lone_here this fits (lean.lone_mask e mine) = lean_set_up p false this part image r h entry 1 _ refl refl (omega arith) e
+  lone_here this fits (lean.lone_less e mine x4) = lean_set_up p false this part image r h entry 2 _ refl refl (omega arith) e
+  lone_here this fits (lean.lone_shadow e mine x4) = lean_set_up p false this part image r h entry 3 _ refl refl (omega arith) e
+  lone_here this fits (lean.lone_slot e mine x4 x3) = lean_set_up p false this part image r h entry 4 _ refl refl (omega arith) e
+  lone_here this fits (lean.lone_call e x4 x3) = lean_calling p false this part image r h entry 5 refl refl fits e
+
+  own_here : (this : IsLeanOpening p true) → Fits (V.LinkCall entry) (lean.call_at true) → InOwn part h → LeanHere p true this part image r h entry
+  own_here this fits (lean.own_stack e mine) = lean_set_up p true this part image r h entry 0 _ refl refl (omega arith) e
+  own_here this fits (lean.own_mask e mine) = lean_set_up p true this part image r h entry 1 _ refl refl (omega arith) e
+  own_here this fits (lean.own_less e mine x4) = lean_set_up p true this part image r h entry 2 _ refl refl (omega arith) e
+  own_here this fits (lean.own_offset e mine x4) = lean_set_up p true this part image r h entry 3 _ refl refl (omega arith) e
+  own_here this fits (lean.own_end e mine x4) = lean_set_up p true this part image r h entry 4 _ refl refl (omega arith) e
+  own_here this fits (lean.own_shadow e mine x4) = lean_set_up p true this part image r h entry 5 _ refl refl (omega arith) e
+  own_here this fits (lean.own_part_offset e mine x4 x3) = lean_set_up p true this part image r h entry 6 _ refl refl (omega arith) e
+  own_here this fits (lean.own_part e mine x4 x3) = lean_set_up p true this part image r h entry 7 _ refl refl (omega arith) e
+  own_here this fits (lean.own_slot e x3 x4) = lean_set_up p true this part image r h entry 8 _ refl refl (omega arith) e
+  own_here this fits (lean.own_call e x4 x3) = lean_calling p true this part image r h entry 9 refl refl fits e
+
+  pub lean_opening_here : (several : Bool) (this : IsLeanOpening p several) → Fits (V.LinkCall entry) (lean.call_at several) → InSetUp several part h →
+      LeanHere p several this part image r h entry
+  lean_opening_here true this fits i = own_here this fits i
+  lean_opening_here false this fits i = lone_here this fits i
