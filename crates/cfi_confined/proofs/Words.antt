@@ -54,7 +54,7 @@ use Rattle.cfi_rules.proofs.LeanOpening.{IsLeanOpening}
 use Rattle.cfi_confined.specs.Confined.{IsHandler, LeadsOver}
 
 -- no site is put on top or taken off
-abbrev keeps_by : Sites → Exit → Bool
+abbrev pub keeps_by : Sites → Exit → Bool
 keeps_by F.keeps F.linked = false
 keeps_by F.keeps exit = true
 keeps_by F.saves exit = true
@@ -76,7 +76,7 @@ AreNewest [] x1 x31 = ⊥
 AreNewest (site ∷ stacked) x1 x31 = (x1 ≡ site) × (x31 ≡ site)
 
 -- where a unit stands that stands in no lean code, callers save sites
-caller_saves : (callee_saves : Bool) (unit : U.Unit) → is_lean unit ≡ false → stands_in callee_saves unit ≡ true → callee_saves ≡ false
+pub caller_saves : (callee_saves : Bool) (unit : U.Unit) → is_lean unit ≡ false → stands_in callee_saves unit ≡ true → callee_saves ≡ false
 caller_saves false unit full stands = refl
 caller_saves true unit full stands = absurd (cc)
 

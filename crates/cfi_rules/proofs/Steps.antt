@@ -169,7 +169,7 @@ module _ (p : Profile) (profile : IsProfile p) (image : Contents) (graph : Graph
       let round = here.round in let high = here.high in let whole = length-code_words image.code bytes.size.words in let most = bytes.size.most in
       (omega arith, omega arith)
 
-  are_sites : (pending : List ℕ) → SitesStand p profile image graph bytes formed pending → AreSites pending
+  pub are_sites : (pending : List ℕ) → SitesStand p profile image graph bytes formed pending → AreSites pending
   are_sites [] sites = tt
   are_sites (site ∷ []) sites = (returns_to site [] sites, tt)
   are_sites (site ∷ other ∷ more) sites = (returns_to site (other ∷ more) sites, are_sites (other ∷ more) sites.2)
