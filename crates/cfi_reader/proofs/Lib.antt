@@ -2,7 +2,7 @@ pub mod PlainWord
 pub mod Halts
 pub mod Steps
 pub mod Table
-mod Chain
+mod Rows
 pub mod Ahead
 pub mod Law
 pub mod Keeping

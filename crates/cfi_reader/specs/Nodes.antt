@@ -12,11 +12,24 @@ use Rattle.cfi_unit.specs.UnitWords.{BAD_RETURN, BAD_TARGET, DEEP}
 use Rattle.cfi_unit.specs.Shapes.{SHAPES, Shape, all_stores, call, each_guarded, enter, guarded, icall, ijump, lean_icall, lean_ijump, return, shape}
 use Rattle.cfi_reader.specs.Kept.{is_longer}
 use Rattle.cfi_reader.specs.Left.{after, is_alone, lets, same, tells, without}
-use Rattle.cfi_reader.specs.declared.node.Row.{Row}
 use Rattle.cfi_reader.specs.declared.node.Next.{Next}
 use Rattle.cfi_reader.specs.declared.node.Next.TheVariants as N
 use Rattle.cfi_reader.specs.declared.node.Else.{Else}
 use Rattle.cfi_reader.specs.declared.node.Else.TheVariants as L
+
+-- a row of the table: what a word is asked for, where it leads if it is so, and where if it is not
+pub record Row : Type 0 where
+  pub pattern : Pattern
+  pub yes : Next
+  pub no : Else
+
+-- the row that three parts are
+abbrev pub row_in : Pattern × Next × Else → Row
+row_in row = record { pattern = row.0; yes = row.1; no = row.2 }
+
+-- that of none
+abbrev pub no_row : Pattern × Next × Else
+no_row = (P.Is 0, N.More 0, L.Stuck)
 
 -- behind so many words
 abbrev pub behind : ℕ → Shape → Shape

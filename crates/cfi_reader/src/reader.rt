@@ -105,10 +105,10 @@ pub fn next(calls: &Numbers, reader: Reader, word: u32, here: u64) -> Step
     let mut node = reader.node;
     'asked: loop {
         let row = row_at(node);
-        if matches(row.pattern, word, here) {
-            let numbers = count_by(calls, row.pattern, word, reader.numbers);
-            let label = label_after(row.pattern, word, reader.label);
-            return match row.yes {
+        if matches(row.0, word, here) {
+            let numbers = count_by(calls, row.0, word, reader.numbers);
+            let label = label_after(row.0, word, reader.label);
+            return match row.1 {
                 Next::More(node) => Step::More(Reader {
                     node,
                     numbers,
@@ -117,7 +117,7 @@ pub fn next(calls: &Numbers, reader: Reader, word: u32, here: u64) -> Step
                 Next::Done(end) => Step::Done(entry_by(calls, end, numbers, label, word)),
             };
         }
-        match row.no {
+        match row.2 {
             Else::Try(other) => node = other,
             Else::Ended(end) => return Step::Before(open_entry(end)),
             Else::Stuck => return Step::More(Reader { node: 0, ..reader }),
@@ -130,7 +130,7 @@ fn ended(node: u8) -> Option<End>
     requires { node ≢ 1 }
     ensures { Ended (rest_of node) result }
 {
-    match row_at(node).no {
+    match row_at(node).2 {
         Else::Try(other) => ended(other),
         Else::Ended(end) => Some(end),
         Else::Stuck => None,

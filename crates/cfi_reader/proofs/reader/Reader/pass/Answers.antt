@@ -3,12 +3,11 @@ use Rattle.std.specs.Prelude.{Bool, true, ◌==◌, ◌&&◌, ◌||◌, get_or, 
 use Rattle.std.proofs.lemmas.Bool.{agree_below, agree_below_at, eq-eqb, ltb-true, or_cases}
 use Rattle.rv_code.specs.Encode.{code_of}
 use Rattle.cfi_unit.specs.declared.pattern.Pattern.TheVariants as P
-use Rattle.cfi_reader.specs.Nodes.{is_row_of}
+use Rattle.cfi_reader.specs.Nodes.{Row, is_row_of}
 use Rattle.cfi_reader.specs.Reading.{IsReading}
 use Rattle.cfi_reader.specs.declared.node.Else.{Else}
 use Rattle.cfi_reader.specs.declared.node.Else.TheVariants as L
 use Rattle.cfi_reader.specs.declared.node.Next.TheVariants as N
-use Rattle.cfi_reader.specs.declared.node.Row.{Row}
 use Rattle.cfi_reader.specs.declared.node.TheConstants as table
 use Rattle.cfi_reader.proofs.Followed.{goes_more, trying}
 use Rattle.cfi_reader.proofs.reader.Reader.pass.Goals as goal
