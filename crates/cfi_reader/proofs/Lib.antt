@@ -8,6 +8,7 @@ pub mod Law
 pub mod Keeping
 pub mod Entered
 pub mod Followed
+mod Told
 pub mod Begin
 pub mod Opening
 pub mod FirstWord

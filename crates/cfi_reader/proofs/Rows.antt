@@ -1,5 +1,5 @@
 -- Each row of the table says what its node's shapes do.
-use Rattle.std.proofs.Common.{◌≡◌, ◌≢◌, ◌<◌, ℕ, inl, inr, length, refl, sym, subst, arith}
+use Rattle.std.proofs.Common.{◌≡◌, ◌≢◌, ℕ, inl, inr, length, refl, sym, subst, arith}
 use Rattle.std.specs.Prelude.{Bool, true, ◌==◌, ◌||◌, get_or}
 use Rattle.std.proofs.lemmas.Bool.{agree_below, agree_below_at, cases_lt, eqb-true, or_cases}
 use Rattle.std.proofs.Math.ListN.{get_or-eq_default}

@@ -2,8 +2,9 @@
 //! stands for the units that may begin with the words so far; 1 is that of all units, and 0 that of none.
 
 ghost use Rattle.std.specs.Prelude.{◌≡◌, ◌≢◌, ◌<◌, IfSome, true, get_or, length};
-ghost use Rattle.cfi_reader.specs.Nodes.{is_row_of, no_row, row_in};
+ghost use Rattle.cfi_reader.specs.Nodes.{is_row_of, is_coded, no_row, row_in};
 
+use crate::matching::{is_member, jump_code};
 use Else::{Ended, Stuck, Try};
 use End::{Full, Ijump, Stores};
 use Mask::{Long, Shifts, Short};
@@ -206,40 +207,180 @@ fn row_among(rows: &[(Pattern, Next, Else)], node: u8) -> &(Pattern, Next, Else)
 /// In place of a code, where a word may lead on in other ways: no word is as large.
 const NONE: u64 = 1 << 32;
 
-/// Of each node the code with which alone a unit goes on to another one.
+/// In place of the code of a jump to a handler, whose address is added.
+const HALT: u64 = NONE;
+
+/// In place of the code of a store behind a mask.
+const STORE: u64 = 2 * NONE;
+
+/// Of each node the code with which a unit goes on to another one, where it does with no other, or what stands in place of it.
 const CODES: [u64; 129] = [
-    NONE, NONE, NONE, 0x051f8063, 0x031f8c63, 0x031f8863, 0x031f8463, 0x031f8063, 0x011f8c63,
-    0x011f8863, 0x011f8463, 0x024f9f93, 0xffcfff93, NONE, 0x031f8c63, NONE, 0x031f8863, NONE,
-    0x031f8463, NONE, 0x031f8063, NONE, 0x011f8c63, NONE, 0x011f8863, NONE, 0x011f8463, NONE, NONE,
-    0x024fdf93, NONE, NONE, NONE, NONE, NONE, NONE, NONE, NONE, NONE, NONE, NONE, NONE, NONE, NONE,
-    NONE, NONE, 0x000f1463, NONE, 0x00000f17, 0x014f0f13, 0x01e1b023, 0x00818193, NONE, 0x40000f37,
-    0x41ef8f33, 0x014f5f13, 0x000f0463, NONE, 0x000faf03, 0x004faf03, NONE, 0x03720213, 0x004f0463,
-    NONE, NONE, 0x03019f13, NONE, 0x03720213, 0x004f0463, NONE, NONE, 0x000f1463, NONE, 0x00000f17,
-    0x014f0f13, 0x01e1b023, 0x00818193, NONE, 0xff818193, 0x001f8463, NONE, NONE, 0x004fffb3, NONE,
-    NONE, NONE, NONE, NONE, NONE, NONE, NONE, NONE, NONE, NONE, NONE, NONE, NONE, NONE, NONE, NONE,
-    NONE, NONE, NONE, NONE, NONE, NONE, NONE, NONE, NONE, NONE, NONE, NONE, NONE, NONE, NONE,
-    0x0011b023, NONE, 0x10000237, 0xfff20213, NONE, 0x008faf03, NONE, 0x03720213, 0x004f0463, NONE,
-    0x10000237, 0xfff20213, NONE, NONE,
+    NONE,
+    NONE,
+    NONE,
+    0x051f8063,
+    0x031f8c63,
+    0x031f8863,
+    0x031f8463,
+    0x031f8063,
+    0x011f8c63,
+    0x011f8863,
+    0x011f8463,
+    0x024f9f93,
+    0xffcfff93,
+    NONE,
+    0x031f8c63,
+    NONE,
+    0x031f8863,
+    NONE,
+    0x031f8463,
+    NONE,
+    0x031f8063,
+    NONE,
+    0x011f8c63,
+    NONE,
+    0x011f8863,
+    NONE,
+    0x011f8463,
+    HALT + BAD_TARGET,
+    NONE,
+    0x024fdf93,
+    STORE,
+    STORE,
+    STORE,
+    STORE,
+    STORE,
+    STORE,
+    STORE,
+    STORE,
+    STORE,
+    STORE,
+    STORE,
+    STORE,
+    STORE,
+    STORE,
+    STORE,
+    NONE,
+    0x000f1463,
+    HALT + DEEP,
+    0x00000f17,
+    0x014f0f13,
+    0x01e1b023,
+    0x00818193,
+    NONE,
+    0x40000f37,
+    0x41ef8f33,
+    0x014f5f13,
+    0x000f0463,
+    HALT + BAD_TARGET,
+    0x000faf03,
+    0x004faf03,
+    NONE,
+    0x03720213,
+    0x004f0463,
+    HALT + BAD_TARGET,
+    NONE,
+    0x03019f13,
+    NONE,
+    0x03720213,
+    0x004f0463,
+    HALT + BAD_TARGET,
+    NONE,
+    0x000f1463,
+    HALT + DEEP,
+    0x00000f17,
+    0x014f0f13,
+    0x01e1b023,
+    0x00818193,
+    NONE,
+    0xff818193,
+    0x001f8463,
+    HALT + BAD_RETURN,
+    NONE,
+    0x004fffb3,
+    STORE,
+    STORE,
+    STORE,
+    STORE,
+    STORE,
+    STORE,
+    STORE,
+    STORE,
+    STORE,
+    STORE,
+    STORE,
+    STORE,
+    STORE,
+    STORE,
+    STORE,
+    NONE,
+    STORE,
+    STORE,
+    STORE,
+    STORE,
+    STORE,
+    STORE,
+    STORE,
+    STORE,
+    STORE,
+    STORE,
+    STORE,
+    STORE,
+    STORE,
+    STORE,
+    STORE,
+    NONE,
+    0x0011b023,
+    NONE,
+    0x10000237,
+    0xfff20213,
+    NONE,
+    0x008faf03,
+    NONE,
+    0x03720213,
+    0x004f0463,
+    HALT + BAD_TARGET,
+    0x10000237,
+    0xfff20213,
+    NONE,
+    NONE,
 ];
 
 /// The nodes to which these lead.
 const LEADS: [u8; 129] = [
     0, 0, 0, 13, 15, 17, 19, 21, 23, 25, 27, 29, 53, 0, 15, 0, 17, 0, 19, 0, 21, 0, 23, 0, 25, 0,
-    27, 0, 0, 30, 0, 0, 0, 0, 0, 0, 0, 0, 0, 0, 0, 0, 0, 0, 0, 0, 47, 0, 49, 50, 51, 52, 0, 54, 55,
-    56, 57, 0, 60, 66, 0, 62, 63, 0, 0, 71, 0, 68, 69, 0, 0, 72, 0, 74, 75, 76, 77, 0, 79, 80, 0,
-    0, 83, 0, 0, 0, 0, 0, 0, 0, 0, 0, 0, 0, 0, 0, 0, 0, 0, 0, 0, 0, 0, 0, 0, 0, 0, 0, 0, 0, 0, 0,
-    0, 0, 0, 116, 0, 118, 119, 0, 121, 0, 123, 124, 0, 126, 127, 0, 0,
+    27, 28, 0, 30, 31, 32, 33, 34, 35, 36, 37, 38, 39, 40, 41, 42, 43, 44, 45, 0, 47, 48, 49, 50,
+    51, 52, 0, 54, 55, 56, 57, 58, 60, 66, 0, 62, 63, 64, 0, 71, 0, 68, 69, 70, 0, 72, 73, 74, 75,
+    76, 77, 0, 79, 80, 81, 0, 83, 84, 85, 86, 87, 88, 89, 90, 91, 92, 93, 94, 95, 96, 97, 98, 0,
+    100, 101, 102, 103, 104, 105, 106, 107, 108, 109, 110, 111, 112, 113, 114, 0, 116, 0, 118, 119,
+    0, 121, 0, 123, 124, 125, 126, 127, 0, 0,
 ];
 
-/// Where the word leads with which alone a unit goes on from a node, if it is that.
+/// Where a word at an address leads from a node, if it is as the node's code says.
 #[inline(always)]
-pub(crate) fn led_by(node: u8, word: u32) -> Option<u8>
-    ensures { IfSome result (λ next. (node < 129) × (get_or CODES node 0 ≡ word) × (get_or LEADS node 0 ≡ next)) }
+pub(crate) fn led_by(node: u8, word: u32, here: u64) -> Option<u8>
+    ensures { IfSome result (λ next. (node < 129) × (is_coded (get_or CODES node 0) word here ≡ true) × (get_or LEADS node 0 ≡ next)) }
 {
     let index = node as usize;
-    if index < 129 && CODES[index] == u64::from(word) {
+    if index < 129 && is_coded(CODES[index], word, here) {
         Some(LEADS[index])
     } else {
         None
+    }
+}
+
+/// Whether a word at an address is as a code says, or what stands in place of one.
+#[inline(always)]
+fn is_coded(code: u64, word: u32, here: u64) -> bool
+    ensures { result ≡ is_coded code word here }
+{
+    if code == u64::from(word) {
+        true
+    } else if code <= NONE {
+        false
+    } else if code == STORE {
+        is_member(word)
+    } else {
+        word == jump_code(here, code - HALT)
     }
 }

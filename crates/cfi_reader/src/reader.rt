@@ -64,13 +64,14 @@ impl Reader {
         self.node == 0
     }
 
-    /// Reads one word more, if it is the only one with which the unit goes on; otherwise nothing changes.
+    /// Reads one word more, which stands at an address, if it is the only one with which the unit goes on, or one of its stores;
+    /// otherwise nothing changes.
     #[inline(always)]
-    pub fn pass(&mut self, word: u32) -> bool
-        ensures on { result ≡ true → (calls : List ℕ) (here : ℕ) → length calls ≤ MOST_NUMBERS → InCode here 1 → LeadsOn calls self.old word here (S.More self.new) }
+    pub fn pass(&mut self, word: u32, here: u64) -> bool
+        ensures on { result ≡ true → (calls : List ℕ) → length calls ≤ MOST_NUMBERS → InCode here 1 → LeadsOn calls self.old word here (S.More self.new) }
         ensures same { result ≡ false → self.new ≡ self.old }
     {
-        match led_by(self.node, word) {
+        match led_by(self.node, word, here) {
             Some(node) => {
                 self.node = node;
                 true
