@@ -2,14 +2,14 @@
 use Rattle.std.proofs.Common.{◌≡◌, ℕ, ◌+◌, ◌*◌, ◌^◌, ◌<◌, ◌≤◌, ◌⊎◌, inl, inr, Bool, true, false, List, [], ◌∷◌, length, refl, sym, ap, subst, ◌∙◌, Option, Some, None, arith}
 use Rattle.std.specs.Prelude.{if◌then◌else◌, slice_get}
 use Rattle.std.specs.List.{AllByRecursion}
-use Rattle.std.proofs.lemmas.Bool.{cases_Bool, cases_eq, eq-eqb, false≢true, ne_eqb}
+use Rattle.std.proofs.lemmas.Bool.{cases_eq, eq-eqb, ne_eqb}
 use Rattle.std.proofs.lemmas.Option.{same_Some, slice_get_within}
 use Rattle.rv_word.specs.Image.{Contents}
-use Rattle.rv_word.specs.MemoryMap.{DATA_END, PART_SIZE, START, IsProfile, MayRun, Profile, part_of}
+use Rattle.rv_word.specs.MemoryMap.{PART_SIZE, START, IsProfile, MayRun, Profile, part_of}
 use Rattle.rv_word.specs.Memory.{Memory, loaded}
 use Rattle.rv_word.specs.Same.{SameOn}
 use Rattle.rv_word.proofs.Cases.{cases_Option}
-use Rattle.rv_word.proofs.Profiles.{full_saves, laid_out, lean_saves}
+use Rattle.rv_word.proofs.Profiles.{laid_out}
 use Rattle.rv_instr.specs.Registers.{Registers}
 use Rattle.rv_instr.specs.declared.instr.Instr.{Instr}
 use Rattle.rv_instr.specs.declared.instr.Instr.TheVariants.{Ecall}
@@ -23,11 +23,9 @@ use Rattle.rv_code.proofs.Frames.{read_same}
 use Rattle.cfi_graph.specs.Graph.{GraphParts, IsGraph, calls_in}
 use Rattle.cfi_unit.specs.Context.{Context, IsCodeOf}
 use Rattle.cfi_unit.specs.EventLaw.{MayCall}
-use Rattle.cfi_unit.specs.Flow.{Act, flow_of}
-use Rattle.cfi_unit.specs.Flow as F
+use Rattle.cfi_unit.specs.Flow.{flow_of}
 use Rattle.cfi_unit.specs.declared.place.Place.{Place}
 use Rattle.cfi_unit.specs.declared.place.Place.TheVariants.{Handler as handler, Opening as opening, Closing as closing, Body as body}
-use Rattle.cfi_unit.specs.declared.unit.SystemOp.TheVariants as S
 use Rattle.cfi_unit.specs.declared.unit.Unit as U
 use Rattle.cfi_unit.specs.declared.unit.Unit.TheVariants as V
 use Rattle.cfi_unit.specs.Place.{IsWordOf, place_instrs}
@@ -43,7 +41,7 @@ use Rattle.cfi_unit.proofs.Sought.{nowhere, opening_lacks}
 use Rattle.cfi_pending.specs.Opening as lean
 use Rattle.cfi_pending.specs.Starts.{Start, StandsBy, fresh, may_stand, saved}
 use Rattle.cfi_pending.proofs.StartSteps.{stacked_of}
-use Rattle.cfi_rules.specs.Along.{ActBreaks, ActExits, ActFaults, AreStepsOf, MayBreak, MayEnd, MayExit, MayFault, MayStart, OnRan, PlaceLeads, Walk}
+use Rattle.cfi_rules.specs.Along.{AreStepsOf, MayBreak, MayEnd, MayExit, MayFault, MayStart, OnRan, PlaceLeads, Walk}
 use Rattle.cfi_rules.specs.Laws.{AreBytes}
 use Rattle.cfi_rules.specs.Rules.{IsWellFormed}
 use Rattle.cfi_rules.specs.Split.{code_words, is_handler, place_at}
@@ -62,7 +60,7 @@ use Rattle.cfi_confined.specs.Laws.{WellFormedIsConfined}
 use Rattle.cfi_confined.proofs.Moves.{Standing, moves, sites_of}
 use Rattle.cfi_confined.proofs.Sites.{Went, low_sites, site_stands}
 use Rattle.cfi_confined.proofs.Words.{Here, closing_here, handler_here, lean_opening_here, opening_here, unit_here}
-use Rattle.cfi_confined.proofs.Writes.{Written, writes}
+use Rattle.cfi_confined.proofs.Writes.{writes}
 
 -- an instruction that stands in the image is fetched where code is the image's
 fetched_there : (image m : Memory) (at : ℕ) (instrs : List Instr) → IsCodeOf image m → Stand image at instrs → (k : ℕ) (i : Instr) → slice_get instrs k ≡ Some i →
@@ -406,9 +404,11 @@ module _ (p : Profile) (profile : IsProfile p) (image : Contents) (graph : Graph
     Given a = MayEnd w.place h.pc a.turn × OnRan a.turn (Gone a) (Unit {0})
 
     given : Given after
-    given =
-        (may_end, on_ran after.turn (Rest walk after) (IsCodeOf (loaded image) after.shared.memory) (Gone after) (Unit {0}) (λ rest. rest refl) (λ kept. tt)
-        (step_on p profile image graph bytes formed hart below h s going code Rest gone walk w.place w.is w.inside).on)
+    given = (
+      may_end,
+      on_ran after.turn (Rest walk after) (IsCodeOf (loaded image) after.shared.memory) (Gone after) (Unit {0}) (λ rest. rest refl) (λ kept. tt)
+          (step_on p profile image graph bytes formed hart below h s going code Rest gone walk w.place w.is w.inside).on,
+    )
 
     onward : left.turn ≡ Ran → Gone left → (START ≤ h.pc) × Onward left
     onward t g = (

@@ -31,7 +31,7 @@ use Rattle.cfi_rules.proofs.Find.{UnitHere}
 use Rattle.cfi_rules.proofs.Labels.{label_in_class}
 use Rattle.cfi_rules.proofs.Leading.{class_parts}
 use Rattle.cfi_rules.proofs.Moves.{SitesStand}
-use Rattle.cfi_rules.proofs.Places.{PlaceFacts, at_closing, at_start, nothing_inside, place_facts, unit_facts}
+use Rattle.cfi_rules.proofs.Places.{at_closing, at_start, nothing_inside, place_facts, unit_facts}
 use Rattle.cfi_rules.proofs.RuleFacts.{call_starts, gate_borne, site_class, target_bears, the_leaves, unit_reads}
 use Rattle.cfi_rules.proofs.Served.{read_by}
 use Rattle.cfi_confined.proofs.Words.{Keeps, Kept, keeps_by}

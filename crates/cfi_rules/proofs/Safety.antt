@@ -1,72 +1,30 @@
 -- A well-formed pair is safe: by induction on the steps, each step keeps what is known of all harts,
 -- and goes along the graph. What comes after a step may be any statement that follows from what is known.
-use Rattle.std.proofs.Common.{◌≡◌, ℕ, ◌+◌, ◌*◌, ◌≤◌, ◌<◌, ◌⊎◌, inl, inr, Bool, true, false, List, [], ◌∷◌, length, refl, sym, ap, subst, ◌∙◌, Option, Some, None, arith}
+use Rattle.std.proofs.Common.{◌≡◌, ℕ, ◌≤◌, ◌<◌, inl, inr, List, [], ◌∷◌, refl, sym, ap, subst, ◌∙◌, Option, Some, None, arith}
 use Rattle.std.specs.Prelude.{◌==◌, if◌then◌else◌}
 use Rattle.std.specs.List.{AllByRecursion}
-use Rattle.std.proofs.lemmas.Bool.{cases_eq, eq-eqb, false≢true, ne_eqb}
+use Rattle.std.proofs.lemmas.Bool.{cases_eq, eq-eqb, ne_eqb}
 use Rattle.rv_word.specs.Image.{Contents}
-use Rattle.rv_word.specs.MemoryMap.{DATA_END, PART_SIZE, IsFullProfile, IsLeanProfile, IsProfile, MayRun, Profile, part_of}
+use Rattle.rv_word.specs.MemoryMap.{DATA_END, IsProfile, MayRun, Profile, part_of}
 use Rattle.rv_word.specs.Memory.{Memory, loaded}
-use Rattle.rv_word.specs.Same.{SameOn}
-use Rattle.rv_word.proofs.Profiles.{full_saves, laid_out}
-use Rattle.rv_instr.specs.Registers.{Registers}
-use Rattle.rv_instr.specs.declared.instr.Instr.{Instr}
+use Rattle.rv_word.proofs.Profiles.{laid_out}
 use Rattle.rv_code.specs.Run.{ByteChange, HartStep, IsDataChange, changed, disturbed}
 use Rattle.rv_code.specs.State.{Hart, Harts, Shared, After, last_exit, with_hart}
 use Rattle.rv_code.specs.Step.{step}
-use Rattle.rv_code.specs.declared.turn.Turn.{Turn}
-use Rattle.rv_code.specs.declared.turn.Turn.TheVariants.{Ran, Exit, Break}
 use Rattle.cfi_graph.specs.Graph.{GraphParts}
-use Rattle.cfi_unit.specs.declared.unit.SystemOp.TheVariants as S
-use Rattle.cfi_unit.specs.declared.unit.Unit as U
-use Rattle.cfi_unit.specs.declared.unit.Unit.TheVariants as V
-use Rattle.cfi_unit.specs.Flow as F
-use Rattle.cfi_unit.specs.Flow.{Act, flow_of}
-use Rattle.cfi_unit.specs.Context.{IsCodeOf, Context, Kept, SameOutside}
-use Rattle.cfi_unit.specs.EventLaw.{Adds}
-use Rattle.cfi_unit.specs.InPlace.{InClosing, InOpening, InPlace, InUnit, closing_number}
-use Rattle.cfi_unit.specs.Leads.{Calls}
-use Rattle.cfi_unit.specs.MaskLaw.{writes_mask}
+use Rattle.cfi_unit.specs.Context.{IsCodeOf, Context}
 use Rattle.cfi_unit.specs.declared.place.Place.{Place}
-use Rattle.cfi_unit.specs.declared.place.Place.TheVariants.{Handler as handler, Opening as opening, Closing as closing, Body as body}
-use Rattle.cfi_unit.specs.Place.{IsWordOf, place_size}
-use Rattle.cfi_unit.specs.Prologue.{OPENING, opening_instrs}
-use Rattle.cfi_unit.specs.Shadow.{slot, Holds, IsPart, MOST_PENDING}
-use Rattle.cfi_unit.specs.Stand.{Stand}
-use Rattle.cfi_unit.specs.Templates.{LeftWith}
-use Rattle.cfi_unit.specs.UnitLaw.{ActEnds, Ends, MayStand, Outcome, stays, leaves, ends, ReturnsTo}
-use Rattle.cfi_unit.specs.UnitWords.{BAD_TARGET, BAD_RETURN, DEEP, Fits, Reaches, STORE_MASK}
-use Rattle.cfi_unit.proofs.Changed.{in_place_changed, place_begins}
-use Rattle.cfi_unit.proofs.Context.{holds_same}
-use Rattle.cfi_unit.proofs.Events.{unit_events}
-use Rattle.cfi_unit.proofs.Flows.{is_single, single_word}
+use Rattle.cfi_unit.specs.declared.place.Place.TheVariants.{Opening as opening}
 use Rattle.cfi_unit.proofs.Others.{other_part}
-use Rattle.cfi_unit.proofs.Parts.{own_is_part}
-use Rattle.cfi_unit.proofs.PlaceWords.{place_word}
-use Rattle.cfi_unit.proofs.UnitSteps.{unit_law}
-use Rattle.cfi_pending.specs.Opening as opens
-use Rattle.cfi_pending.specs.Opening.{InSetUp, OpeningOutcome, site_of}
-use Rattle.cfi_pending.specs.StartLaw
-use Rattle.cfi_pending.specs.StartLaw.{AreSites, AtStart, Halted, StartOutcome}
-use Rattle.cfi_pending.specs.Starts.{Start, StandsBy, fresh, may_stand, next_start, saved}
-use Rattle.cfi_pending.proofs.Begins.{body_begins}
-use Rattle.cfi_pending.proofs.OpeningSteps.{opening_law}
-use Rattle.cfi_pending.proofs.StartSteps.{stacked_of, start_law}
-use Rattle.cfi_rules.specs.Along.{Walk, Walks, with_walk, GoesOn, Arrives, MaskStands, ShadowStands, StackStands, start_in, ActExits, ActBreaks, ActFaults, MayExit, MayBreak, MayFault, MayEnd, Begun, MayStart, OnRan, RunsAlong, AreStepsOf, AllRunAlong}
+use Rattle.cfi_rules.specs.Along.{Walk, Walks, with_walk, GoesOn, Arrives, Begun, MayStart, OnRan, RunsAlong, AreStepsOf, AllRunAlong}
 use Rattle.cfi_rules.specs.Rules.{IsWellFormed}
 use Rattle.cfi_rules.specs.Split.{code_words, place_at, unit_words}
 use Rattle.cfi_rules.specs.Laws.{AreBytes, WellFormedIsSafe}
-use Rattle.cfi_rules.proofs.Bytes.{are_words, length-code_words, loaded_small}
+use Rattle.cfi_rules.proofs.Bytes.{are_words}
 use Rattle.cfi_rules.proofs.CodeSplit.{code_is_split}
-use Rattle.cfi_rules.proofs.Find.{UnitHere, unit_here}
-use Rattle.cfi_rules.proofs.Labels.{full_may_stand, place_stands}
-use Rattle.cfi_rules.proofs.LeanOpening.{IsLeanOpening, lean_events, lean_opening, lean_word}
-use Rattle.cfi_rules.proofs.Moves.{InBody, SitesStand, Stage, Arrived, full_arrives, lean_arrives, most_at, unit_arrives}
-use Rattle.cfi_rules.proofs.Places.{handler_is, is_whole, prologue, place_facts, nothing_inside, at_opening}
+use Rattle.cfi_rules.proofs.Places.{prologue, place_facts, nothing_inside, at_opening}
 use Rattle.cfi_rules.proofs.Reading.{places_same, split_read}
-use Rattle.cfi_rules.proofs.RuleFacts.{unit_stands_in}
 use Rattle.cfi_rules.proofs.Steps.{Inside, Now, Shadow, arrived, begins, now_kept, opens_at, starting, step_on, walk_at, within}
-use Rattle.cfi_rules.proofs.StartKinds.{stands_there, start_is, start_there}
 
 -- changes of data leave all else as it is
 pub changed_above : (m : Memory) (cs : List ByteChange) → AllByRecursion IsDataChange cs → (k : ℕ) → DATA_END ≤ k → changed m cs k ≡ m k

@@ -1,18 +1,15 @@
 -- What is known of a hart of a well-formed pair between two steps, and one step: it goes along the graph, and keeps what is known. What
 -- comes after it may be any statement that follows from that.
 use Rattle.std.proofs.Common.{◌≡◌, ℕ, ◌+◌, ◌*◌, ◌≤◌, ◌<◌, ◌⊎◌, inl, inr, Bool, true, false, List, [], ◌∷◌, length, refl, sym, ap, subst, ◌∙◌, Option, Some, None, arith}
-use Rattle.std.specs.Prelude.{◌==◌, if◌then◌else◌}
-use Rattle.std.specs.List.{AllByRecursion}
-use Rattle.std.proofs.lemmas.Bool.{cases_eq, eq-eqb, false≢true, ne_eqb}
+use Rattle.std.proofs.lemmas.Bool.{false≢true}
 use Rattle.rv_word.specs.Image.{Contents}
-use Rattle.rv_word.specs.MemoryMap.{DATA_END, PART_SIZE, IsFullProfile, IsLeanProfile, IsProfile, MayRun, Profile, part_of}
+use Rattle.rv_word.specs.MemoryMap.{PART_SIZE, IsFullProfile, IsLeanProfile, IsProfile, Profile, part_of}
 use Rattle.rv_word.specs.Memory.{Memory, loaded}
 use Rattle.rv_word.specs.Same.{SameOn}
 use Rattle.rv_word.proofs.Profiles.{full_saves, laid_out}
 use Rattle.rv_instr.specs.Registers.{Registers}
 use Rattle.rv_instr.specs.declared.instr.Instr.{Instr}
-use Rattle.rv_code.specs.Run.{ByteChange, HartStep, IsDataChange, changed, disturbed}
-use Rattle.rv_code.specs.State.{Hart, Harts, Shared, After, last_exit, with_hart}
+use Rattle.rv_code.specs.State.{Hart, Shared, After, last_exit}
 use Rattle.rv_code.specs.Step.{step}
 use Rattle.rv_code.specs.declared.turn.Turn.{Turn}
 use Rattle.rv_code.specs.declared.turn.Turn.TheVariants.{Ran, Exit, Break}
@@ -40,7 +37,6 @@ use Rattle.cfi_unit.proofs.Changed.{in_place_changed, place_begins}
 use Rattle.cfi_unit.proofs.Context.{holds_same}
 use Rattle.cfi_unit.proofs.Events.{unit_events}
 use Rattle.cfi_unit.proofs.Flows.{is_single, single_word}
-use Rattle.cfi_unit.proofs.Others.{other_part}
 use Rattle.cfi_unit.proofs.Parts.{own_is_part}
 use Rattle.cfi_unit.proofs.PlaceWords.{place_word}
 use Rattle.cfi_unit.proofs.UnitSteps.{unit_law}
@@ -52,18 +48,16 @@ use Rattle.cfi_pending.specs.Starts.{Start, StandsBy, fresh, may_stand, next_sta
 use Rattle.cfi_pending.proofs.Begins.{body_begins}
 use Rattle.cfi_pending.proofs.OpeningSteps.{opening_law}
 use Rattle.cfi_pending.proofs.StartSteps.{stacked_of, start_law}
-use Rattle.cfi_rules.specs.Along.{Walk, Walks, with_walk, GoesOn, Arrives, MaskStands, ShadowStands, StackStands, start_in, ActExits, ActBreaks, ActFaults, MayExit, MayBreak, MayFault, MayEnd, Begun, MayStart, OnRan, RunsAlong, AreStepsOf, AllRunAlong}
+use Rattle.cfi_rules.specs.Along.{Walk, MaskStands, ShadowStands, StackStands, start_in, ActExits, ActBreaks, ActFaults, MayExit, MayBreak, MayFault, MayEnd, Begun, OnRan}
 use Rattle.cfi_rules.specs.Rules.{IsWellFormed}
-use Rattle.cfi_rules.specs.Split.{code_words, place_at, unit_words}
-use Rattle.cfi_rules.specs.Laws.{AreBytes, WellFormedIsSafe}
-use Rattle.cfi_rules.proofs.Bytes.{are_words, length-code_words, loaded_small}
-use Rattle.cfi_rules.proofs.CodeSplit.{code_is_split}
+use Rattle.cfi_rules.specs.Split.{code_words, place_at}
+use Rattle.cfi_rules.specs.Laws.{AreBytes}
+use Rattle.cfi_rules.proofs.Bytes.{length-code_words, loaded_small}
 use Rattle.cfi_rules.proofs.Find.{UnitHere, unit_here}
 use Rattle.cfi_rules.proofs.Labels.{full_may_stand, place_stands}
 use Rattle.cfi_rules.proofs.LeanOpening.{IsLeanOpening, lean_events, lean_opening, lean_word}
 use Rattle.cfi_rules.proofs.Moves.{InBody, SitesStand, Stage, Arrived, full_arrives, lean_arrives, most_at, unit_arrives}
-use Rattle.cfi_rules.proofs.Places.{handler_is, is_whole, prologue, place_facts, nothing_inside, at_opening}
-use Rattle.cfi_rules.proofs.Reading.{places_same, split_read}
+use Rattle.cfi_rules.proofs.Places.{handler_is, is_whole, prologue, place_facts}
 use Rattle.cfi_rules.proofs.RuleFacts.{unit_stands_in}
 use Rattle.cfi_rules.proofs.StartKinds.{stands_there, start_is, start_there}
 
