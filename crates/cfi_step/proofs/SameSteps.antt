@@ -7,7 +7,7 @@ use Rattle.rv_instr.specs.declared.instr.Instr.{Instr}
 use Rattle.rv_instr.specs.declared.instr.Instr.TheVariants.{Upper, Jal, Jalr, Branch, Load, Store, Immediate, Shift, ShiftWord, Register, Fence, Ecall, Ebreak}
 use Rattle.rv_instr.specs.declared.instr.UpperOp.TheVariants.{Lui, Auipc}
 use Rattle.rv_code.specs.Decode.{decoded}
-use Rattle.rv_code.specs.Run.{HartStep, RunAfter, disturbed, stepped}
+use Rattle.rv_code.specs.Run.{HartStep, disturbed, stepped}
 use Rattle.rv_code.specs.State.{After, Hart, Harts, Shared, last_exit, with_hart}
 use Rattle.rv_code.specs.Step.{can_fetch, exec, exec_decoded, if_after, step, step_unless_ended, stops}
 use Rattle.rv_code.specs.declared.turn.Turn.TheVariants.{FetchFault}
