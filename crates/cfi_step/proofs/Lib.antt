@@ -2,6 +2,7 @@ mod Changes
 mod Continues
 mod InTurns
 mod Noting
+mod PairProfile
 mod Preparing
 mod Replay
 mod Reported

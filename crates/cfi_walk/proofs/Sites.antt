@@ -34,7 +34,7 @@ pub exit_kept : (exit : Exit) (following : ℕ) (pending : List ℕ) (v : ℕ) (
 exit_kept (F.either op rs1 rs2 met target) following pending v after is g = either_kept following target pending v after g
 exit_kept (F.computed rs1 imm) following pending v after is g = absurd g
 exit_kept (F.beyond rs1 imm) following pending v after is g = absurd g
-exit_kept F.linked following pending v after is g = absurd g
+exit_kept F.linked following pending v after is g = absurd (cc)
 exit_kept F.back following pending v after is g = absurd (cc)
 exit_kept (F.after S.Ebreak) following pending v after is g = absurd g
 exit_kept other following pending v after is g = g.1

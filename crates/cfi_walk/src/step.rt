@@ -216,7 +216,8 @@ fn opened(checked: &Checked<'_>, walk: &Walk, entry: u64, pc: u64) -> Option<Mov
     let closing = checked.closing();
     match checked.graph().version() {
         GraphVersion::CalleeSaves => link(walk, closing, entry, pc),
-        GraphVersion::OneLabel | GraphVersion::TwoLabels => call(walk, closing, entry, pc),
+        GraphVersion::OneLabel => call(walk, closing, entry, pc),
+        GraphVersion::TwoLabels => call(walk, closing, entry, pc),
     }
 }
 
