@@ -21,6 +21,7 @@ pub mod UnitIn
 pub mod CodeSplit
 pub mod PlacedSplit
 pub mod Reading
+pub mod Steps
 pub mod Safety
 pub mod Ahead
 pub mod PlacedLines

@@ -1,71 +1,30 @@
 -- A well-formed pair is safe: by induction on the steps, each step keeps what is known of all harts,
 -- and goes along the graph. What comes after a step may be any statement that follows from what is known.
-use Rattle.std.proofs.Common.{◌≡◌, ℕ, ◌+◌, ◌*◌, ◌≤◌, ◌<◌, ◌⊎◌, inl, inr, Bool, true, false, List, [], ◌∷◌, length, refl, sym, ap, subst, ◌∙◌, Option, Some, None, arith}
+use Rattle.std.proofs.Common.{◌≡◌, ℕ, ◌≤◌, ◌<◌, inl, inr, List, [], ◌∷◌, refl, sym, ap, subst, ◌∙◌, Option, Some, None, arith}
 use Rattle.std.specs.Prelude.{◌==◌, if◌then◌else◌}
 use Rattle.std.specs.List.{AllByRecursion}
-use Rattle.std.proofs.lemmas.Bool.{cases_eq, eq-eqb, false≢true, ne_eqb}
+use Rattle.std.proofs.lemmas.Bool.{cases_eq, eq-eqb, ne_eqb}
 use Rattle.rv_word.specs.Image.{Contents}
-use Rattle.rv_word.specs.MemoryMap.{DATA_END, PART_SIZE, IsFullProfile, IsLeanProfile, IsProfile, MayRun, Profile, part_of}
+use Rattle.rv_word.specs.MemoryMap.{DATA_END, IsProfile, MayRun, Profile, part_of}
 use Rattle.rv_word.specs.Memory.{Memory, loaded}
-use Rattle.rv_word.specs.Same.{SameOn}
-use Rattle.rv_word.proofs.Profiles.{full_saves, laid_out}
-use Rattle.rv_instr.specs.Registers.{Registers}
-use Rattle.rv_instr.specs.declared.instr.Instr.{Instr}
+use Rattle.rv_word.proofs.Profiles.{laid_out}
 use Rattle.rv_code.specs.Run.{ByteChange, HartStep, IsDataChange, changed, disturbed}
 use Rattle.rv_code.specs.State.{Hart, Harts, Shared, After, last_exit, with_hart}
 use Rattle.rv_code.specs.Step.{step}
-use Rattle.rv_code.specs.declared.turn.Turn.{Turn}
-use Rattle.rv_code.specs.declared.turn.Turn.TheVariants.{Ran, Exit, Break}
 use Rattle.cfi_graph.specs.Graph.{GraphParts}
-use Rattle.cfi_unit.specs.declared.unit.SystemOp.TheVariants as S
-use Rattle.cfi_unit.specs.declared.unit.Unit as U
-use Rattle.cfi_unit.specs.declared.unit.Unit.TheVariants as V
-use Rattle.cfi_unit.specs.Flow as F
-use Rattle.cfi_unit.specs.Flow.{Act, flow_of}
-use Rattle.cfi_unit.specs.Context.{IsCodeOf, Context, Kept, SameOutside}
-use Rattle.cfi_unit.specs.EventLaw.{Adds}
-use Rattle.cfi_unit.specs.InPlace.{InClosing, InOpening, InPlace, InUnit, closing_number}
-use Rattle.cfi_unit.specs.Leads.{Calls}
-use Rattle.cfi_unit.specs.MaskLaw.{writes_mask}
+use Rattle.cfi_unit.specs.Context.{IsCodeOf, Context}
 use Rattle.cfi_unit.specs.declared.place.Place.{Place}
-use Rattle.cfi_unit.specs.declared.place.Place.TheVariants.{Handler as handler, Opening as opening, Closing as closing, Body as body}
-use Rattle.cfi_unit.specs.Place.{IsWordOf, place_size}
-use Rattle.cfi_unit.specs.Prologue.{OPENING, opening_instrs}
-use Rattle.cfi_unit.specs.Shadow.{slot, Holds, IsPart, MOST_PENDING}
-use Rattle.cfi_unit.specs.Stand.{Stand}
-use Rattle.cfi_unit.specs.Templates.{LeftWith}
-use Rattle.cfi_unit.specs.UnitLaw.{ActEnds, Ends, MayStand, Outcome, stays, leaves, ends, ReturnsTo}
-use Rattle.cfi_unit.specs.UnitWords.{BAD_TARGET, BAD_RETURN, DEEP, Fits, Reaches, STORE_MASK}
-use Rattle.cfi_unit.proofs.Changed.{in_place_changed, place_begins}
-use Rattle.cfi_unit.proofs.Context.{holds_same}
-use Rattle.cfi_unit.proofs.Events.{unit_events}
-use Rattle.cfi_unit.proofs.Flows.{is_single, single_word}
+use Rattle.cfi_unit.specs.declared.place.Place.TheVariants.{Opening as opening}
 use Rattle.cfi_unit.proofs.Others.{other_part}
-use Rattle.cfi_unit.proofs.Parts.{own_is_part}
-use Rattle.cfi_unit.proofs.PlaceWords.{place_word}
-use Rattle.cfi_unit.proofs.UnitSteps.{unit_law}
-use Rattle.cfi_pending.specs.Opening as opens
-use Rattle.cfi_pending.specs.Opening.{InSetUp, OpeningOutcome, site_of}
-use Rattle.cfi_pending.specs.StartLaw
-use Rattle.cfi_pending.specs.StartLaw.{AreSites, AtStart, Halted, StartOutcome}
-use Rattle.cfi_pending.specs.Starts.{Start, StandsBy, fresh, may_stand, next_start, saved}
-use Rattle.cfi_pending.proofs.Begins.{body_begins}
-use Rattle.cfi_pending.proofs.OpeningSteps.{opening_law}
-use Rattle.cfi_pending.proofs.StartSteps.{stacked_of, start_law}
-use Rattle.cfi_rules.specs.Along.{Walk, Walks, with_walk, GoesOn, Arrives, MaskStands, ShadowStands, StackStands, start_in, ActExits, ActBreaks, ActFaults, MayExit, MayBreak, MayFault, MayEnd, Begun, MayStart, OnRan, RunsAlong, AreStepsOf, AllRunAlong}
+use Rattle.cfi_rules.specs.Along.{Walk, Walks, with_walk, GoesOn, Arrives, Begun, MayStart, OnRan, RunsAlong, AreStepsOf, AllRunAlong}
 use Rattle.cfi_rules.specs.Rules.{IsWellFormed}
 use Rattle.cfi_rules.specs.Split.{code_words, place_at, unit_words}
 use Rattle.cfi_rules.specs.Laws.{AreBytes, WellFormedIsSafe}
-use Rattle.cfi_rules.proofs.Bytes.{are_words, length-code_words, loaded_small}
+use Rattle.cfi_rules.proofs.Bytes.{are_words}
 use Rattle.cfi_rules.proofs.CodeSplit.{code_is_split}
-use Rattle.cfi_rules.proofs.Find.{UnitHere, unit_here}
-use Rattle.cfi_rules.proofs.Labels.{full_may_stand, place_stands}
-use Rattle.cfi_rules.proofs.LeanOpening.{IsLeanOpening, lean_events, lean_opening, lean_word}
-use Rattle.cfi_rules.proofs.Moves.{InBody, SitesStand, Stage, Arrived, full_arrives, lean_arrives, most_at, unit_arrives}
-use Rattle.cfi_rules.proofs.Places.{handler_is, is_whole, prologue, place_facts, nothing_inside, at_opening}
+use Rattle.cfi_rules.proofs.Places.{prologue, place_facts, nothing_inside, at_opening}
 use Rattle.cfi_rules.proofs.Reading.{places_same, split_read}
-use Rattle.cfi_rules.proofs.RuleFacts.{unit_stands_in}
-use Rattle.cfi_rules.proofs.StartKinds.{stands_there, start_is, start_there}
+use Rattle.cfi_rules.proofs.Steps.{Inside, Now, Shadow, arrived, begins, now_kept, opens_at, starting, step_on, walk_at, within}
 
 -- changes of data leave all else as it is
 pub changed_above : (m : Memory) (cs : List ByteChange) → AllByRecursion IsDataChange cs → (k : ℕ) → DATA_END ≤ k → changed m cs k ≡ m k
@@ -74,184 +33,26 @@ changed_above m (c ∷ cs) low k above =
     let below = low.0.address in
     changed_above (λ j. if j == c.address then c.byte else m j) cs low.1 k above ∙ rw (ne_eqb k c.address (λ e. omega arith)) refl
 
--- an end that may come, and what is owed after it
-record Ended (place : Place) (pc : ℕ) (turn : Turn) (rest stopped : Type 0) : Type 0 where
-  may : MayEnd place pc turn
-  on : OnRan turn rest stopped
-
-exits : (place : Place) (pc : ℕ) (turn : Turn) (rest stopped : Type 0) → MayExit place → (status : ℕ) → turn ≡ Exit status → stopped → Ended place pc turn rest stopped
-exits place pc turn rest stopped may status e left =
-    subst (λ (t : Turn). Ended place pc t rest stopped) (sym e) (record { may = may; on = left })
-
-breaks : (place : Place) (at pc : ℕ) (turn : Turn) (rest stopped : Type 0) → MayBreak place → at ≡ pc → turn ≡ Break at → stopped → Ended place pc turn rest stopped
-breaks place at pc turn rest stopped may same e left =
-    subst (λ (t : Turn). Ended place pc t rest stopped) (sym e) (record { may = (same, may); on = left })
-
-ran : (place : Place) (pc : ℕ) (turn : Turn) (X Y : Type 0) → turn ≡ Ran → X → Ended place pc turn X Y
-ran place pc turn X Y e x = subst (λ (t : Turn). Ended place pc t X Y) (sym e) (record { may = tt; on = x })
-
-module _ (p : Profile) where
-  -- what has one word begins where it stands
-  only_word : (place : Place) (at pc : ℕ) → place_size p place ≡ 4 → IsWordOf p place at pc → at ≡ pc
-  only_word place at pc one word = let below = word.1 in let here = word.2 in omega arith
-
-  module _ (at pc : ℕ) (turn : Turn) (rest stopped : Type 0) (left : stopped) where
-    ended_act : (place : Place) (act : Act) → (ActExits act → MayExit place) → (ActBreaks act → MayBreak place) → (ActFaults act → MayFault place) →
-        (is_single act ≡ true → at ≡ pc) → ActEnds act at turn → Ended place pc turn rest stopped
-    ended_act place (F.does instr) may_exit may_break may_fault same how =
-        subst (λ (t : Turn). Ended place pc t rest stopped) (sym how.1) (record { may = (same refl, may_fault tt); on = left })
-    ended_act place (F.system S.Ecall) may_exit may_break may_fault same how = exits place pc turn rest stopped (may_exit tt) how.0 how.1 left
-    ended_act place (F.system S.Ebreak) may_exit may_break may_fault same how = breaks place at pc turn rest stopped (may_break tt) (same refl) how left
-    ended_act place F.calls may_exit may_break may_fault same how = exits place pc turn rest stopped (may_exit tt) how.0 how.1 left
-    ended_act place other may_exit may_break may_fault same how = absurd how
-
-    ended : (place : Place) → IsWordOf p place at pc → Ends place at turn → Ended place pc turn rest stopped
-    ended handler word how = breaks handler at pc turn rest stopped tt (only_word handler at pc refl word) how left
-    ended (opening entry) word how = absurd how
-    ended closing word how = exits closing pc turn rest stopped tt how.0 how.1 left
-    ended (body unit) word how =
-        ended_act (body unit) (flow_of unit).act (λ m. m) (λ m. m) (λ m. m)
-        (λ single. only_word (body unit) at pc (ap (λ n. 4 * n) (single_word unit single)) word) how
-
--- x4 holds the mask where it is to
-mask_stands : (saves : Bool) (r : Registers) → (saves ≡ true → r 4 ≡ STORE_MASK) → MaskStands saves r
-mask_stands false r mask = tt
-mask_stands true r mask = mask refl
-
--- the shadow stack holds no more sites than it has slots
-few_of : (start : Start) (r : Registers) (pending stacked : List ℕ) → StandsBy start r pending stacked → length pending ≤ most_at start → length stacked ≤ MOST_PENDING
-few_of saved r pending stacked stands most = let same = ap length stands in omega arith
-few_of fresh r [] stacked stands most = absurd stands
-few_of fresh r (site ∷ pending) stacked stands most = let same = ap length stands.1 in omega arith
-
 module _ (p : Profile) (profile : IsProfile p) (image : Contents) (graph : GraphParts) (bytes : AreBytes image) (formed : IsWellFormed p image graph) where
-  abbrev pub the_words : List ℕ
+  abbrev the_words : List ℕ
   the_words = code_words image.code
 
-  -- the kind of the start at an address
-  abbrev At : ℕ → Start
-  At a = start_there p profile image graph bytes formed a
-
-  abbrev HasMask : Registers → Type 0
-  HasMask r = p.callee_saves ≡ true → r 4 ≡ STORE_MASK
-
-  -- what is known at a word of the opening
-  pub data InOpens (part : ℕ) (h : Hart) (m : Memory) : Type 0 where
-    full_opens : IsFullProfile p → InOpening p part h m → InOpens part h m
-    lean_opens : IsLeanProfile p → (several : Bool) → IsLeanOpening p several → InSetUp several part h → InOpens part h m
-
-  -- and at a word of a unit
-  pub record InUnitNow (part : ℕ) (unit : U.Unit) (w : Walk) (h : Hart) (m : Memory) : Type 0 where
-    pub stage : InBody p profile image graph bytes formed (At w.at) w.pending
-    pub stacked : List ℕ
-    pub stands : StandsBy (At w.at) w.regs w.pending stacked
-    pub few : length stacked ≤ MOST_PENDING
-    pub held : Holds part m stacked
-    pub word : InUnit part (loaded image) unit w.at stacked w.regs h m
-    pub link : At w.at ≡ fresh → h.regs 1 ≡ w.regs 1
-    pub mask : p.callee_saves ≡ true → writes_mask unit ≡ false → h.regs 4 ≡ STORE_MASK
-
-  abbrev pub Inside : ℕ → Place → Walk → Hart → Memory → Type 0
-  Inside part handler w h m = h.pc ≡ w.at
-  Inside part (opening entry) w h m = (w.pending ≡ []) × InOpens part h m
-  Inside part closing w h m = InClosing w.at h
-  Inside part (body unit) w h m = InUnitNow part unit w h m
-
-  -- where a place was left to: the shadow stack stands as at such a start, or the run halts
-  abbrev pub Ready : ℕ → Start → List ℕ → Hart → Memory → Type 0
-  Ready part start pending h m = (StackStands part start h m pending × HasMask h.regs) ⊎ (h.pc < OPENING)
-
-  -- what is known of a hart, and of its own part of the shadow stack, between two steps
-  pub data Now (part : ℕ) (before : Option Walk) (h : Hart) (m : Memory) : Type 0 where
-    starting : before ≡ None → h.pc ≡ OPENING → part ≡ part_of (h.regs 10) → Now part before h m
-    within : (w : Walk) (place : Place) → before ≡ Some w → place_at p the_words w.at ≡ Some place → w.at < h.pc → Inside part place w h m → Now part before h m
-    arrived : (w : Walk) (place : Place) (start : Start) (newer : List ℕ) → before ≡ Some w → place_at p the_words w.at ≡ Some place →
-        Arrived p profile image graph bytes formed place w start h.pc newer → Ready part start newer h m → Now part before h m
-
-  -- what a place may have pending fits the unit law
-  returns_to : (site : ℕ) (rest : List ℕ) → SitesStand p profile image graph bytes formed (site ∷ rest) → ReturnsTo (site ∷ rest)
-  returns_to site [] sites = let layout = laid_out p profile in (omega arith, omega arith)
-  returns_to site (other ∷ more) sites =
-      let here = (unit_here p (laid_out p profile) the_words (is_whole p profile image graph bytes formed) site sites.0).1 in
-      let round = here.round in let high = here.high in let whole = length-code_words image.code bytes.size.words in let most = bytes.size.most in
-      (omega arith, omega arith)
-
-  are_sites : (pending : List ℕ) → SitesStand p profile image graph bytes formed pending → AreSites pending
-  are_sites [] sites = tt
-  are_sites (site ∷ []) sites = (returns_to site [] sites, tt)
-  are_sites (site ∷ other ∷ more) sites = (returns_to site (other ∷ more) sites, are_sites (other ∷ more) sites.2)
-
-  some_site : (pending : List ℕ) → SitesStand p profile image graph bytes formed pending → 0 < length pending
-  some_site [] sites = absurd sites
-  some_site (site ∷ more) sites = omega arith
-
-  -- changes outside of the own part keep what is known of a hart
-  module _ (part : ℕ) (m m' : Memory) (same : SameOn part (part + PART_SIZE) m m') where
-    held_kept : (stacked : List ℕ) → length stacked ≤ MOST_PENDING → Holds part m stacked → Holds part m' stacked
-    held_kept stacked few held = holds_same part stacked m m' (λ k from to. same k from (omega arith)) held
-
-    opens_kept : (h : Hart) → InOpens part h m → InOpens part h m'
-    opens_kept h (full_opens full i) = full_opens full (in_place_changed part m m' same p (loaded image) (opening 0) OPENING [] h.regs h i)
-    opens_kept h (lean_opens lean several this i) = lean_opens lean several this i
-
-    inside_kept : (place : Place) (w : Walk) (h : Hart) → Inside part place w h m → Inside part place w h m'
-    inside_kept handler w h i = i
-    inside_kept (opening entry) w h i = (i.0, opens_kept h i.1)
-    inside_kept closing w h i = i
-    inside_kept (body unit) w h i = record {
-      stage = i.stage;
-      stacked = i.stacked;
-      stands = i.stands;
-      few = i.few;
-      held = held_kept i.stacked i.few i.held;
-      word = in_place_changed part m m' same p (loaded image) (body unit) w.at i.stacked w.regs h i.word;
-      link = i.link;
-      mask = i.mask;
-    }
-
-    stack_kept : (start : Start) (h : Hart) (pending : List ℕ) → length pending ≤ most_at start → StackStands part start h m pending → StackStands part start h m' pending
-    stack_kept start h pending most stack = record {
-      stacked = stack.stacked;
-      stands = stack.stands;
-      pointer = stack.pointer;
-      holds = held_kept stack.stacked (few_of start h.regs pending stack.stacked stack.stands most) stack.holds;
-    }
-
-    ready_kept : (place : Place) (start : Start) (pending : List ℕ) (h : Hart) → place_at p the_words h.pc ≡ Some place →
-        Stage p profile image graph bytes formed place start h.pc pending → Ready part start pending h m → Ready part start pending h m'
-    ready_kept place start pending h is stage (inr low) = inr low
-    ready_kept handler start pending h is stage (inl stack) =
-        let there = handler_is p profile image graph bytes formed h.pc (place_facts p profile image graph bytes formed h.pc handler is) in
-        inr (below_opening h.pc there)
-      where
-        below_opening : (a : ℕ) → (a ≡ BAD_TARGET) ⊎ ((a ≡ BAD_RETURN) ⊎ (a ≡ DEEP)) → a < OPENING
-        below_opening a (inl e) = omega arith
-        below_opening a (inr (inl e)) = omega arith
-        below_opening a (inr (inr e)) = omega arith
-    ready_kept (opening entry) start pending h is stage (inl stack) = absurd stage
-    ready_kept closing start pending h is stage (inl stack) =
-        let none = ap length stage.1 in inl (stack_kept start h pending (omega arith) stack.0, stack.1)
-    ready_kept (body unit) start pending h is stage (inl stack) = inl (stack_kept start h pending stage.1.most stack.0, stack.1)
-
-    pub now_kept : (before : Option Walk) (h : Hart) → Now part before h m → Now part before h m'
-    now_kept before h (starting none e own) = starting none e own
-    now_kept before h (within w place b is after i) = within w place b is after (inside_kept place w h i)
-    now_kept before h (arrived w place start newer b is a ready) =
-        arrived w place start newer b is a (ready_kept a.settled.place start newer h a.settled.is a.settled.stage ready)
+  abbrev NowOf : ℕ → Option Walk → Hart → Memory → Type 0
+  NowOf part before h m = Now p profile image graph bytes formed part before h m
 
   module _ (harts : ℕ) (may_run : MayRun p harts) where
     -- what is known of all harts between two steps
-    pub record Known (walks : Walks) (hs : Harts) (s : Shared) : Type 0 where
-      pub going : last_exit s.events ≡ None
-      pub code : IsCodeOf (loaded image) s.memory
-      pub each : (k : ℕ) → k < harts → Now (part_of k) (walks k) (hs k) s.memory
+    record Known (walks : Walks) (hs : Harts) (s : Shared) : Type 0 where
+      going : last_exit s.events ≡ None
+      code : IsCodeOf (loaded image) s.memory
+      each : (k : ℕ) → k < harts → NowOf (part_of k) (walks k) (hs k) s.memory
 
-    pub known_disturbed : (walks : Walks) (hs : Harts) (s : Shared) (cs : List ByteChange) → AllByRecursion IsDataChange cs → Known walks hs s → Known walks hs (disturbed s cs)
+    known_disturbed : (walks : Walks) (hs : Harts) (s : Shared) (cs : List ByteChange) → AllByRecursion IsDataChange cs → Known walks hs s → Known walks hs (disturbed s cs)
     known_disturbed walks hs s cs low known = record {
       going = known.going;
       code = λ k from to. changed_above s.memory cs low k (omega arith) ∙ known.code k from to;
       each = λ k below.
-          now_kept (part_of k) s.memory (changed s.memory cs) (λ j from to. changed_above s.memory cs low j (omega arith)) (walks k) (hs k) (known.each k below);
+          now_kept p profile image graph bytes formed (part_of k) s.memory (changed s.memory cs) (λ j from to. changed_above s.memory cs low j (omega arith)) (walks k) (hs k) (known.each k below);
     }
 
     abbrev Along : Walks → Harts → Shared → List HartStep → Type 0
@@ -260,289 +61,63 @@ module _ (p : Profile) (profile : IsProfile p) (image : Contents) (graph : Graph
     -- one step of hart `k`, and then the rest of the run
     module _ (Q : Walks → Harts → Shared → Type 0) (go_on : (walks : Walks) (hs : Harts) (s : Shared) → Known walks hs s → Q walks hs s)
         (walks : Walks) (hs : Harts) (k : ℕ) (below : k < harts) (s : Shared) (known : Known walks hs s) where
-      own : IsPart p (part_of k)
-      own = let most = may_run.most in own_is_part p profile k (omega arith)
-
-      abbrev after : After
-      after = step p (hs k) s
-
-      -- what is known of memory, with these sites on the shadow stack
-      context : (stacked : List ℕ) → Holds (part_of k) s.memory stacked → Context (part_of k) (loaded image) s.memory stacked s
-      context stacked held = record { going = known.going; kept = record { code = known.code; held = held; frame = λ j above out. refl } }
-
       -- the others are where they were, and their parts are as before
-      known_after : (w : Walk) (stacked : List ℕ) → Context (part_of k) (loaded image) s.memory stacked after.shared →
-          Now (part_of k) (Some w) after.hart after.shared.memory → Known (with_walk walks k w) (with_hart hs k after.hart) after.shared
-      known_after w stacked c now = record {
+      known_after : (w : Walk) (after : After) (stacked : List ℕ) → Context (part_of k) (loaded image) s.memory stacked after.shared →
+          NowOf (part_of k) (Some w) after.hart after.shared.memory → Known (with_walk walks k w) (with_hart hs k after.hart) after.shared
+      known_after w after stacked c now = record {
         going = c.going;
         code = c.kept.code;
         each = λ j low. elim (cases_eq j k) [
-          | inl same ↦ rw (eq-eqb j k same) (subst (λ (i : ℕ). Now (part_of i) (Some w) after.hart after.shared.memory) (sym same) now)
+          | inl same ↦ rw (eq-eqb j k same) (subst (λ (i : ℕ). NowOf (part_of i) (Some w) after.hart after.shared.memory) (sym same) now)
           | inr other ↦ rw (ne_eqb j k other)
-              (now_kept (part_of j) s.memory after.shared.memory
+              (now_kept p profile image graph bytes formed (part_of j) s.memory after.shared.memory
               (other_part (part_of k) (part_of j) s.memory after.shared.memory (omega arith) (omega arith) (λ e. other (omega arith)) (omega arith) c.kept.frame)
               (walks j) (hs j) (known.each j low))
         ];
       }
 
-      abbrev pub Rest : Walk → After → Type 0
+      abbrev Rest : Walk → After → Type 0
       Rest w after = Q (with_walk walks k w) (with_hart hs k after.hart) after.shared
 
-      -- the memory that a step leaves has the image's code
-      abbrev pub Left : After → Type 0
-      Left after = IsCodeOf (loaded image) after.shared.memory
+      inside_harts : k < p.harts
+      inside_harts = let most = may_run.most in omega arith
 
-      -- what a step from a place comes to
-      record Followed (w : Walk) (place : Place) : Type 0 where
-        ended_as : Ended place (hs k).pc after.turn (Rest w after) (Left after)
-        frame : SameOutside (part_of k) s.memory after.shared.memory
+      next : (w : Walk) (after : After) (stacked : List ℕ) → Context (part_of k) (loaded image) s.memory stacked after.shared →
+          NowOf (part_of k) (Some w) after.hart after.shared.memory → Rest w after
+      next w after stacked c now = go_on (with_walk walks k w) (with_hart hs k after.hart) after.shared (known_after w after stacked c now)
 
-      goes : (w : Walk) (place : Place) (stacked : List ℕ) → after.turn ≡ Ran → Context (part_of k) (loaded image) s.memory stacked after.shared →
-          Now (part_of k) (Some w) after.hart after.shared.memory → Followed w place
-      goes w place stacked t c now = record {
-        ended_as = ran place (hs k).pc after.turn (Rest w after) (Left after) t
-            (go_on (with_walk walks k w) (with_hart hs k after.hart) after.shared (known_after w stacked c now));
-        frame = c.kept.frame;
-      }
+      abbrev after : After
+      after = step p (hs k) s
 
-      stops : (w : Walk) (place : Place) (stacked : List ℕ) → IsWordOf p place w.at (hs k).pc → Ends place w.at after.turn →
-          Kept (part_of k) (loaded image) s.memory stacked after.shared.memory → Followed w place
-      stops w place stacked word how kept =
-          record { ended_as = ended p w.at (hs k).pc after.turn (Rest w after) (Left after) kept.code place word how; frame = kept.frame }
-
-      record Stepped (w : Walk) (place : Place) : Type 0 where
-        word : IsWordOf p place w.at (hs k).pc
-        begun : Begun p (part_of k) image (place_at p the_words) w (hs k) s after
-        on : OnRan after.turn (Rest w after) (Left after)
-
-      stepped : (w : Walk) (place : Place) → place_at p the_words w.at ≡ Some place → IsWordOf p place w.at (hs k).pc → Adds place w.at (hs k) s.events after.shared.events →
-          Followed w place → Stepped w place
-      stepped w place is word adds f = record { word = word; begun = (place, is, word, f.ended_as.may, known.code, f.frame, adds); on = f.ended_as.on }
-
-      -- handlers and the closing
-      abbrev Plain : Place → Type 0
-      Plain handler = Unit {0}
-      Plain closing = Unit {0}
-      Plain other = ⊥
-
-      plain_follows : (w : Walk) (place : Place) → Plain place → place_at p the_words w.at ≡ Some place → IsWordOf p place w.at (hs k).pc →
-          Outcome p (part_of k) (loaded image) s.memory place w.at [] w.regs after → Followed w place
-      plain_follows w handler plain is word (stays t c low i) = goes w handler [] t c (within w handler refl is low i)
-      plain_follows w handler plain is word (leaves newer t c back leads) = absurd leads
-      plain_follows w handler plain is word (ends how kept) = stops w handler [] word how kept
-      plain_follows w closing plain is word (stays t c low i) = goes w closing [] t c (within w closing refl is low i)
-      plain_follows w closing plain is word (leaves newer t c back leads) = absurd leads
-      plain_follows w closing plain is word (ends how kept) = stops w closing [] word how kept
-      plain_follows w (opening entry) plain is word out = absurd plain
-      plain_follows w (body unit) plain is word out = absurd plain
-
-      plain_on : (w : Walk) (place : Place) → Plain place → place_at p the_words w.at ≡ Some place → MayStand p place w.at [] →
-          InPlace p (part_of k) (loaded image) place w.at [] w.regs (hs k) s.memory → Stepped w place
-      plain_on w place plain is may i =
-          let stand = place_stands p profile image graph bytes formed place w.at (place_facts p profile image graph bytes formed w.at place is) in
-          let word = place_word p (part_of k) (loaded image) place w.at [] w.regs (hs k) s.memory may i in
-          stepped w place is word (unit_events p (part_of k) (loaded image) s.memory place w.at [] w.regs (hs k) s may stand (context [] tt) i)
-          (plain_follows w place plain is word
-          (unit_law p (part_of k) (loaded image) s.memory place w.at [] w.regs (hs k) s own (loaded_small image bytes) may (omega arith) stand (context [] tt) i))
-
-      -- the opening, where callers save sites
-      full_left : IsFullProfile p → (newer : List ℕ) (place : Place) (at : ℕ) → Context (part_of k) (loaded image) s.memory newer after.shared →
-          ((after.hart.regs 3 ≡ slot (part_of k) (length newer)) × LeftWith place at after.hart.regs) ⊎ (after.hart.pc < OPENING) →
-          Ready (part_of k) saved newer after.hart after.shared.memory
-      full_left full newer place at c (inr low) = inr low
-      full_left full newer place at c (inl back) =
-          inl (record { stacked = newer; stands = refl; pointer = back.0; holds = c.kept.held }, λ saves. absurd (false≢true (sym (full_saves p full) ∙ saves)))
-
-      full_follows : IsFullProfile p → (w : Walk) (entry : ℕ) → place_at p the_words w.at ≡ Some (opening entry) → w.pending ≡ [] →
-          IsWordOf p (opening entry) w.at (hs k).pc → Outcome p (part_of k) (loaded image) s.memory (opening entry) w.at [] w.regs after → Followed w (opening entry)
-      full_follows full w entry is none word (stays t c low i) = goes w (opening entry) [] t c (within w (opening entry) refl is low (none, full_opens full i))
-      full_follows full w entry is none word (leaves newer t c back leads) =
-          goes w (opening entry) newer t c (arrived w (opening entry) saved newer refl is
-          (full_arrives p profile image graph bytes formed full entry w after.hart.pc newer is none
-          (subst (λ (ps : List ℕ). Calls p.closing ps newer after.hart.pc entry) (sym none) leads)) (full_left full newer (opening entry) w.at c back))
-      full_follows full w entry is none word (ends how kept) = absurd how
-
-      -- and where callees do
-      lean_left : (pending : List ℕ) → AtStart true (part_of k) (loaded image) s.memory fresh pending after.hart after.shared ⊎ Halted (part_of k) (loaded image) s.memory after.hart after.shared →
-          Ready (part_of k) fresh pending after.hart after.shared.memory
-      lean_left pending (inr halted) = inr halted.low
-      lean_left pending (inl at_start) =
-          inl (record { stacked = at_start.stacked; stands = at_start.stands; pointer = at_start.pointer; holds = at_start.context.kept.held }, λ saves. at_start.mask refl)
-
-      lean_follows : IsLeanProfile p → (several : Bool) → IsLeanOpening p several → (w : Walk) (entry : ℕ) → place_at p the_words w.at ≡ Some (opening entry) →
-          w.at ≡ OPENING → w.pending ≡ [] → OpeningOutcome several (part_of k) (loaded image) s.memory entry after → Followed w (opening entry)
-      lean_follows lean several this w entry is first none (opens.stays t c low i) =
-          goes w (opening entry) [] t c (within w (opening entry) refl is (omega arith) (none, lean_opens lean several this i))
-      lean_follows lean several this w entry is first none (opens.calls t e left) =
-          let arrives = lean_arrives p profile image graph bytes formed lean entry w after.hart.pc (site_of several ∷ []) is none (ap (λ a. a ∷ []) (sym this.site)) e in
-          let now = arrived w (opening entry) fresh (site_of several ∷ []) refl is arrives (lean_left (site_of several ∷ []) left) in
-          by left now
-        where
-          by : AtStart true (part_of k) (loaded image) s.memory fresh (site_of several ∷ []) after.hart after.shared ⊎ Halted (part_of k) (loaded image) s.memory after.hart after.shared →
-              Now (part_of k) (Some w) after.hart after.shared.memory → Followed w (opening entry)
-          by (inl at_start) now = goes w (opening entry) at_start.stacked t at_start.context now
-          by (inr halted) now = goes w (opening entry) halted.stacked t halted.context now
-
-      opening_on : (w : Walk) (entry : ℕ) → place_at p the_words w.at ≡ Some (opening entry) → w.pending ≡ [] → InOpens (part_of k) (hs k) s.memory → Stepped w (opening entry)
-      opening_on w entry is none (full_opens full i) =
-          let facts = place_facts p profile image graph bytes formed w.at (opening entry) is in
-          let may = full_may_stand p profile image graph bytes formed full entry w.at facts in
-          let stand = place_stands p profile image graph bytes formed (opening entry) w.at facts in
-          let word = place_word p (part_of k) (loaded image) (opening entry) w.at [] w.regs (hs k) s.memory may i in
-          stepped w (opening entry) is word
-          (unit_events p (part_of k) (loaded image) s.memory (opening entry) w.at [] w.regs (hs k) s may stand (context [] tt) i)
-          (full_follows full w entry is none word
-          (unit_law p (part_of k) (loaded image) s.memory (opening entry) w.at [] w.regs (hs k) s own (loaded_small image bytes) may (omega arith) stand (context [] tt) i))
-      opening_on w entry is none (lean_opens lean several this i) =
-          let facts = place_facts p profile image graph bytes formed w.at (opening entry) is in
-          let stand = place_stands p profile image graph bytes formed (opening entry) w.at facts in
-          let here : Stand (loaded image) OPENING (opening_instrs p entry) = subst (λ (a : ℕ). Stand (loaded image) a (opening_instrs p entry)) facts.0 stand in
-          let words : Stand (loaded image) OPENING (opens.opening_instrs several entry) = subst (λ (is : List Instr). Stand (loaded image) OPENING is) (this.instrs entry) here in
-          let fits : Fits (V.LinkCall entry) (opens.call_at several) = subst (λ (a : ℕ). Reaches a entry) this.call facts.1.reaches in
-          let events = lean_events p lean several this (part_of k) (hs k) i (loaded image) s.memory entry s here (context [] tt) in
-          stepped w (opening entry) is (lean_word p lean several this (part_of k) (hs k) i entry w.at facts.0)
-          (subst (λ (a : ℕ). Adds (opening entry) a (hs k) s.events after.shared.events) (sym facts.0) events)
-          (lean_follows lean several this w entry is facts.0 none
-          (opening_law several p (part_of k) (loaded image) s.memory entry (hs k) s own (loaded_small image bytes) fits words (context [] tt) i))
-
-      -- a unit
-      module _ (w : Walk) (unit : U.Unit) (is : place_at p the_words w.at ≡ Some (body unit)) (i : InUnitNow (part_of k) unit w (hs k) s.memory) where
-        here : UnitHere p the_words w.at unit
-        here = place_facts p profile image graph bytes formed w.at (body unit) is
-
-        inside : StartLaw.InBody p.callee_saves (part_of k) (loaded image) s.memory unit w.at (At w.at) w.pending w.regs (hs k) s
-        inside = record { stacked = i.stacked; stands = i.stands; few = i.few; word = i.word; context = context i.stacked i.held; link = i.link; mask = i.mask }
-
-        left : (newer : List ℕ) → AtStart p.callee_saves (part_of k) (loaded image) s.memory (next_start (At w.at) unit) newer after.hart after.shared ⊎ Halted (part_of k) (loaded image) s.memory after.hart after.shared →
-            after.turn ≡ Ran → Arrived p profile image graph bytes formed (body unit) w (next_start (At w.at) unit) after.hart.pc newer → Followed w (body unit)
-        left newer (inl at_start) t a =
-            goes w (body unit) at_start.stacked t at_start.context (arrived w (body unit) (next_start (At w.at) unit) newer refl is a
-            (inl (record { stacked = at_start.stacked; stands = at_start.stands; pointer = at_start.pointer; holds = at_start.context.kept.held }, at_start.mask)))
-        left newer (inr halted) t a =
-            goes w (body unit) halted.stacked t halted.context (arrived w (body unit) (next_start (At w.at) unit) newer refl is a (inr halted.low))
-
-        unit_follows : IsWordOf p (body unit) w.at (hs k).pc →
-            StartOutcome p.callee_saves (part_of k) (loaded image) s.memory unit w.at (At w.at) w.pending w.regs after → Followed w (body unit)
-        unit_follows word (StartLaw.stays t low j) = goes w (body unit) j.stacked t j.context (within w (body unit) refl is low (record {
-          stage = i.stage;
-          stacked = j.stacked;
-          stands = j.stands;
-          few = j.few;
-          held = j.context.kept.held;
-          word = j.word;
-          link = j.link;
-          mask = j.mask;
-        }))
-        unit_follows word (StartLaw.leaves newer t leads to) = left newer to t (unit_arrives p profile image graph bytes formed unit w after.hart.pc newer is here i.stage leads)
-        unit_follows word (StartLaw.ends stacked how kept) = stops w (body unit) stacked word how kept
-
-        unit_on : Stepped w (body unit)
-        unit_on =
-            let are = are_sites w.pending i.stage.sites in
-            let may : MayStand p (body unit) w.at i.stacked = (here.begins.fits, stacked_of (At w.at) w.regs w.pending i.stacked i.stands are) in
-            let stand = place_stands p profile image graph bytes formed (body unit) w.at here in
-            let word = place_word p (part_of k) (loaded image) (body unit) w.at i.stacked w.regs (hs k) s.memory may i.word in
-            stepped w (body unit) is word
-            (unit_events p (part_of k) (loaded image) s.memory (body unit) w.at i.stacked w.regs (hs k) s may stand (context i.stacked i.held) i.word)
-            (unit_follows word
-            (start_law p.callee_saves p (part_of k) (loaded image) s.memory unit w.at (At w.at) w.pending w.regs (hs k) s own (loaded_small image bytes)
-            (unit_stands_in p image graph formed w.at unit here.is) (stands_there p profile image graph bytes formed w.at unit here.is) here.begins.fits are stand inside))
-
-      step_on : (w : Walk) (place : Place) → place_at p the_words w.at ≡ Some place → Inside (part_of k) place w (hs k) s.memory → Stepped w place
-      step_on w handler is i = plain_on w handler tt is tt i
-      step_on w (opening entry) is i = opening_on w entry is i.0 i.1
-      step_on w closing is i = plain_on w closing tt is tt i
-      step_on w (body unit) is i = unit_on w unit is i
-
-      abbrev pub Goes : Walk → Type 0
+      abbrev Goes : Walk → Type 0
       Goes w = GoesOn p (part_of k) (place_at p the_words) graph.lines (walks k) (place_at p the_words (hs k).pc) (hs k) s.memory w
 
       -- what is owed of the step
-      abbrev pub Owed : Type 0
-      Owed = (w : Walk) × Goes w × Begun p (part_of k) image (place_at p the_words) w (hs k) s after × OnRan after.turn (Rest w after) (Left after)
+      abbrev Owed : Type 0
+      Owed = (w : Walk) × Goes w × Begun p (part_of k) image (place_at p the_words) w (hs k) s after × OnRan after.turn (Rest w after) (IsCodeOf (loaded image) after.shared.memory)
 
-      abbrev walk_at : List ℕ → Walk
-      walk_at pending = record { at = (hs k).pc; pending = pending; regs = (hs k).regs }
-
-      -- where something starts the hart is at its first word
-      abbrev Shadow : Place → List ℕ → Type 0
-      Shadow place pending = ShadowStands p (part_of k) (start_in (place_at p the_words) graph.lines (hs k).pc) place (hs k) s.memory pending
-
-      module _ (start : Start) (pending : List ℕ) (stack : StackStands (part_of k) start (hs k) s.memory pending) (mask : HasMask (hs k).regs) where
-        abbrev at_start : AtStart p.callee_saves (part_of k) (loaded image) s.memory start pending (hs k) s
-        at_start = record { stacked = stack.stacked; stands = stack.stands; pointer = stack.pointer; context = context stack.stacked stack.holds; mask = mask }
-
-        unit_begins : (unit : U.Unit) → place_at p the_words (hs k).pc ≡ Some (body unit) → start ≡ At (hs k).pc → InBody p profile image graph bytes formed start pending →
-            InUnitNow (part_of k) unit (walk_at pending) (hs k) s.memory
-        unit_begins unit is kind sites =
-            let here = place_facts p profile image graph bytes formed (hs k).pc (body unit) is in
-            let few = few_of start (hs k).regs pending stack.stacked stack.stands sites.most in
-            let may : may_stand start unit ≡ true = ap (λ x. may_stand x unit) kind ∙ stands_there p profile image graph bytes formed (hs k).pc unit here.is in
-            let j = body_begins p.callee_saves p (part_of k) (loaded image) s.memory unit start pending (hs k) s here.begins.fits
-            (unit_stands_in p image graph formed (hs k).pc unit here.is) may (are_sites pending sites.sites) (some_site pending sites.sites) at_start few in
-            record {
-              stage = subst (λ (x : Start). InBody p profile image graph bytes formed x pending) kind sites;
-              stacked = j.stacked;
-              stands = subst (λ (x : Start). StandsBy x (hs k).regs pending j.stacked) kind j.stands;
-              few = j.few;
-              held = j.context.kept.held;
-              word = j.word;
-              link = λ e. refl;
-              mask = j.mask;
-            }
-
-        unit_shadow : (unit : U.Unit) → start ≡ At (hs k).pc → InBody p profile image graph bytes formed start pending → Shadow (body unit) pending
-        unit_shadow unit kind sites = (
-          subst (λ (x : Start). StackStands (part_of k) x (hs k) s.memory pending) (kind ∙ sym (start_is p profile image graph bytes formed (hs k).pc)) stack,
-          mask_stands p.callee_saves (hs k).regs mask,
-          some_site pending sites.sites,
-        )
-
-      begins : (place : Place) (start : Start) (pending : List ℕ) → place_at p the_words (hs k).pc ≡ Some place → Stage p profile image graph bytes formed place start (hs k).pc pending →
-          Ready (part_of k) start pending (hs k) s.memory → Inside (part_of k) place (walk_at pending) (hs k) s.memory × Shadow place pending
-      begins handler start pending is stage ready = (refl, tt)
-      begins (opening entry) start pending is stage ready = absurd stage
-      begins closing start pending is stage (inl ready) =
-          (closing_number refl, (subst (λ (x : Start). StackStands (part_of k) x (hs k) s.memory pending) stage.0 ready.0, mask_stands p.callee_saves (hs k).regs ready.1))
-      begins closing start pending is stage (inr low) =
-          let layout = laid_out p profile in
-          let facts : (hs k).pc ≡ p.closing = place_facts p profile image graph bytes formed (hs k).pc closing is in absurd (omega arith)
-      begins (body unit) start pending is stage (inl ready) =
-          (unit_begins start pending ready.0 ready.1 unit is (sym stage.0) stage.1, unit_shadow start pending ready.0 ready.1 unit (sym stage.0) stage.1)
-      begins (body unit) start pending is stage (inr low) =
-          let layout = laid_out p profile in
-          let from = (place_facts p profile image graph bytes formed (hs k).pc (body unit) is).low in absurd (omega arith)
+      abbrev walk : List ℕ → Walk
+      walk pending = walk_at p profile image graph bytes formed k inside_harts (hs k) s known.going known.code pending
 
       -- where something starts
-      enter : (place : Place) (pending : List ℕ) → place_at p the_words (hs k).pc ≡ Some place → Inside (part_of k) place (walk_at pending) (hs k) s.memory →
-          Shadow place pending → Arrives p (place_at p the_words) graph.lines (walks k) (hs k).pc pending → Owed
+      enter : (place : Place) (pending : List ℕ) → place_at p the_words (hs k).pc ≡ Some place → Inside p profile image graph bytes formed (part_of k) place (walk pending) (hs k) s.memory →
+          Shadow p profile image graph bytes formed k inside_harts (hs k) s known.going known.code place pending → Arrives p (place_at p the_words) graph.lines (walks k) (hs k).pc pending → Owed
       enter place pending is i shadow arrives =
-          let on = step_on (walk_at pending) place is i in
-          let goes_there : GoesOn p (part_of k) (place_at p the_words) graph.lines (walks k) (Some place) (hs k) s.memory (walk_at pending) = (refl, refl, arrives, shadow) in (
-            walk_at pending,
-            subst (λ (o : Option Place). GoesOn p (part_of k) (place_at p the_words) graph.lines (walks k) o (hs k) s.memory (walk_at pending)) (sym is) goes_there,
+          let on = step_on p profile image graph bytes formed k inside_harts (hs k) s known.going known.code Rest next (walk pending) place is i in
+          let goes_there : GoesOn p (part_of k) (place_at p the_words) graph.lines (walks k) (Some place) (hs k) s.memory (walk pending) = (refl, refl, arrives, shadow) in (
+            walk pending,
+            subst (λ (o : Option Place). GoesOn p (part_of k) (place_at p the_words) graph.lines (walks k) o (hs k) s.memory (walk pending)) (sym is) goes_there,
             on.begun,
             on.on,
           )
 
-      abbrev first_entry : ℕ
-      first_entry = (prologue p profile image graph bytes formed).0
-
-      opens_at : IsFullProfile p ⊎ IsLeanProfile p → part_of k ≡ part_of ((hs k).regs 10) → (hs k).pc ≡ OPENING → InOpens (part_of k) (hs k) s.memory
-      opens_at (inl full) mine e =
-          full_opens full (place_begins (part_of k) (loaded image) OPENING (hs k) s.memory p (opening first_entry) []
-          (full_may_stand p profile image graph bytes formed full first_entry OPENING (refl, (prologue p profile image graph bytes formed).1)) mine e)
-      opens_at (inr lean) mine e =
-          let (several, this) = lean_opening p lean in
-          lean_opens lean several this (this.first (part_of k) (hs k) own mine e)
-
-      pub goes_on : Now (part_of k) (walks k) (hs k) s.memory → Owed
+      goes_on : NowOf (part_of k) (walks k) (hs k) s.memory → Owed
       goes_on (starting none e mine) =
-          enter (opening first_entry) [] (ap (place_at p the_words) e ∙ at_opening p profile image graph bytes formed)
-          (refl, opens_at profile mine e) tt (subst (λ (b : Option Walk). Arrives p (place_at p the_words) graph.lines b (hs k).pc []) (sym none) (e, refl))
+          enter (opening (prologue p profile image graph bytes formed).0) [] (ap (place_at p the_words) e ∙ at_opening p profile image graph bytes formed)
+          (refl, opens_at p profile image graph bytes formed k inside_harts (hs k) s known.going known.code profile mine e) tt (subst (λ (b : Option Walk). Arrives p (place_at p the_words) graph.lines b (hs k).pc []) (sym none) (e, refl))
       goes_on (within w place b is later i) =
           let facts = place_facts p profile image graph bytes formed w.at place is in
-          let on = step_on w place is i in
+          let on = step_on p profile image graph bytes formed k inside_harts (hs k) s known.going known.code Rest next w place is i in
           let size = on.word.1 in let here = on.word.2 in
           let nothing = nothing_inside p profile image graph bytes formed place w.at (hs k).pc facts later (omega arith) in (
             w,
@@ -551,7 +126,7 @@ module _ (p : Profile) (profile : IsProfile p) (image : Contents) (graph : Graph
             on.on,
           )
       goes_on (arrived w place start newer b is a ready) =
-          let first = begins a.settled.place start newer a.settled.is a.settled.stage ready in
+          let first = begins p profile image graph bytes formed k inside_harts (hs k) s known.going known.code a.settled.place start newer a.settled.is a.settled.stage ready in
           enter a.settled.place newer a.settled.is first.0 first.1
           (subst (λ (o : Option Walk). Arrives p (place_at p the_words) graph.lines o (hs k).pc newer) (sym b) (place, is, a.leads))
 

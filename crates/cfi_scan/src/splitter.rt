@@ -57,9 +57,10 @@ impl Splitter {
         ensures room { length self.new.entries.items ≡ length self.old.entries.items }
     {
         let _few = self.calls.len();
+        let here = self.front.start() + 4 * index as u64;
         if self.reader.is_new() {
             self.begin(word, index);
-        } else if self.reader.pass(word) {
+        } else if self.reader.pass(word, here) {
             return;
         } else if !self.reader.is_stuck() {
             self.go_on(word, index);

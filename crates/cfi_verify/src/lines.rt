@@ -1,6 +1,6 @@
 //! Look-ups among a graph's lines.
 
-ghost use Rattle.std.specs.Prelude.{◌≡◌, ◌-◌, ◌&&◌, IfSome, IsTrue, false, map, nat_le, nat_lt};
+ghost use Rattle.std.specs.Prelude.{◌≡◌, ◌-◌, ◌<◌, ◌≤◌, ◌&&◌, IfSome, IsTrue, false, map, nat_le, nat_lt};
 ghost use Rattle.std.specs.List.{list_all};
 ghost use Rattle.std.specs.Option.{option_copied};
 ghost use Rattle.cfi_graph.specs.Graph.{is_rising, key_below, key_of, targets_rise};
@@ -11,8 +11,9 @@ use cfi_rules::{Asks, jump_word};
 use cfi_unit::TargetWord;
 use rv_word::GraphVersion;
 
-/// The line with a key that is no range, if there is one: keys rise, so its place is halved in.
-pub(crate) fn line_with(graph: &Graph, key: Key) -> Option<&GraphLine>
+/// The line with a key that is no range, if there is one: it is sought where it likely stands and right behind. Keys rise, so
+/// else its place is halved in.
+fn line_with(graph: &Graph, key: Key, likely: u64) -> Option<&GraphLine>
     requires exact { is_range key ≡ false }
     requires ordered { IsTrue (is_rising key_below (map key_of graph.now.lines)) }
     ensures { option_copied result ≡ line_with graph.now.lines key }
@@ -20,7 +21,7 @@ pub(crate) fn line_with(graph: &Graph, key: Key) -> Option<&GraphLine>
     let mut low = 0;
     let mut high = graph.lines();
     while low < high {
-        let middle = low + (high - low) / 2;
+        let middle = sought_at(low, high, likely);
         let line = graph.line(middle);
         let found = line.key();
         if found.is_below(key) {
@@ -34,12 +35,26 @@ pub(crate) fn line_with(graph: &Graph, key: Key) -> Option<&GraphLine>
     None
 }
 
+/// The place that is sought next of those from one on and before another.
+fn sought_at(low: u64, high: u64, likely: u64) -> u64
+    requires { low < high }
+    ensures from { low ≤ result }
+    ensures before { result < high }
+{
+    let next = if low < likely { likely } else { low };
+    if next < high && next - likely < 2 {
+        next
+    } else {
+        low + (high - low) / 2
+    }
+}
+
 /// The line at an address: the first that is not a class's.
 pub(crate) fn line_at(graph: &Graph, address: u64) -> Option<&GraphLine>
     requires { IsTrue (is_rising key_below (map key_of graph.now.lines)) }
     ensures { option_copied result ≡ line_at graph.now.lines address }
 {
-    line_with(graph, Key::Address(address))
+    line_with(graph, Key::Address(address), graph.lines())
 }
 
 /// The class with a label.
@@ -56,7 +71,9 @@ fn found_class(graph: &Graph, label: u32) -> Option<Class<'_>>
     requires { IsTrue (is_rising key_below (map key_of graph.now.lines)) }
     ensures { result ≡ class_with graph.now.lines label }
 {
-    line_with(graph, Key::Label(label))?.class()
+    // Classes stand first, and most graphs number them from 1.
+    let likely = u64::from(label).saturating_sub(1);
+    line_with(graph, Key::Label(label), likely)?.class()
 }
 
 /// Which word of its destination a computed call's check reads, in code whose graph has this version.

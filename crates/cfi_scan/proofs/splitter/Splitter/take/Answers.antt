@@ -1,8 +1,9 @@
-use Rattle.std.proofs.Common.{◌≡◌, ◌+◌, ◌*◌, ℕ, true, refl, sym, arith, length, []}
+use Rattle.std.proofs.Common.{◌≡◌, ◌+◌, ◌*◌, ℕ, true, refl, subst, sym, arith, length, []}
 use Rattle.rv_word.specs.MemoryMap.{profile_with}
 use Rattle.rv_word.proofs.Profiles.{is_pair_profile, laid_out}
 use Rattle.cfi_unit.specs.Opens.{InCode}
-use Rattle.cfi_reader.specs.Reading.{is_stuck}
+use Rattle.cfi_reader.specs.Reading.{LeadsOn, is_stuck}
+use Rattle.cfi_reader.specs.declared.reader.Step.TheVariants.{More}
 use Rattle.cfi_scan.proofs.Ended.{as_ended, splits_before, splits_on, splits_stuck}
 use Rattle.cfi_scan.proofs.splitter.Splitter.take.Goals as goal
 
@@ -18,9 +19,11 @@ returns-then-pass-clause-splits c words len s =
     let laid = laid_out (profile_with k.front) (is_pair_profile k.front.graph k.front.image) in
     let low = laid.low in
     let round = laid.round in
+    let at : c.start.result + 4 * c.args.index ≡ from + 4 * length words = omega (arith, c.start.ensures, len) in
     let place : InCode (from + 4 * length words) 1 = record { low = omega arith; high = omega (arith, len, c.requires.room, c.requires.small); round = omega arith } in
     splits_on k.calls from c.args.word k.entries.items k.done k.last k.reader c.pass.new.self words
-    (c.if-pass.ensures.on refl k.calls (from + 4 * length words) c.len-few.ensures.most place)
+    (subst (λ (here : ℕ). LeadsOn k.calls k.reader c.args.word here (More c.pass.new.self)) at
+    (c.if-pass.ensures.on refl k.calls c.len-few.ensures.most (subst (λ (here : ℕ). InCode here 1) (sym at) place)))
     (splits_before k.calls from c.args.word k.entries.items k.done k.last k.reader words s)
 
 pub returns-then-not-is_stuck-clause-splits : goal.returns-then-not-is_stuck-clause-splits
