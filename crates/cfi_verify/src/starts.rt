@@ -188,11 +188,16 @@ impl<'a> Starts<'a> {
         }
     }
 
-    /// The first line that does not stand before that of any leaf in which an address lies.
+    /// The first line that does not stand before that of any leaf in which an address lies; in a graph without
+    /// leaves the first of all serves.
     pub(crate) fn line_of(&self, address: u64) -> u64
         ensures { ArePast self.now.graph.lines result address }
     {
-        leaves::line_of(self.graph, address)
+        if self.has_leaves() {
+            leaves::line_of(self.graph, address)
+        } else {
+            0
+        }
     }
 
     /// The same, by going on from a line before which all do.
