@@ -14,7 +14,7 @@ use Rattle.cfi_pending.specs.Kinds.{begins_at, in_leaf, leaf_of}
 use Rattle.cfi_rules.specs.Lines.{holds_of, leaves_in}
 use Rattle.cfi_rules.proofs.LineOrder.{head_below, pair_below, tail_rising}
 use Rattle.cfi_verify.specs.Entries.{is_whole, lacks_end_at}
-use Rattle.cfi_verify.specs.Leaves.{is_past, leaf_in}
+use Rattle.cfi_verify.specs.Leaves.{ArePast, is_past, leaf_in}
 
 pub none_of : {A : Type 0} (f : A → Bool) (xs : List A) → ((i : ℕ) (x : A) → slice_get xs i ≡ Some x → f x ≡ false) → list_any f xs ≡ false
 none_of f [] none = refl
@@ -133,7 +133,7 @@ leaf_there (Edge first end ∷ lines) a from to r (suc i) e inside = leaf_there 
 leaf_there (Call first end ∷ lines) a from to r zero e inside = absurd (cc)
 leaf_there (Call first end ∷ lines) a from to r (suc i) e inside = leaf_there lines a from to (tail_rising (Call first end) lines r) i e inside
 
--- up to a line that is past all are, and from one on that is not none is
+-- up to a line that is past all are
 pub past_to : (lines : List GraphLine) → is_rising key_below (map key_of lines) ≡ true → (a m : ℕ) (line : GraphLine) → slice_get lines m ≡ Some line → is_past a line ≡ true →
     (i : ℕ) (x : GraphLine) → i < m + 1 → slice_get lines i ≡ Some x → is_past a x ≡ true
 past_to lines r a m line here past i x below e =
@@ -143,17 +143,36 @@ past_to lines r a m line here past i x below e =
       | inr (inr more) ↦ absurd (omega arith)
     ]
 
-pub not_past_from : (lines : List GraphLine) → is_rising key_below (map key_of lines) ≡ true → (a m : ℕ) (line : GraphLine) → slice_get lines m ≡ Some line → is_past a line ≡ false →
-    (i : ℕ) (x : GraphLine) → m ≤ i → slice_get lines i ≡ Some x → is_past a x ≡ false
-not_past_from lines r a m line here not_past i x from e =
+-- a test that does not hold
+pub was_false : {found test : Bool} → found ≡ test → not found ≡ true → test ≡ false
+was_false {found = true} e passed = absurd (false≢true passed)
+was_false {found = false} e passed = sym e
+
+-- one line more, and for a later address
+pub past_more : (lines : List GraphLine) (a m : ℕ) (line : GraphLine) → ArePast lines m a → slice_get lines m ≡ Some line → is_past a line ≡ true → ArePast lines (m + 1) a
+past_more lines a m line before here past i x below e =
     elim (cases_order i m) [
-      | inl same ↦ ap (is_past a) (same_Some x line (sym e ∙ ap (slice_get lines) same ∙ here)) ∙ not_past
-      | inr (inl less) ↦ absurd (omega arith)
-      | inr (inr more) ↦ false_from_ne_true (is_past a x) (λ t. false≢true (sym not_past ∙ past_before a line x (pair_below lines r m i line x more here e) t))
+      | inl same ↦ ap (is_past a) (same_Some x line (sym e ∙ ap (slice_get lines) same ∙ here)) ∙ past
+      | inr (inl less) ↦ before i x less e
+      | inr (inr more) ↦ absurd (omega arith)
     ]
 
+past_for : (a b : ℕ) (x : GraphLine) → a ≤ b → is_past a x ≡ true → is_past b x ≡ true
+past_for a b (Calls numbers) later past = refl
+past_for a b (Leaf from to) later past = let done = leb-true to a past in le-leb to b (omega arith)
+past_for a b (Class sort label targets) later past = past
+past_for a b (Site address kind label) later past = past
+past_for a b (Edge from to) later past = past
+past_for a b (Call from to) later past = past
+
+pub past_later : (lines : List GraphLine) (count a b : ℕ) → a ≤ b → ArePast lines count a → ArePast lines count b
+past_later lines count a b later before i x below e = past_for a b x later (before i x below e)
+
+pub none_past : (lines : List GraphLine) (a : ℕ) → ArePast lines 0 a
+none_past lines a i x below e = absurd (omega arith)
+
 -- the one line that is left
-module _ (lines : List GraphLine) (a low : ℕ) (before : (i : ℕ) (line : GraphLine) → i < low → slice_get lines i ≡ Some line → is_past a line ≡ true) where
+module _ (lines : List GraphLine) (a low : ℕ) (before : ArePast lines low a) where
   -- past all lines
   pub all_past : length lines ≤ low → None ≡ leaf_of (leaves_in lines) a
   all_past all =

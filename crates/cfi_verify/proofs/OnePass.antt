@@ -17,7 +17,9 @@ use Rattle.cfi_reader.specs.declared.entry.Entry.{Entry}
 use Rattle.cfi_reader.specs.declared.entry.Entry.TheVariants as E
 use Rattle.cfi_reader.specs.Entries.{is_quiet}
 use Rattle.cfi_scan.specs.Pieces.{Listed, prologue_count}
-use Rattle.cfi_verify.specs.Entries.{Tells, call_at, call_in, count_of, edge_at, edge_in, enters_at, entry_at, fails_at, fails_end_at, fails_gate_at, fails_target_at, fails_unit_at, fresh_at, gate_at, gate_in, goes_on, goes_wrong_at, is_barred, is_barred_at, is_enter, is_lone_at, is_stop_entry, is_unused_at, lacks_end_at, may_call_at, may_go_at, misses_start, misses_start_at, next_at, numbers_in, or_inside, signs_at, site_in, stands_outside, stands_wrong_at, starts_at}
+use Rattle.cfi_pending.specs.Kinds as kinds
+use Rattle.cfi_pending.specs.Kinds.{leaf_of}
+use Rattle.cfi_verify.specs.Entries.{Tells, call_at, call_in, count_of, edge_at, edge_in, enters_at, entry_at, fails_at, fails_end_at, fails_gate_at, fails_target_at, fails_unit_at, fresh_at, gate_at, gate_in, goes_on, goes_wrong_at, is_barred, is_barred_at, is_enter, is_lone_at, is_right_behind_at, is_stop_entry, is_unused_at, lacks_end_at, may_call_at, may_go_at, may_stand, misses_start, misses_start_at, next_at, numbers_in, or_inside, signs_at, site_in, stands_outside, stands_wrong_at, starts_at}
 use Rattle.cfi_rules.specs.Lines.{holds_of, is_outside, leaves_in, line_at, targets_for}
 use Rattle.cfi_verify.specs.Pass.{HasPassed, HoldsAt, HoldsEarly, KindHoldsAt, NoneStands, ends_in_stop}
 use Rattle.cfi_rules.specs.Rules.{Holds, fails_prologue, is_call_to, is_edge_to, is_site_with, lacks_gate}
@@ -244,6 +246,24 @@ module _ (p : Profile) (laid : LaidOut p) where
             (ap (λ o. holds_of o (is_lone_at p t a)) none);
         astray = ap (λ o. holds_of o (λ label. is_outside graph.version graph.lines label a)) asks.gate;
       }
+
+  -- at a word at which no unit starts nothing is asked by kinds but that no leaf begins there
+  pub inside_holds : (t : Listed) (graph : GraphParts) (a : ℕ) → p.units_from ≤ a → entry_at p t.entries a ≡ E.Inside → list_any (lacks_end_at p t a) graph.lines ≡ false → KindHoldsAt p t graph a
+  inside_holds t graph a low inside whole =
+      let edge : edge_at p t a ≡ None = ap (λ e. edge_in e a) inside in
+      let call : call_at p t a ≡ None = rw (ne_eqb a START (λ e. omega arith)) (ap (λ e. call_in e a) inside) in
+      record {
+        unit = ap (is_barred graph.version (is_some (calls_in graph.lines))) inside;
+        stands = ap (λ e. not (may_stand (leaf_of (leaves_in graph.lines) a) e)) inside ∙ stands (leaf_of (leaves_in graph.lines) a);
+        leaf = or_from _ _ whole (ap (λ e. goes_on e && not (is_right_behind_at p t (leaves_in graph.lines) (leaf_of (leaves_in graph.lines) a) a)) inside);
+        target =
+            or_from _ _ (ap (λ o. holds_of o (λ x. not (may_go_at p t (leaves_in graph.lines) a x))) edge)
+            (ap (λ o. holds_of o (λ x. not (may_call_at p p.callee_saves t (leaves_in graph.lines) a x))) call);
+      }
+    where
+      stands : (l : Option kinds.Leaf) → not (may_stand l E.Inside) ≡ false
+      stands None = refl
+      stands (Some l) = refl
 
   -- past the prologue the rule of the prologue holds
   no_prologue : (words : List ℕ) (a : ℕ) → p.units_from ≤ a → fails_prologue p words a ≡ false

@@ -7,6 +7,7 @@ ghost use Rattle.cfi_verify.specs.Entries.{Tells, count_of, entry_at, fails_gate
 ghost use Rattle.cfi_rules.specs.Lines.{leaves_in, line_at};
 ghost use Rattle.cfi_verify.specs.Pass.{HasPassed, HoldsAt, HoldsEarly, KindHoldsAt, NoneStands, ends_in_stop};
 ghost use Rattle.cfi_rules.specs.Rules.{Holds, lacks_gate};
+ghost use Rattle.cfi_verify.specs.Leaves.{ArePast};
 ghost use Rattle.cfi_verify.specs.Scan.{profile_in};
 ghost use Rattle.cfi_rules.specs.declared.reject.Rule.{Rule};
 
@@ -197,21 +198,32 @@ impl<'a> Starts<'a> {
             return true;
         }
         let _count = self.count();
+        let mut line = 0;
         for index in 0..self.count_after() {
-            if !self.kind_holds(self.units_from() + 4 * index) {
+            let address = self.units_from() + 4 * index;
+            line = self.line_from(line, address);
+            if !self.kind_holds(line, address) {
                 return false;
             }
         }
         true
     }
 
-    fn kind_holds(&self, address: u64) -> bool
-        requires { address < 2 ^ 32 }
+    /// The same at one word, where the lines before a line stand before that of its leaf.
+    fn kind_holds(&self, line: u64, address: u64) -> bool
+        requires low { (profile_in self.now).units_from ≤ address }
+        requires small { address < 2 ^ 32 }
+        requires passed { ArePast self.now.graph.lines line address }
         ensures { result ≡ true → KindHoldsAt (profile_in self.now) self.now.listing self.now.graph address }
     {
-        !self.is_barred(address)
-            && !self.stands_wrong(address)
-            && !self.fails_leaf(address)
-            && !self.fails_target(address)
+        match self.entry_at(address) {
+            Entry::Inside => !self.lacks_end(line, address),
+            _ => {
+                !self.is_barred(address)
+                    && !self.stands_wrong(line, address)
+                    && !self.fails_leaf(line, address)
+                    && !self.fails_target(line, address)
+            }
+        }
     }
 }

@@ -30,6 +30,7 @@ ghost use Rattle.cfi_verify.specs.Entries.{
   stands_within,
   stands_wrong_at,
 };
+ghost use Rattle.cfi_verify.specs.Leaves.{ArePast};
 ghost use Rattle.cfi_verify.specs.Scan.{profile_in};
 
 use crate::leaves::LeafRange;
@@ -85,10 +86,11 @@ fn goes_on(entry: Entry) -> bool
 
 impl<'a> Starts<'a> {
     /// Whether the unit at an address may not stand in the leaf in which it does, or outside of all leaves.
-    pub(crate) fn stands_wrong(&self, address: u64) -> bool
+    pub(crate) fn stands_wrong(&self, line: u64, address: u64) -> bool
+        requires { ArePast self.now.graph.lines line address }
         ensures { result ≡ stands_wrong_at (profile_in self.now) self.now.listing (leaves_in self.now.graph.lines) address }
     {
-        match self.leaf_of(address) {
+        match self.leaf_from(line, address) {
             Some(_) => !stands_within(self.entry_at(address)),
             None => !stands_outside(self.entry_at(address)),
         }
@@ -98,7 +100,15 @@ impl<'a> Starts<'a> {
     pub(crate) fn is_fresh(&self, address: u64) -> bool
         ensures { result ≡ fresh_at (profile_in self.now) self.now.listing (leaves_in self.now.graph.lines) address }
     {
-        self.leaf_of(address).is_some()
+        self.is_fresh_from(self.line_of(address), address)
+    }
+
+    /// The same, its leaf looked for from a line on.
+    fn is_fresh_from(&self, line: u64, address: u64) -> bool
+        requires { ArePast self.now.graph.lines line address }
+        ensures { result ≡ fresh_at (profile_in self.now) self.now.listing (leaves_in self.now.graph.lines) address }
+    {
+        self.leaf_from(line, address).is_some()
             || self.enters_past(address, 0)
             || self.gate_at(address).is_some() && self.enters_past(address, 4)
     }
@@ -112,19 +122,21 @@ impl<'a> Starts<'a> {
     }
 
     /// Whether a leaf begins at an address and is not of whole units.
-    fn lacks_end(&self, address: u64) -> bool
+    pub(crate) fn lacks_end(&self, line: u64, address: u64) -> bool
+        requires { ArePast self.now.graph.lines line address }
         ensures { result ≡ list_any (lacks_end_at (profile_in self.now) self.now.listing address) self.now.graph.lines }
     {
         // Tells the proof that the graph is one.
         let _count = self.count();
-        self.lacks_end_here(address)
+        self.lacks_end_here(line, address)
     }
 
     /// The same, of the leaf in which the address lies.
-    fn lacks_end_here(&self, address: u64) -> bool
+    fn lacks_end_here(&self, line: u64, address: u64) -> bool
+        requires { ArePast self.now.graph.lines line address }
         ensures { result ≡ holds_of (leaf_of (leaves_in self.now.graph.lines) address) (λ l. (l.from == address) && not (is_whole (profile_in self.now) self.now.listing l.from l.to)) }
     {
-        match self.leaf_of(address) {
+        match self.leaf_from(line, address) {
             Some(leaf) => leaf.from() == address && !self.is_whole(&leaf),
             None => false,
         }
@@ -143,7 +155,7 @@ impl<'a> Starts<'a> {
     fn begins_leaf_here(&self, address: u64) -> bool
         ensures { result ≡ holds_of (leaf_of (leaves_in self.now.graph.lines) address) (begins_at address) }
     {
-        match self.leaf_of(address) {
+        match self.leaf_from(self.line_of(address), address) {
             Some(leaf) => leaf.from() == address && leaf.from() < leaf.to(),
             None => false,
         }
@@ -183,28 +195,44 @@ impl<'a> Starts<'a> {
     }
 
     /// Whether what stands behind the unit at an address is of its kind.
-    fn is_right_behind(&self, leaf: Option<LeafRange>, address: u64) -> bool
+    fn is_right_behind(&self, line: u64, leaf: Option<LeafRange>, address: u64) -> bool
+        requires { ArePast self.now.graph.lines line address }
         ensures { result ≡ is_right_behind_at (profile_in self.now) self.now.listing (leaves_in self.now.graph.lines) leaf address }
     {
         match leaf {
             Some(leaf) => leaf.holds(self.next_at(address)),
             None => {
                 self.gate_at(address).is_some() && self.enters_past(address, 4)
-                    || !self.is_fresh(self.next_at(address))
+                    || !self.is_fresh_behind(line, address, self.next_at(address))
             }
         }
     }
 
-    fn goes_wrong(&self, address: u64) -> bool
-        ensures { result ≡ goes_wrong_at (profile_in self.now) self.now.listing (leaves_in self.now.graph.lines) address }
+    /// Whether a start is fresh, its leaf looked for from a line of an address before it.
+    fn is_fresh_behind(&self, line: u64, address: u64, next: u64) -> bool
+        requires { ArePast self.now.graph.lines line address }
+        ensures { result ≡ fresh_at (profile_in self.now) self.now.listing (leaves_in self.now.graph.lines) next }
     {
-        goes_on(self.entry_at(address)) && !self.is_right_behind(self.leaf_of(address), address)
+        if next < address {
+            self.is_fresh(next)
+        } else {
+            self.is_fresh_from(line, next)
+        }
     }
 
-    pub(crate) fn fails_leaf(&self, address: u64) -> bool
+    fn goes_wrong(&self, line: u64, address: u64) -> bool
+        requires { ArePast self.now.graph.lines line address }
+        ensures { result ≡ goes_wrong_at (profile_in self.now) self.now.listing (leaves_in self.now.graph.lines) address }
+    {
+        goes_on(self.entry_at(address))
+            && !self.is_right_behind(line, self.leaf_from(line, address), address)
+    }
+
+    pub(crate) fn fails_leaf(&self, line: u64, address: u64) -> bool
+        requires { ArePast self.now.graph.lines line address }
         ensures { result ≡ fails_leaf_at (profile_in self.now) self.now.listing self.now.graph.lines address }
     {
-        self.lacks_end(address) || self.goes_wrong(address)
+        self.lacks_end(line, address) || self.goes_wrong(line, address)
     }
 
     /// Whether a branch or a jump in a leaf, or outside of all, may lead to an address where a unit starts.
@@ -217,20 +245,22 @@ impl<'a> Starts<'a> {
         }
     }
 
-    fn may_go(&self, address: u64, target: u64) -> bool
+    fn may_go(&self, line: u64, address: u64, target: u64) -> bool
+        requires { ArePast self.now.graph.lines line address }
         ensures { result ≡ may_go_at (profile_in self.now) self.now.listing (leaves_in self.now.graph.lines) address target }
     {
-        self.is_start(target) && self.may_be_reached(self.leaf_of(address), target)
+        self.is_start(target) && self.may_be_reached(self.leaf_from(line, address), target)
     }
 
     /// Whether a call may lead to an address: where callees save sites, to what saves its site, or to a leaf.
-    fn may_call(&self, address: u64, target: u64) -> bool
+    fn may_call(&self, line: u64, address: u64, target: u64) -> bool
+        requires { ArePast self.now.graph.lines line address }
         ensures { result ≡ may_call_at (profile_in self.now) (profile_in self.now).callee_saves self.now.listing (leaves_in self.now.graph.lines) address target }
     {
         if self.has_leaves() {
             self.is_start(target) && self.may_be_called(target)
         } else {
-            self.may_go(address, target)
+            self.may_go(line, address, target)
         }
     }
 
@@ -240,29 +270,32 @@ impl<'a> Starts<'a> {
         self.enters_past(target, 0) || self.begins_leaf(target)
     }
 
-    fn misses_edge(&self, address: u64, target: Option<u64>) -> bool
+    fn misses_edge(&self, line: u64, address: u64, target: Option<u64>) -> bool
+        requires { ArePast self.now.graph.lines line address }
         ensures { result ≡ holds_of target (λ x. not (may_go_at (profile_in self.now) self.now.listing (leaves_in self.now.graph.lines) address x)) }
     {
         match target {
-            Some(target) => !self.may_go(address, target),
+            Some(target) => !self.may_go(line, address, target),
             None => false,
         }
     }
 
-    fn misses_call(&self, address: u64, target: Option<u64>) -> bool
+    fn misses_call(&self, line: u64, address: u64, target: Option<u64>) -> bool
+        requires { ArePast self.now.graph.lines line address }
         ensures { result ≡ holds_of target (λ x. not (may_call_at (profile_in self.now) (profile_in self.now).callee_saves self.now.listing (leaves_in self.now.graph.lines) address x)) }
     {
         match target {
-            Some(target) => !self.may_call(address, target),
+            Some(target) => !self.may_call(line, address, target),
             None => false,
         }
     }
 
-    pub(crate) fn fails_target(&self, address: u64) -> bool
-        requires { address < 2 ^ 32 }
+    pub(crate) fn fails_target(&self, line: u64, address: u64) -> bool
+        requires small { address < 2 ^ 32 }
+        requires passed { ArePast self.now.graph.lines line address }
         ensures { result ≡ fails_target_at (profile_in self.now) self.now.listing self.now.graph.lines address }
     {
-        self.misses_edge(address, self.edge_at(address))
-            || self.misses_call(address, self.call_at(address))
+        self.misses_edge(line, address, self.edge_at(address))
+            || self.misses_call(line, address, self.call_at(address))
     }
 }

@@ -1,11 +1,10 @@
 //! Look-ups among a graph's leaves, functions that call nothing.
 
 ghost use Rattle.std.specs.Prelude.{◌≡◌, IsTrue, map};
-ghost use Rattle.std.specs.List.{list_all};
-ghost use Rattle.cfi_graph.specs.Graph.{is_rising, key_below, key_of, targets_rise};
+ghost use Rattle.cfi_graph.specs.Graph.{is_rising, key_below, key_of};
 ghost use Rattle.cfi_pending.specs.Kinds.{in_leaf, leaf_of};
 ghost use Rattle.cfi_rules.specs.Lines.{leaves_in};
-ghost use Rattle.cfi_verify.specs.Leaves.{is_past, leaf_in};
+ghost use Rattle.cfi_verify.specs.Leaves.{ArePast, is_past, leaf_in};
 
 use cfi_graph::{Graph, GraphLine};
 use std::marker::Model;
@@ -48,15 +47,14 @@ impl LeafRange {
     }
 }
 
-/// The leaf in which an address lies: leaves rise and do not meet, so its place is halved in.
-pub(crate) fn leaf_of(graph: &Graph, address: u64) -> Option<LeafRange>
-    requires ordered { IsTrue (is_rising key_below (map key_of graph.now.lines)) }
-    requires targets { IsTrue (list_all targets_rise graph.now.lines) }
-    ensures { result ≡ leaf_of (leaves_in graph.now.lines) address }
+/// The first line that does not stand before that of any leaf in which an address lies: leaves rise and do not
+/// meet, so its place is halved in.
+pub(crate) fn line_of(graph: &Graph, address: u64) -> u64
+    requires { IsTrue (is_rising key_below (map key_of graph.now.lines)) }
+    ensures { ArePast graph.now.lines result address }
 {
-    let count = graph.lines();
     let mut low = 0;
-    let mut high = count;
+    let mut high = graph.lines();
     while low < high {
         let middle = low + (high - low) / 2;
         let line = graph.line(middle);
@@ -66,11 +64,42 @@ pub(crate) fn leaf_of(graph: &Graph, address: u64) -> Option<LeafRange>
             high = middle;
         }
     }
-    if low == count {
-        return None;
+    low
+}
+
+/// The same, by going on from a line before which all do.
+pub(crate) fn line_from(graph: &Graph, from: u64, address: u64) -> u64
+    requires { ArePast graph.now.lines from address }
+    ensures { ArePast graph.now.lines result address }
+{
+    let count = graph.lines();
+    let mut index = from;
+    while index < count {
+        let line = graph.line(index);
+        if !is_past(line, address) {
+            return index;
+        }
+        index += 1;
     }
-    let last = graph.line(low);
-    leaf_in(last, address)
+    index
+}
+
+/// The leaf in which an address lies, looked for from a line before which none is its line.
+pub(crate) fn leaf_from(graph: &Graph, from: u64, address: u64) -> Option<LeafRange>
+    requires ordered { IsTrue (is_rising key_below (map key_of graph.now.lines)) }
+    requires passed { ArePast graph.now.lines from address }
+    ensures { result ≡ leaf_of (leaves_in graph.now.lines) address }
+{
+    let count = graph.lines();
+    let mut index = from;
+    while index < count {
+        let line = graph.line(index);
+        if !is_past(line, address) {
+            return leaf_in(line, address);
+        }
+        index += 1;
+    }
+    None
 }
 
 /// Whether a line stands before that of any leaf in which an address lies.

@@ -48,8 +48,8 @@ impl<'a> Starts<'a> {
         match rule {
             Rule::Prologue => self.fails_prologue(address),
             Rule::Unit => self.fails_unit(address),
-            Rule::Leaf => self.fails_leaf(address),
-            Rule::Target => self.fails_target(address),
+            Rule::Leaf => self.fails_leaf(self.line_of(address), address),
+            Rule::Target => self.fails_target(self.line_of(address), address),
             Rule::Unlisted => self.fails_unlisted(address),
             Rule::Unused => self.fails_unused(address),
             Rule::Site => self.fails_site(address),
@@ -87,7 +87,7 @@ impl<'a> Starts<'a> {
         let done = self.listing().done() as u64;
         done < self.count_after() && address == self.units_from() + 4 * done
             || self.is_barred(address)
-            || self.stands_wrong(address)
+            || self.stands_wrong(self.line_of(address), address)
     }
 
     /// Whether the graph does not admit the unit at an address.

@@ -9,6 +9,7 @@ ghost use Rattle.cfi_scan.specs.Pieces.{prologue_count};
 ghost use Rattle.cfi_reader.specs.declared.entry.Entry.TheVariants as E;
 ghost use Rattle.cfi_verify.specs.Entries.{entry_at, or_inside, starts_at};
 ghost use Rattle.cfi_rules.specs.Lines.{class_with, leaves_in, line_at, targets_for};
+ghost use Rattle.cfi_verify.specs.Leaves.{ArePast};
 ghost use Rattle.cfi_verify.specs.Scan.{AreStarts, profile_in};
 ghost use Rattle.cfi_rules.specs.Split.{entry_of};
 
@@ -187,11 +188,32 @@ impl<'a> Starts<'a> {
         }
     }
 
-    /// The leaf in which an address lies.
-    pub(crate) fn leaf_of(&self, address: u64) -> Option<LeafRange>
+    /// The first line that does not stand before that of any leaf in which an address lies; in a graph without
+    /// leaves the first of all serves.
+    pub(crate) fn line_of(&self, address: u64) -> u64
+        ensures { ArePast self.now.graph.lines result address }
+    {
+        if self.has_leaves() {
+            leaves::line_of(self.graph, address)
+        } else {
+            0
+        }
+    }
+
+    /// The same, by going on from a line before which all do.
+    pub(crate) fn line_from(&self, from: u64, address: u64) -> u64
+        requires { ArePast self.now.graph.lines from address }
+        ensures { ArePast self.now.graph.lines result address }
+    {
+        leaves::line_from(self.graph, from, address)
+    }
+
+    /// The leaf in which an address lies, looked for from a line before which none is its line.
+    pub(crate) fn leaf_from(&self, from: u64, address: u64) -> Option<LeafRange>
+        requires { ArePast self.now.graph.lines from address }
         ensures { result ≡ leaf_of (leaves_in self.now.graph.lines) address }
     {
-        leaves::leaf_of(self.graph, address)
+        leaves::leaf_from(self.graph, from, address)
     }
 
     /// The line at an address.
