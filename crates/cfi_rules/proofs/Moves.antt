@@ -174,7 +174,7 @@ module _ (p : Profile) (profile : IsProfile p) (image : Contents) (graph : Graph
         kind = lands p profile image graph bytes formed kind which v label reads borne;
       }
 
-  in_class_label : (kind : SiteKind) (which : TargetWord) (label v : ℕ) → which ≡ read_by graph.version kind → InClass graph.lines kind which label v →
+  pub in_class_label : (kind : SiteKind) (which : TargetWord) (label v : ℕ) → which ≡ read_by graph.version kind → InClass graph.lines kind which label v →
       HasLabel (loaded image) which label v
   unfolding code_of
   in_class_label kind which label v reads inside =

@@ -127,7 +127,7 @@ module _ (p : Profile) (profile : IsProfile p) (image : Contents) (graph : Graph
   lean_there : p.callee_saves ≡ true → (a : ℕ) → start_there a ≡ kind a
   lean_there lean a = ap (λ b. start_under b (kind a)) lean
 
-  stands_full : (a : ℕ) (u : U.Unit) → p.callee_saves ≡ false → unit_at p W a ≡ Some u → is_full u ≡ true
+  pub stands_full : (a : ℕ) (u : U.Unit) → p.callee_saves ≡ false → unit_at p W a ≡ Some u → is_full u ≡ true
   stands_full a u full is = sym (ap (λ b. stands_in b u) full) ∙ unit_stands_in p image graph formed a u is
 
   stands_lean : (a : ℕ) (u : U.Unit) → p.callee_saves ≡ true → unit_at p W a ≡ Some u → is_lean u ≡ true
