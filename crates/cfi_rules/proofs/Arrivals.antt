@@ -66,11 +66,11 @@ calm_and zero rest low = low
 calm_and (suc k) rest low = (tt, calm_and k rest low)
 
 module _ (p : Profile) (part : ℕ) (image : Contents) (graph : GraphParts) where
-  abbrev Along : Option Walk → Hart → Shared → List (List ByteChange) → Type 0
+  abbrev pub Along : Option Walk → Hart → Shared → List (List ByteChange) → Type 0
   Along before h s changes = AloneAlong p part image (code_words image.code) graph.lines before h s changes
 
   -- some undisturbed steps run, and nothing starts where they begin
-  unfoldable quiet : ℕ → Hart → Shared → Bool
+  unfoldable pub quiet : ℕ → Hart → Shared → Bool
   quiet zero h s = true
   quiet (suc k) h s =
       not (is_some (place_at p (code_words image.code) h.pc))
@@ -92,27 +92,27 @@ module _ (p : Profile) (part : ℕ) (image : Contents) (graph : GraphParts) wher
       stays k w after.hart after.shared rest more.1 (subst (λ v. Along (Some v) after.hart after.shared (calm k ++ rest)) back on)
 
   -- what holds where the walk arrives
-  record Arrival (before : Option Walk) (place : Place) (h : Hart) (s : Shared) (rest : List (List ByteChange)) : Type 0 where
-    w : Walk
-    at : w.at ≡ h.pc
-    regs : w.regs ≡ h.regs
-    arrives : Arrives p (place_at p (code_words image.code)) graph.lines before h.pc w.pending
-    shadow : ShadowStands p part (start_in (place_at p (code_words image.code)) graph.lines h.pc) place h s.memory w.pending
-    on : OnRan (step p h s).turn (Along (Some w) (step p h s).hart (step p h s).shared rest) (IsCodeOf (loaded image) (step p h s).shared.memory)
+  pub record Arrival (before : Option Walk) (place : Place) (h : Hart) (s : Shared) (rest : List (List ByteChange)) : Type 0 where
+    pub w : Walk
+    pub at : w.at ≡ h.pc
+    pub regs : w.regs ≡ h.regs
+    pub arrives : Arrives p (place_at p (code_words image.code)) graph.lines before h.pc w.pending
+    pub shadow : ShadowStands p part (start_in (place_at p (code_words image.code)) graph.lines h.pc) place h s.memory w.pending
+    pub on : OnRan (step p h s).turn (Along (Some w) (step p h s).hart (step p h s).shared rest) (IsCodeOf (loaded image) (step p h s).shared.memory)
 
-  arrival : (before : Option Walk) (place : Place) (h : Hart) (s : Shared) (rest : List (List ByteChange)) → place_at p (code_words image.code) h.pc ≡ Some place →
+  pub arrival : (before : Option Walk) (place : Place) (h : Hart) (s : Shared) (rest : List (List ByteChange)) → place_at p (code_words image.code) h.pc ≡ Some place →
       Along before h s ([] ∷ rest) → Arrival before place h s rest
   arrival before place h s rest is r =
       let goes = rw is at r.1 in
       record { w = r.0; at = goes.0; regs = goes.1; arrives = goes.2; shadow = goes.3; on = r.3 }
 
   -- from something that starts a run comes to the next thing, after `k` more steps
-  record Leads (k : ℕ) (h : Hart) (s : Shared) (next : Place) : Type 0 where
-    runs : (step p h s).turn ≡ Ran
-    still : quiet k (step p h s).hart (step p h s).shared ≡ true
-    there : place_at p (code_words image.code) (after_calm p (suc k) h s).hart.pc ≡ Some next
+  pub record Leads (k : ℕ) (h : Hart) (s : Shared) (next : Place) : Type 0 where
+    pub runs : (step p h s).turn ≡ Ran
+    pub still : quiet k (step p h s).hart (step p h s).shared ≡ true
+    pub there : place_at p (code_words image.code) (after_calm p (suc k) h s).hart.pc ≡ Some next
 
-  next_arrival : (before : Option Walk) (place next : Place) (k : ℕ) (h : Hart) (s : Shared) (rest : List (List ByteChange)) →
+  pub next_arrival : (before : Option Walk) (place next : Place) (k : ℕ) (h : Hart) (s : Shared) (rest : List (List ByteChange)) →
       (a : Arrival before place h s (calm k ++ ([] ∷ rest))) → Leads k h s next →
       Arrival (Some a.w) next (after_calm p (suc k) h s).hart (after_calm p (suc k) h s).shared rest
   unfolding after_calm
@@ -149,7 +149,7 @@ module _ (p : Profile) (part : ℕ) (image : Contents) (graph : GraphParts) wher
       }
 
   -- where the walk that arrived was led from
-  went : (w : Walk) (from next : Place) (h : Hart) (s : Shared) (rest : List (List ByteChange)) → place_at p (code_words image.code) w.at ≡ Some from →
+  pub went : (w : Walk) (from next : Place) (h : Hart) (s : Shared) (rest : List (List ByteChange)) → place_at p (code_words image.code) w.at ≡ Some from →
       (a : Arrival (Some w) next h s rest) → PlaceLeads p (by_class graph.lines) from w.at w.pending w.regs a.w.pending h.pc
   went w from next h s rest is a =
       let (place, there, leads) = a.arrives in

@@ -37,4 +37,5 @@ pub mod Trails
 pub mod OneHart
 pub mod Unsafe
 pub mod Arrivals
+pub mod LeanArrivals
 pub mod Unlisted

@@ -1,6 +1,6 @@
 -- The small pairs with a fault are not safe: their undisturbed runs leave what stands where the walk is,
 -- or stop where they may not.
-use Rattle.std.proofs.Common.{◌≡◌, ℕ, zero, suc, ◌+◌, ◌≤◌, true, inl, List, [], ◌∷◌, refl, ap, subst, Some, arith, lit≤}
+use Rattle.std.proofs.Common.{◌≡◌, ℕ, zero, suc, ◌+◌, ◌≤◌, inl, List, [], ◌∷◌, refl, ap, subst, Some, arith, lit≤}
 use Rattle.std.specs.Prelude.{slice_get}
 use Rattle.std.specs.List.{AllByRecursion}
 use Rattle.rv_word.specs.Image.{Contents}

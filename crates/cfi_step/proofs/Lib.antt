@@ -5,6 +5,7 @@ mod Noting
 mod Preparing
 mod Replay
 mod Reported
+mod SameSteps
 mod Started
 mod Stepping
 mod Stretched

@@ -15,7 +15,7 @@ use Rattle.rv_code.specs.Decode.{decoded}
 use Rattle.obj_program.specs.Program.{count, is_end, item_of, no_item}
 use Rattle.obj_program.proofs.Read.{read_there}
 use Rattle.cfi_graph.specs.declared.line.SiteKind.{SiteKind}
-use Rattle.cfi_graph.specs.Graph.{ClassLine, class_in}
+use Rattle.cfi_graph.specs.Graph.{ClassLine, class_in, has_leaves}
 use Rattle.cfi_class.specs.Classes.{has}
 use Rattle.cfi_closed.specs.Closed.{is_target_of}
 use Rattle.cfi_map.specs.GraphAtMap.{gate, gate_to, words_at}
@@ -117,9 +117,9 @@ lead_asks : (o : Option ℕ) → is_some (site_of (body (lead_unit o))) ≡ fals
 lead_asks None = refl
 lead_asks (Some label) = refl
 
-lead_admitted : (version : GraphVersion) (calls : Option (List ℕ)) (o : Option ℕ) → admits version calls (lead_unit o) ≡ true
-lead_admitted version calls None = is_free calls version (lead_unit None) refl (λ numbers. refl) refl
-lead_admitted version calls (Some label) = is_free calls version (lead_unit (Some label)) refl (λ numbers. refl) refl
+lead_admitted : (version : GraphVersion) (calls : Option (List ℕ)) (o : Option ℕ) → has_leaves version ≡ false → admits version calls (lead_unit o) ≡ true
+lead_admitted version calls None full = is_free calls version (lead_unit None) refl (λ numbers. refl) full refl refl
+lead_admitted version calls (Some label) full = is_free calls version (lead_unit (Some label)) refl (λ numbers. refl) full refl refl
 
 gate_of : U.Unit → Option ℕ
 gate_of (V.Gate label) = Some label
@@ -261,11 +261,11 @@ module _ (m : Choice) (ok : IsAccepted m) where
   admitted : (k a : ℕ) (u : U.Unit) → k < count m.layout.program → IsUnit m k a u → IsTrue (admits m.layout.closed.version m.layout.closed.calls u)
   admitted k a u below (lead_word j get here) =
       let (o, at, same) = from_lead m k j u get in
-      subst (λ (v : U.Unit). admits m.layout.closed.version m.layout.closed.calls v ≡ true) same (lead_admitted m.layout.closed.version m.layout.closed.calls o)
+      subst (λ (v : U.Unit). admits m.layout.closed.version m.layout.closed.calls v ≡ true) same (lead_admitted m.layout.closed.version m.layout.closed.calls o ok.version)
   admitted k a u below (own here unit_is) =
       subst (λ (v : U.Unit). admits m.layout.closed.version m.layout.closed.calls v ≡ true) (sym unit_is)
       (unit_admitted m.layout.closed.version m.layout.closed.calls (item_of m.layout.program k).kind (instr_of m k) (whole_at m.whole k) (gate_to m.layout (item_of m.layout.program k).target)
-      (site_label m.labels m.layout.closed.sides k) (group_at m k) (right m ok k below))
+      (site_label m.labels m.layout.closed.sides k) (group_at m k) (right m ok k below) ok.version)
 
   -- the last unit is a stop
   last_stops : last_or None (units m) ≡ Some V.Stop

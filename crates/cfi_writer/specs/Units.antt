@@ -1,4 +1,3 @@
-use Rattle.cfi_rules.specs.Lines.{jump_word}
 -- The units that are written for a program at a map: at each place its unit, behind a word for each side of the closed graph where the
 -- place is a target; the stores of a group have one unit, at the place of the first.
 use Rattle.std.specs.Prelude.{ℕ, zero, suc, ◌+◌, ◌-◌, Bool, true, false, Option, Some, None, if◌then◌else◌, List, [], ◌∷◌, ◌++◌, map, not}
@@ -25,6 +24,7 @@ use Rattle.cfi_unit.specs.declared.unit.Unit as U
 use Rattle.cfi_unit.specs.declared.unit.Unit.TheVariants as V
 use Rattle.cfi_unit.specs.declared.unit.SystemOp.TheVariants as S
 use Rattle.cfi_unit.specs.Members.{FILLER}
+use Rattle.cfi_rules.specs.Lines.{jump_word}
 use Rattle.cfi_runs.specs.Distances.{field, level, lowest}
 use Rattle.cfi_runs.specs.GroupStores.{members_from}
 

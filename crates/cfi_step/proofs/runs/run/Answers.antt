@@ -1,6 +1,7 @@
 use Rattle.std.proofs.Common.{◌≡◌, ◌∙◌, ap, length, subst, sym}
 use Rattle.rv_word.specs.Image.{image_profile}
 use Rattle.rv_word.specs.MemoryMap.{profile_of}
+use Rattle.rv_word.specs.declared.version.ImageVersion.{ImageVersion}
 use Rattle.rv_code.specs.State.{start_hart, start_shared}
 use Rattle.rv_machine.specs.Harts.{harts_in, harts_share}
 use Rattle.cfi_rules.proofs.Starts.{machine_may_start}
@@ -19,7 +20,7 @@ finish-requires-clause-begun g c =
     let shared = rw c.image.ensures.value at started.shared in
     let version = rw c.image.ensures.value at started.version in
     begins (image_profile image) image c.args.checked.now.graph c.args.input.now c.args.harts c.in_ok-running.running c.is_safe.ensures c.requires
-    started.count started.harts shared (ap profile_of version) started.made started.taken started.last started.current started.each started.empty started.quiet started.still
+    started.count started.harts shared (ap (λ (v : ImageVersion). (profile_of v).shadow_size) version) started.made started.taken started.last started.current started.each started.empty started.quiet started.still
 
 pub returns-clause-report : goal.returns-clause-report
 returns-clause-report g c =
