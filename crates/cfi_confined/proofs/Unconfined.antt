@@ -1,11 +1,11 @@
 -- Small pairs with one fault each: their undisturbed runs take a step that is not confined.
-use Rattle.std.proofs.Common.{◌≡◌, ℕ, zero, suc, ◌<◌, ◌&&◌, Bool, true, false, inl, inr, List, [], ◌∷◌, ◌++◌, length, refl, sym, ap, subst, ◌∙◌, Option, Some, None, arith, lit<, lit≤}
+use Rattle.std.proofs.Common.{◌≡◌, ℕ, zero, ◌-◌, ◌+◌, suc, ◌<◌, ◌&&◌, Bool, true, false, inl, inr, List, [], ◌∷◌, ◌++◌, length, refl, sym, ap, subst, ◌∙◌, Option, Some, None, arith, lit<, lit≤}
 use Rattle.std.specs.Prelude.{◌==◌, if◌then◌else◌, slice_get}
 use Rattle.std.specs.List.{Contains}
 use Rattle.std.proofs.lemmas.Bool.{and_parts, eq-eqb, false≢true}
 use Rattle.std.proofs.lemmas.Option.{same_Some}
 use Rattle.rv_word.specs.Image.{Contents}
-use Rattle.rv_word.specs.MemoryMap.{MayRun, Profile, part_of, version_1, version_2}
+use Rattle.rv_word.specs.MemoryMap.{MayRun, Profile, part_of, lean_version_1, version_1, version_2}
 use Rattle.rv_word.specs.Memory.{loaded, placed, write}
 use Rattle.rv_word.proofs.Profiles.{LaidOut, laid_out}
 use Rattle.rv_instr.specs.declared.instr.Instr.{Instr}
@@ -30,7 +30,7 @@ use Rattle.cfi_rules.proofs.OneHart.{may_come, one_may_run, steps_of}
 use Rattle.cfi_rules.proofs.Starts.{machine_may_start}
 use Rattle.cfi_rules.proofs.Unsafe.{calm_is_data}
 use Rattle.cfi_confined.specs.Confined.{ConfinedAlong, IsConfined, MayEcall, MayStop, Moves, Pending, SavesNewest, WritesOwn, fetched, slot_for, with_pending}
-use Rattle.cfi_confined.specs.Unconfined.{FaultsAreUnconfined, borrowed_edge, borrowed_edge_graph, running_handler, early_return, early_return_graph, long_branch, long_branch_graph, unlisted_entry, unlisted_entry_graph, unlisted_jump, unlisted_jump_graph}
+use Rattle.cfi_confined.specs.Unconfined.{FaultsAreUnconfined, borrowed_edge, borrowed_edge_graph, running_handler, early_return, early_return_graph, long_branch, long_branch_graph, unlisted_entry, unlisted_entry_graph, unlisted_jump, unlisted_jump_graph, lean_graph, moved_link, saved_high, saved_pointer, short_call, short_call_graph}
 
 -- no call and no return
 abbrev is_keeping : Option Instr → Bool
@@ -312,6 +312,89 @@ part_unconfined : IsConfined version_2 storing_opening one_pointer_graph → ⊥
 unfolding loaded placed decoded code_of step write last_exit after_calm is_ran all_keep
 part_unconfined confined = let c = several storing_opening one_pointer_graph 8 confined refl in differ refl (c.2 0x600407f2 (lit≤ tt) (inr (inr (lit≤ tt))))
 
+-- where callees save sites, the sixth step is the opening's call, and leaves the closing as the newest site
+the_lean : LaidOut lean_version_1
+the_lean = laid_out lean_version_1 (inr (inl refl))
+
+module _ (image : Contents) (graph : GraphParts) where
+  abbrev LeanCall : List ℕ → Type 0
+  LeanCall pending =
+      let before = after_steps lean_version_1 image 5 in
+      Moves lean_version_1 graph (fetched before.shared.memory) (Some (Jal 1 6)) 0x40000020 [] 0x4000002c pending
+
+  lean_pending : (pending : List ℕ) → LeanCall pending → pending ≡ 0x40000024 ∷ []
+  lean_pending pending (inl (zero_is, to, same)) = absurd (differ refl zero_is)
+  lean_pending pending (inr (one_is, line, new)) = new
+
+saved_unconfined : IsConfined lean_version_1 saved_pointer (lean_graph 0x30) → ⊥
+unfolding loaded placed decoded code_of step write last_exit after_calm is_ran all_keep
+saved_unconfined confined =
+    let c = called_of lean_version_1 the_lean 5 saved_pointer (lean_graph 0x30) 0 1 confined refl refl refl in
+    let pending = lean_pending saved_pointer (lean_graph 0x30) c.0 c.1 in
+    let e = entered lean_version_1 the_lean 5 saved_pointer (lean_graph 0x30) in
+    let saves = subst (λ (l : List ℕ). SavesNewest true (part_of 0) l e.shared.memory (step lean_version_1 e.hart e.shared).shared.memory) pending c.2.3 in
+    elim saves [
+      | inl before ↦ differ refl before
+      | inr newest ↦ differ refl newest
+    ]
+
+-- the site's lowest byte is in slot 1
+high_unconfined : IsConfined lean_version_1 saved_high (lean_graph 0x30) → ⊥
+unfolding loaded placed decoded code_of step write last_exit after_calm is_ran all_keep
+high_unconfined confined =
+    let c = called_of lean_version_1 the_lean 5 saved_high (lean_graph 0x30) 0 1 confined refl refl refl in
+    let pending = lean_pending saved_high (lean_graph 0x30) c.0 c.1 in
+    let e = entered lean_version_1 the_lean 5 saved_high (lean_graph 0x30) in
+    let writes = subst (λ (l : List ℕ). WritesOwn (part_of 0) (length l - 1) e.shared.memory (step lean_version_1 e.hart e.shared).shared.memory) pending c.2.2 in
+    differ refl (writes 0x60000010 (lit≤ tt) (inr (inl (lit≤ tt))))
+
+no_site_line : (kind : SiteKind) (a b c label : ℕ) → Contains (Call a b ∷ []) (Site c kind label) → ⊥
+no_site_line kind a b c label (zero, below, is) = absurd (cc)
+no_site_line kind a b c label (suc k, below, is) = absurd (omega arith)
+
+link_unconfined : IsConfined lean_version_1 moved_link (lean_graph 0x34) → ⊥
+unfolding loaded placed decoded code_of step write last_exit after_calm is_ran all_keep
+link_unconfined confined =
+    let c = called_of lean_version_1 the_lean 5 moved_link (lean_graph 0x34) 1 1 confined refl refl refl in
+    let pending = lean_pending moved_link (lean_graph 0x34) c.0 c.1 in
+    elim c.2.4.1 [
+      | inl (zero_is, inl (none, pops)) ↦
+          let first : slice_get (0x40000024 ∷ []) 0 ≡ slice_get (0x40000028 ∷ c.2.4.0) 0 = ap (λ (l : List ℕ). slice_get l 0) (sym pending ∙ pops) in
+          differ refl (same_Some 0x40000024 0x40000028 first)
+      | inl (zero_is, inr (site, same)) ↦ no_site_line K.Jump _ _ _ site.label site.listed
+      | inr other ↦ differ refl other.0
+    ]
+
+-- the lines of the short call have one class, with one target
+short_target : (label : ℕ) (targets : List ℕ) → Contains short_call_graph.lines (Class sorts.Both label targets) → (0x40000038 ∷ []) ≡ targets
+short_target label targets (zero, below, is) = cc
+short_target label targets (suc zero, below, is) = absurd (cc)
+short_target label targets (suc (suc zero), below, is) = absurd (cc)
+short_target label targets (suc (suc (suc k)), below, is) = absurd (omega arith)
+
+no_calls : (label : ℕ) (targets : List ℕ) → Contains short_call_graph.lines (Class sorts.Calls label targets) → ⊥
+no_calls label targets (zero, below, is) = absurd (cc)
+no_calls label targets (suc zero, below, is) = absurd (cc)
+no_calls label targets (suc (suc zero), below, is) = absurd (cc)
+no_calls label targets (suc (suc (suc k)), below, is) = absurd (omega arith)
+
+no_gate : (gate : ℕ) → Contains {X = ℕ} (0x40000038 ∷ []) gate → 0x40000038 ≡ gate + 8 → ⊥
+no_gate gate (zero, below, is) behind = let here : 0x40000038 ≡ gate = is in omega arith
+no_gate gate (suc k, below, is) behind = absurd (omega arith)
+
+gate_unconfined : IsConfined lean_version_1 short_call short_call_graph → ⊥
+unfolding loaded placed decoded code_of step write last_exit after_calm is_ran all_keep
+gate_unconfined confined =
+    let c = called_of lean_version_1 the_lean 5 short_call short_call_graph 1 1 confined refl refl refl in
+    elim c.2.4.1 [
+      | inl (zero_is, to) ↦ differ refl zero_is
+      | inr (one_is, site, new) ↦ elim site.class [
+        | inl class ↦
+            no_gate site.gate (subst (λ (ts : List ℕ). Contains ts site.gate) (sym (short_target site.label site.targets class)) site.target) site.behind
+        | inr class ↦ no_calls site.label site.targets class
+      ]
+    ]
+
 pub faults_unconfined : FaultsAreUnconfined
 faults_unconfined = record {
   jump = jump_unconfined;
@@ -330,4 +413,10 @@ faults_unconfined = record {
   call = call_unconfined;
   slot = slot_unconfined;
   part = part_unconfined;
+  lean = record {
+    saved = saved_unconfined;
+    slot = high_unconfined;
+    link = link_unconfined;
+    gate = gate_unconfined;
+  };
 }
