@@ -10,7 +10,7 @@ use Rattle.cfi_rules.specs.Rules.{IsWellFormed, pair_profile}
 use Rattle.cfi_script.specs.Script.{ScriptParts}
 use Rattle.cfi_pair.specs.Spelled.{Spell}
 use Rattle.cfi_pair.specs.declared.opening.PairFault.TheVariants.{Graph, Image}
-use Rattle.cfi_pair.proofs.Determined.{judged_read, no_fault, none_rejected, own}
+use Rattle.cfi_pair.proofs.Determined.{graph_read, no_fault, none_rejected, own}
 use Rattle.cfi_pair.proofs.OneImage.{version_told}
 use Rattle.cfi_launch.specs.Launch.{HasRun, IsLaunchEnd, IsLaunchFault, IsLaunchOf, script_given}
 use Rattle.rv_word.specs.declared.end.End.{End}
@@ -33,7 +33,7 @@ module _ (image_bytes graph_bytes : List ℕ) (image : Contents) (graph : GraphP
     no_launch_fault (Pair (Image refusal)) is = let none = no_fault image_bytes graph_bytes image graph spell in cc (is, none)
     no_launch_fault (Pair (Graph line reason)) is =
         let wrong = is.1 in
-        let right = judged_read image_bytes graph_bytes image graph spell in
+        let right = graph_read image_bytes graph_bytes image graph spell in
         cc (wrong, right)
     no_launch_fault (Script line reason) is = let wrong = is.1 in cc (wrong, given)
     no_launch_fault (Harts count) is =

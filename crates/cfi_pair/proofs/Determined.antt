@@ -10,7 +10,7 @@ use Rattle.cfi_rules.specs.Rules.{IsRejected, IsWellFormed, pair_profile}
 use Rattle.cfi_rules.specs.declared.reject.Reject as V
 use Rattle.cfi_rules.specs.declared.reject.Reject.TheVariants.{At, Length}
 use Rattle.cfi_pair.specs.Judgement.{HasJudgement}
-use Rattle.cfi_pair.specs.Opening.{IsPairEnd, judged_graph}
+use Rattle.cfi_pair.specs.Opening.{IsPairEnd}
 use Rattle.cfi_pair.specs.Spelled.{IsImage, Spell}
 use Rattle.cfi_pair.specs.declared.judging.Verdict.{Verdict}
 use Rattle.cfi_pair.specs.declared.judging.Verdict.TheVariants.{Accepted, Rejected}
@@ -27,11 +27,8 @@ module _ (image_bytes graph_bytes : List ℕ) (image : Contents) (graph : GraphP
   pub own : IsImage image_bytes image
   own = spelled_image image_bytes graph_bytes image graph spell
 
-  graph_read : graph_of graph_bytes ≡ Ok graph
+  pub graph_read : graph_of graph_bytes ≡ Ok graph
   graph_read = ap graph_of spell.graph_is ∙ graph_of-graph_text graph spell.parts
-
-  pub judged_read : judged_graph graph_bytes ≡ Ok graph
-  judged_read = rw (graph_read, spell.judged) refl
 
   pub one_pair : (other : Contents) (lines : GraphParts) → Spell image_bytes graph_bytes other lines → (other ≡ image) × (lines ≡ graph)
   one_pair other lines is =
@@ -71,4 +68,4 @@ module _ (image_bytes graph_bytes : List ℕ) (image : Contents) (graph : GraphP
         → (result ≡ Ok Accepted) ⊎ (result ≡ Err NoMemory)
     wants_memory NoMemory result has is = inr is
     wants_memory (Fault (Image refusal)) result has is = let no : ⊥ = cc (has, no_fault) in absurd no
-    wants_memory (Fault (Graph line reason)) result has is = let wrong = has.1 in let no : ⊥ = cc (wrong, judged_read) in absurd no
+    wants_memory (Fault (Graph line reason)) result has is = let wrong = has.1 in let no : ⊥ = cc (wrong, graph_read) in absurd no
