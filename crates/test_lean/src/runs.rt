@@ -1,33 +1,29 @@
 //! Runs of lean images, under scripts that change what their pointers hold.
 
 use crate::pairs::image_with;
-use crate::samples::{
-    ENTER, ENTER_GRAPH, H, H_DATA, H_GRAPH, LEAF, LEAF_GRAPH, P, P_DATA, P_GRAPH, Q, Q_DATA,
-    Q_GRAPH,
-};
+use crate::samples::{H_DATA, P_DATA, Program, Q_DATA};
 use rv_word::{ImageVersion, NoMemory};
 use sample_calls::first_wrong;
 use std::alloc::Global;
 use std::process::Abort;
 use tool_io::MemFiles;
 
-/// An image's name and version, its code and data, and its graph with that one's name.
+/// A program with the name and version of its image, its data, and its graph's name.
 struct Sample(
+    Program,
     &'static str,
     ImageVersion,
-    &'static [u32],
     &'static [u8],
     &'static str,
-    &'static [u8],
 );
 
 #[rattlefmt::skip]
 static SAMPLES: [Sample; 5] = [
-    Sample("leaf.img", ImageVersion::OneHart, &LEAF, b"", "leaf.graph", LEAF_GRAPH),
-    Sample("enter.img", ImageVersion::EightHarts, &ENTER, b"", "enter.graph", ENTER_GRAPH),
-    Sample("h.img", ImageVersion::OneHart, &H, H_DATA, "h.graph", H_GRAPH),
-    Sample("p.img", ImageVersion::OneHart, &P, P_DATA, "p.graph", P_GRAPH),
-    Sample("q.img", ImageVersion::OneHart, &Q, Q_DATA, "q.graph", Q_GRAPH),
+    Sample(Program::Leaf, "leaf.img", ImageVersion::OneHart, b"", "leaf.graph"),
+    Sample(Program::Enter, "enter.img", ImageVersion::EightHarts, b"", "enter.graph"),
+    Sample(Program::H, "h.img", ImageVersion::OneHart, H_DATA, "h.graph"),
+    Sample(Program::P, "p.img", ImageVersion::OneHart, P_DATA, "p.graph"),
+    Sample(Program::Q, "q.img", ImageVersion::OneHart, Q_DATA, "q.graph"),
 ];
 
 /// A script that changes the first pointer, by its name, and what the pointer holds then.
@@ -64,9 +60,9 @@ const RUNS: &[u8] = b"\
 fn files(alloc: Global) -> Result<MemFiles, NoMemory> {
     let mut files = MemFiles::new(alloc, Vec::new(alloc));
     for sample in &SAMPLES {
-        let image = image_with(alloc, sample.1, sample.2, 0, 0x0010_0073, sample.3)?;
-        files.insert(sample.0, &image)?;
-        files.insert(sample.4, sample.5)?;
+        let image = image_with(alloc, sample.2, sample.0.words(), 0, 0x0010_0073, sample.3)?;
+        files.insert(sample.1, &image)?;
+        files.insert(sample.4, sample.0.graph())?;
     }
     for script in &SCRIPTS {
         files.insert(script.0, script.1)?;

@@ -1,5 +1,39 @@
 //! Images of graphs of version 3, whole codes with their prologues.
 
+/// One of the programs below.
+#[derive(Clone, Copy)]
+pub(crate) enum Program {
+    Leaf,
+    Enter,
+    H,
+    P,
+    Q,
+}
+
+impl Program {
+    /// The words of its code.
+    pub(crate) fn words(self) -> &'static [u32] {
+        match self {
+            Program::Leaf => &LEAF,
+            Program::Enter => &ENTER,
+            Program::H => &H,
+            Program::P => &P,
+            Program::Q => &Q,
+        }
+    }
+
+    /// The bytes of its graph.
+    pub(crate) fn graph(self) -> &'static [u8] {
+        match self {
+            Program::Leaf => LEAF_GRAPH,
+            Program::Enter => ENTER_GRAPH,
+            Program::H => H_GRAPH,
+            Program::P => P_GRAPH,
+            Program::Q => Q_GRAPH,
+        }
+    }
+}
+
 /// Exits with 7 from a function that calls nothing.
 #[rattlefmt::skip]
 pub(crate) static LEAF: [u32; 15] = [
