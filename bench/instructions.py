@@ -1,7 +1,7 @@
 #!/usr/bin/env python3
 """Counts instructions of `rvcfi`, by valgrind's callgrind: `python3 bench/instructions.py [--program PATH] [--example PATH]`.
 
-Printed are those of `verify` of bench/verify.py's images of 1,024 KiB, with one store behind a mask and with several; of `rewrite` and
+Printed are those of `verify` of bench/verify.py's images of 1,024 KiB, with one store behind a mask, with several, and lean; of `rewrite` and
 `verify` of bench/rewrite.py's 950 functions; and those of a step of `run`, of `loop` and of the compiled programs of bench/run.py, as the
 difference of two runs of other lengths, in which the start falls out, also of the library's example `run` (library/build.sh), which
 calls `rvcfi_run`; and of bench/run.py's `loop` and `worker` for several harts, by its scripts of turns. The same program, files and
@@ -19,7 +19,7 @@ sys.dont_write_bytecode = True
 
 import run
 from families import compiled
-from verify import written
+from verify import KINDS, written
 
 SHORT, LONG = 100000, 300000  # steps of the two runs
 EXAMPLE = os.path.join(os.path.dirname(os.path.abspath(__file__)), "..", "library", "out", "run")
@@ -39,8 +39,8 @@ def of_a_step(command, paths, given):
 
 
 def print_files(program, folder):
-    for grouped, what in ((False, "one store behind a mask"), (True, "several")):
-        print("verify of 1,024 KiB, %s: %d" % (what, instructions([program, "verify", *written(folder, 1024, grouped)[0]])))
+    for kind, what in zip(KINDS, ("one store behind a mask", "several", "lean")):
+        print("verify of 1,024 KiB, %s: %d" % (what, instructions([program, "verify", *written(folder, 1024, kind)[0]])))
     path = os.path.join(folder, "functions.o")
     with open(path, "wb") as out:
         out.write(compiled(folder, 950))

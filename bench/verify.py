@@ -1,6 +1,6 @@
 #!/usr/bin/env python3
 """Times `rvcfi verify` on images of three sizes, beside a hash and a disassembler of the same files, with its peak memory; and on the
-largest where masks have several stores behind them.
+largest where masks have several stores behind them, and of a lean image.
 
     python3 bench/verify.py [--program PATH] [--runs N] [--sizes KIB,KIB,..] [--keep FOLDER]
 
@@ -20,12 +20,14 @@ import time
 sys.dont_write_bytecode = True
 
 from images import PAGE, pair
+from lean_images import lean_pair
 
 HERE = os.path.dirname(os.path.abspath(__file__))
 CRATE = os.path.join(HERE, "..", "crates", "rvcfi")
 PROGRAM = os.path.join(CRATE, "out", "rvcfi")
 OBJDUMP = "riscv64-linux-gnu-objdump"
 SECONDS = 60  # until the program waits to write
+KINDS = "", "grouped", "lean"
 
 Times = collections.namedtuple("Times", "wall processor")
 
@@ -100,10 +102,10 @@ def peak_memory(command):
     return peak * 1024
 
 
-def written(folder, kib, grouped=False):
+def written(folder, kib, kind=""):
     """The paths of a pair's files, their sizes, and how many units of each kind the image has."""
-    image, graph, counts = pair(kib * 1024, grouped=grouped)
-    name = "%d%s" % (kib, ".grouped" if grouped else "")
+    image, graph, counts = lean_pair(kib * 1024) if kind == "lean" else pair(kib * 1024, grouped=kind == "grouped")
+    name = "%d%s" % (kib, "." + kind if kind else "")
     paths = [os.path.join(folder, "%s.%s" % (name, end)) for end in ("img", "graph")]
     for path, content in zip(paths, (image, graph)):
         with open(path, "wb") as out:
@@ -125,23 +127,22 @@ def measure(program, folder, kib, runs):
 
 
 def compare(program, folder, kib, runs):
-    """The times of `verify` on one size where each mask has one store behind it and where it has several, run in turn."""
-    sides = [written(folder, kib, grouped) for grouped in (False, True)]
-    times = best_times([[program, "verify"] + side[0] for side in sides], runs, [b"accepted\n"] * 2)
-    return [{"units": sum(counts.values()), "stores": counts["store"], "files": image + graph, "time": time}
-            for (_, image, graph, counts), time in zip(sides, times)]
+    """The times of `verify` on one size where each mask has one store behind it, where it has several, and of a lean image, run in
+    turn."""
+    sides = [written(folder, kib, kind) for kind in KINDS]
+    times = best_times([[program, "verify"] + side[0] for side in sides], runs, [b"accepted\n"] * len(KINDS))
+    return [{"units": sum(counts.values()), "files": image + graph, "time": time} for (_, image, graph, counts), time in zip(sides, times)]
 
 
-def report_stores(kib, sides, start):
-    """How many times as long a byte takes where masks have several stores, without the time of the usage line."""
-    print("%d KiB of code, one store behind a mask and several:" % kib)
-    for side in sides:
-        print("%8d units, %d of stores, %d bytes of files: verify %.2f / %.2f" % (
-            side["units"], side["stores"], side["files"], side["time"].wall, side["time"].processor))
-    one, several = ([(side["time"][k] - start[k]) for k in (0, 1)] for side in sides)
-    bytes_of = sides[0]["files"] / sides[1]["files"]
-    print("several take %.2f / %.2f times as long a byte of code, %.2f / %.2f a byte of the files" % (
-        several[0] / one[0], several[1] / one[1], bytes_of * several[0] / one[0], bytes_of * several[1] / one[1]))
+def report_kinds(kib, sides, start):
+    """How many times as long a byte takes where masks have several stores, and in a lean image, without the time of the usage line."""
+    print("%d KiB of code, one store behind a mask, several, and lean:" % kib)
+    one = sides[0]
+    for kind, side in zip(KINDS, sides):
+        times = [(side["time"][k] - start[k]) / (one["time"][k] - start[k]) for k in (0, 1)]
+        less = one["files"] / side["files"]
+        print("%8s: %d units, %d bytes of files: verify %.2f / %.2f; %.2f / %.2f times as long a byte of code, %.2f / %.2f a byte of the files" % (
+            kind or "one", side["units"], side["files"], *side["time"], *times, less * times[0], less * times[1]))
     print()
 
 
@@ -193,7 +194,7 @@ def main():
         rows = [measure(program, folder, kib, options.runs) for kib in sizes]
         sides = compare(program, folder, sizes[-1], options.runs)
     report(rows, base, start)
-    report_stores(sizes[-1], sides, start)
+    report_kinds(sizes[-1], sides, start)
 
 
 if __name__ == "__main__":

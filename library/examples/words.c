@@ -27,6 +27,7 @@ static const char *const rules[] = {
     [RVCFI_RULE_GATE] = "Gate",
     [RVCFI_RULE_ASTRAY] = "Astray",
     [RVCFI_RULE_END] = "End",
+    [RVCFI_RULE_LEAF] = "Leaf",
 };
 
 static void words_of_reject(const struct rvcfi_verdict *verdict, char words[WORDS_MOST])

@@ -29,7 +29,7 @@ extern "C" {
 #endif
 
 /* The outcome of rvcfi_verify. A number keeps its meaning, and a new meaning gets a new number. */
-#define RVCFI_ACCEPTED  0u /* the image and the graph meet the ten rules: every run of the image is safe */
+#define RVCFI_ACCEPTED  0u /* the image and the graph meet the rules: every run of the image is safe */
 #define RVCFI_BAD_IMAGE 1u /* the first text is no image: reason RVCFI_SHORT, RVCFI_BYTE or RVCFI_LONG */
 #define RVCFI_BAD_GRAPH 2u /* the second text is no graph: reason RVCFI_FORM, RVCFI_RANGE or RVCFI_ORDER */
 #define RVCFI_REJECTED  3u /* a rule fails: reason is the first that does, of RVCFI_RULE_* in their order */
@@ -57,6 +57,7 @@ extern "C" {
 #define RVCFI_RULE_GATE     8u
 #define RVCFI_RULE_ASTRAY   9u
 #define RVCFI_RULE_END      10u
+#define RVCFI_RULE_LEAF     11u
 
 struct rvcfi_verdict {
     uint32_t outcome; /* RVCFI_ACCEPTED to RVCFI_NO_MEMORY */

@@ -16,7 +16,7 @@ REFUSALS = {
     25: rb"Script N " + REASON, 26: rb"Harts [2-8]", 27: rb"Duplicate .*", 28: rb"TooManySections N",
 }
 IN_OBJECT = (*range(1, 9), 15)  # of several objects, those that tell which
-RULES = rb"(?:Prologue|Unit|Target|Unlisted|Unused|Site|Gate|Astray|End)"
+RULES = rb"(?:Prologue|Unit|Leaf|Target|Unlisted|Unused|Site|Gate|Astray|End)"
 REJECTED = [rb"rejected " + RULES + rb" " + ADDRESS, rb"rejected Length N N"]
 ITEM = rb"(?:" + rb" ".join([LONG] * 8) + rb" (?:-|(?:[0-9a-f]{2})+)|exit " + BYTE + rb"|break|stop|running)"
 DIFFERS = rb"differs N\nsource " + ITEM + rb"\nimage " + ITEM

@@ -1,15 +1,15 @@
 #!/usr/bin/env python3
 """Runs the model of graphs of version 3: of the rules, of runs and of hardening in the forms `lean` and `harts-lean`.
 
-    python3 tests/model/lean.py [--program PATH] [--all] [--many N] [--seed N] [--levels=-O2,..]
+    python3 tests/model/lean.py [--program PATH] [--hardens] [--many N] [--seed N] [--levels=-O2,..]
 
 (a) Each case of lean_rows.py and lean_cases.py has to have its literal numbers. (b) Each pair of lean_faults.py has to be rejected
 by the rule that its row tells, and its run has to leave its graph where and as the row tells, or to stay in it where it tells that.
 Rules and parts of them are switched off in turn, and some such pair whose run leaves its graph has to be accepted then. (c) No run
 of a drawn pair that is accepted may leave its graph. (d) Where levels are named, the programs of tests/real are compiled, and have
-to run hardened as in form `split`. With a program, its `verify` is asked of the pairs of versions 1 and 2 that confinement.py has,
-and has to answer as this model does; of version 3 it is asked with `--all` alone, `run` and `harden` too. The status is 1 where
-something failed.
+to run hardened as in form `split`. With a program, its `verify` is asked of the pairs of versions 1 and 2 that confinement.py has
+and of each pair of version 3, and its `run` of those that are accepted, and both have to answer as this model does; with `--hardens`
+its `harden` is asked of objects in both lean forms too. The status is 1 where something failed.
 """
 
 import argparse
@@ -73,23 +73,24 @@ def run_checks(told, lines):
         told.check(False, line)
 
 
-def run_program(told, seed, levels, is_all):
-    """What a program tells of pairs of versions 1 and 2, and of version 3 where it is asked of all."""
+def run_program(told, seed, levels, hardens):
+    """What a program tells of pairs, and of objects where it hardens in the lean forms."""
     pairs = [built for _, built in accepted.pairs(seed, 1)] + [fault.built for fault in faults.faults()]
     for number, built in enumerate(pairs):
         said = told_of(built.version, built.words, built.graph)
         got = told.verified(built.image, built.graph)
         told.check(got == (0 if said == "accepted" else 1, said + "\n"), "pair %d: the program says %r, not %s" % (number, got, said))
     print("asked of the program: %d pairs of versions 1 and 2" % len(pairs))
-    if is_all:
-        lean_asked.check_pairs(told, seed)
+    lean_asked.check_pairs(told, seed)
+    lean_asked.check_steps(told)
+    if hardens:
         lean_asked.check_objects(told, levels)
 
 
 def main():
     words = argparse.ArgumentParser(description=__doc__, formatter_class=argparse.RawDescriptionHelpFormatter)
-    words.add_argument("--program", help="asked to verify pairs of versions 1 and 2")
-    words.add_argument("--all", action="store_true", help="the program is asked of version 3 too: to verify, run and harden")
+    words.add_argument("--program", help="asked to verify pairs, and to run those of version 3 that are accepted")
+    words.add_argument("--hardens", action="store_true", help="the program is asked to harden in the lean forms too")
     words.add_argument("--many", type=int, default=1, help="so many times as many drawn pairs, at least 1")
     words.add_argument("--seed", type=int, default=1)
     words.add_argument("--levels", help="of compiled programs; with =, as --levels=-O2,-Os")
@@ -104,7 +105,7 @@ def main():
         levels = options.levels.split(",") if options.levels else []
         run_checks(told, lean_real.checks(levels) if levels else ())
         if options.program and Path(options.program).exists():
-            run_program(told, options.seed, levels, options.all)
+            run_program(told, options.seed, levels, options.hardens)
         elif options.program:
             print("not run, since there is no program: what it says of pairs")
     print("%d passed, %d failed" % (told.passed, told.failed))

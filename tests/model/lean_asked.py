@@ -1,5 +1,5 @@
 """What a program answers of graphs of version 3, compared with the model: `verify` of pairs, `run` of those that are accepted, and
-`harden` of objects in both forms, byte for byte. A program that does not judge them yet fails each of these."""
+`harden` of objects in both forms, byte for byte."""
 
 import random
 from pathlib import Path
@@ -10,10 +10,12 @@ import lean_faults
 import lean_rows
 import programs
 from forms import LEAN, LISTING, ROWS, STORING
-from hardener import Source, files_in, small_object, unlike, unlike_in
+from hardener import Source, files_in, policy_text, small_object, unlike, unlike_in
 from lean_hardener import LeanHardening
 from lean_real import compiled
 from lean_rules import pair_of, told as told_of
+from make_pointers import Q
+from make_vectors import P
 from runs import answer
 
 LIMIT = 1000
@@ -52,6 +54,29 @@ def check_pairs(told, seed):
             wanted = answer(whole, script, b"", LIMIT)
             told.check((done.returncode, done.stdout) == wanted, "%s: the program runs it to %r, not %r" % (name, done.stdout, wanted))
     print("asked of the program: %d pairs with graphs of version 3, and %d runs" % (count, runs))
+
+
+def turned_before(step, to):
+    return b"rvcfi-script 1\nat %d 00010000 %s\nend\n" % (step, to.to_bytes(4, "little").hex().encode())
+
+
+def check_steps(told):
+    """Runs of a computed call and of a computed jump, of one hart and of several, the pointer turned before each step in turn."""
+    count = 0
+    for form in LEAN:
+        for source, lines, targets in (Source(P.file()), (), 2), (Source(Q.file()), ("site h+0 g+0",), 2):
+            built = LeanHardening(source, "main", form, policy_text(None, lines) if lines else "").built
+            whole = built._replace(starts=pair_of(built.version, built.words, built.graph).starts())
+            told.verified(built.image, built.graph)
+            pointers = [int.from_bytes(built.data[8 * k:8 * k + 8], "little") for k in range(targets)]
+            for step in range(60):
+                for to in (*pointers, pointers[1] + 8, pointers[1] + 3):
+                    script, count = turned_before(step, to), count + 1
+                    (told.folder / "script").write_bytes(script)
+                    done = programs.run([told.program, "run", *(str(told.folder / each) for each in ("image", "graph", "script")), "none", str(LIMIT)])
+                    wanted = answer(whole, script, b"", LIMIT)
+                    told.check((done.returncode, done.stdout) == wanted, "%s, step %d to %x: %r, not %r" % (form, step, to, done.stdout, wanted))
+    print("asked of the program: %d runs, a pointer turned before each step" % count)
 
 
 def check_objects(told, levels):

@@ -16,12 +16,11 @@ use Rattle.rv_code.specs.declared.turn.Turn.TheVariants.{Ran, FetchFault}
 use Rattle.rv_code.proofs.Changes.{changed_above}
 use Rattle.cfi_graph.specs.Graph.{GraphParts, calls_in}
 use Rattle.cfi_unit.specs.Context.{IsCodeOf}
-use Rattle.cfi_unit.specs.Shadow.{MOST_PENDING}
 use Rattle.cfi_unit.proofs.Events.{call_adds, cases_call, quiet}
 use Rattle.cfi_rules.specs.Along.{AreStepsOf, OnRan}
 use Rattle.cfi_rules.specs.Listed.{AddsListed, IsListedCall, ListedAlong}
 use Rattle.cfi_rules.proofs.OnRan.{on_ran}
-use Rattle.cfi_confined.specs.Confined.{ConfinedAlong, IsAllowed, MayEcall, Moves, Pending, fetched, with_pending}
+use Rattle.cfi_confined.specs.Confined.{ConfinedAlong, IsAllowed, MayEcall, Moves, Pending, fetched, most_calls, with_pending}
 use Rattle.cfi_confined.specs.Laws.{ConfinedIsListed, ConfinedKeepsCode}
 
 module _ (p : Profile) (graph : GraphParts) (calls : List ℕ) (list_is : calls_in graph.lines ≡ Some calls) (h : Hart) (s : Shared) where
@@ -60,7 +59,7 @@ module _ (p : Profile) (graph : GraphParts) where
   -- what is owed after a step of hart `k` that ran
   abbrev Onward : Pending → Harts → Shared → ℕ → List HartStep → After → Type 0
   Onward pending hs s k rest a =
-      (newer : List ℕ) × (length newer ≤ MOST_PENDING) × Moves p graph (fetched s.memory) (fetched s.memory (hs k).pc) (hs k).pc (pending k) a.hart.pc newer
+      (newer : List ℕ) × (length newer ≤ most_calls p) × Moves p graph (fetched s.memory) (fetched s.memory (hs k).pc) (hs k).pc (pending k) a.hart.pc newer
       × ConfinedAlong p graph (with_pending pending k newer) (with_hart hs k a.hart) a.shared rest
 
   listed_along : (calls : List ℕ) → calls_in graph.lines ≡ Some calls → (steps : List HartStep) (pending : Pending) (hs : Harts) (s : Shared) →
@@ -72,7 +71,7 @@ module _ (p : Profile) (graph : GraphParts) where
       let a = step p h now in (
         step_adds p graph calls list_is h now c.1,
         on_ran a.turn (Onward pending hs now t.hart rest a) (Unit {0}) (ListedAlong p calls (with_hart hs t.hart a.hart) a.shared rest) (Unit {0})
-            (λ on. listed_along calls list_is rest (with_pending pending t.hart on.0) (with_hart hs t.hart a.hart) a.shared on.3) (λ none. none) c.3,
+            (λ on. listed_along calls list_is rest (with_pending pending t.hart on.0) (with_hart hs t.hart a.hart) a.shared on.3) (λ none. none) c.4,
       )
 
   -- a run that a step stopped is where the step left it
@@ -96,7 +95,7 @@ module _ (p : Profile) (graph : GraphParts) where
         let still : IsCodeOf (loaded image) a.shared.memory =
         λ k from to. c.2 k (omega arith) (inl (omega arith)) ∙ changed_above s.memory t.changes low.0.changes k (omega arith) ∙ code k from to in
         stopped_or_on KeepsCode after.turn after (run p after.harts after.shared rest) (Onward pending hs now t.hart rest a) still
-        (λ on. code_kept rest low.1 (with_pending pending t.hart on.0) (with_hart hs t.hart a.hart) a.shared still on.3) c.3
+        (λ on. code_kept rest low.1 (with_pending pending t.hart on.0) (with_hart hs t.hart a.hart) a.shared still on.3) c.4
 
 pub confined_listed : ConfinedIsListed
 confined_listed p image graph calls list_is confined count may harts s start steps low =

@@ -1,5 +1,6 @@
 pub mod Lines
 pub mod Words
+pub mod Sites
 pub mod Moves
 pub mod Writes
 pub mod Runs

@@ -1,6 +1,6 @@
 -- Lines that the rules give: each transfer of a well-formed image has its line, and no site line stands
 -- shortly before a unit.
-use Rattle.std.proofs.Common.{◌≡◌, ℕ, suc, ◌+◌, ◌<◌, ◌⊎◌, inl, inr, Bool, true, false, List, [], ◌∷◌, refl, sym, ap, subst, ◌∙◌, Option, Some, None, arith}
+use Rattle.std.proofs.Common.{◌≡◌, ℕ, suc, ◌+◌, ◌*◌, ◌<◌, ◌≤◌, ◌⊎◌, inl, inr, Bool, true, false, List, [], ◌∷◌, refl, sym, ap, subst, ◌∙◌, Option, Some, None, arith}
 use Rattle.std.specs.Prelude.{◌==◌, ◌&&◌, not, is_some, option_and_then}
 use Rattle.std.specs.List.{Contains}
 use Rattle.std.proofs.lemmas.Bool.{and_parts, cases_eq, eqb-true, ne_eqb, or_parts, false≢true}
@@ -8,7 +8,7 @@ use Rattle.std.proofs.lemmas.Option.{none-some, same_Some, slice_get-get_or}
 use Rattle.rv_word.specs.Image.{Contents}
 use Rattle.rv_word.specs.MemoryMap.{IsProfile, Profile}
 use Rattle.rv_word.proofs.Cases.{cases_Option, chosen}
-use Rattle.rv_word.proofs.Versions.{laid_out}
+use Rattle.rv_word.proofs.Profiles.{laid_out}
 use Rattle.cfi_graph.specs.declared.line.GraphLine.{GraphLine}
 use Rattle.cfi_graph.specs.declared.line.Sort.TheVariants as sorts
 use Rattle.cfi_graph.specs.declared.line.GraphLine.TheVariants.{Class, Site, Edge, Call}
@@ -23,6 +23,7 @@ use Rattle.cfi_unit.specs.declared.target_word.TargetWord.{TargetWord}
 use Rattle.cfi_unit.specs.declared.unit.Unit as U
 use Rattle.cfi_unit.specs.declared.unit.Unit.TheVariants as V
 use Rattle.cfi_unit.specs.UnitWords.{word_count}
+use Rattle.cfi_pending.specs.StartLaw.{stands_in}
 use Rattle.cfi_rules.specs.Laws.{AreBytes}
 use Rattle.cfi_rules.specs.Lines.{class_with, holds_of, is_among, line_at, or_class, serves, stands_at, targets_for}
 use Rattle.cfi_rules.specs.Rules.{IsWellFormed, call_of, edge_of, is_call_to, is_edge_to, is_lone_site, is_site_with, same_kind, site_of}
@@ -34,9 +35,9 @@ use Rattle.cfi_rules.proofs.Find.{UnitHere, no_unit}
 use Rattle.cfi_rules.proofs.LineOrder.{line_at-with, with_key}
 use Rattle.cfi_rules.proofs.Leading.{class_parts}
 use Rattle.cfi_rules.proofs.Places.{place_facts}
-use Rattle.cfi_rules.proofs.RuleFacts.{not_false}
+use Rattle.cfi_rules.proofs.RuleFacts.{not_false, unit_stands_in}
 use Rattle.cfi_rules.proofs.Served.{served}
-use Rattle.cfi_confined.specs.Confined.{IsSiteTo, NoSite, class_line}
+use Rattle.cfi_confined.specs.Confined.{IsSiteTo, NoSite, class_line, past_target}
 
 abbrev ListedAs : List GraphLine → ℕ → GraphLine → Type 0
 ListedAs lines a line = Contains lines line × (stands_at a line ≡ true)
@@ -125,14 +126,25 @@ serving_line lines sorts.Calls K.Jump which label ts e there = absurd (cc)
 serving_line lines sorts.Jumps K.Jump which label ts e there = inr there
 serving_line lines sorts.Jumps K.Call which label ts e there = absurd (cc)
 
--- the unit of a computed transfer has more than twelve words
-long_site : (place : Place) → is_some (site_of place) ≡ true → (u : U.Unit) × (place ≡ body u) × (12 < word_count u)
-long_site (body (V.Ijump which rs1 imm label)) e = (V.Ijump which rs1 imm label, refl, omega arith)
-long_site (body (V.Icall rs1 imm label)) e = (V.Icall rs1 imm label, refl, omega arith)
-long_site (body (V.LeanIjump rs1 imm label)) e = (V.LeanIjump rs1 imm label, refl, omega arith)
-long_site (body (V.LeanIcall rs1 imm label)) e = (V.LeanIcall rs1 imm label, refl, omega arith)
-long_site (body other) e = absurd (cc)
-long_site other e = absurd (cc)
+-- how many words the unit of a computed transfer has at least, by who saves sites
+abbrev pub site_words : Bool → ℕ
+site_words false = 13
+site_words true = 15
+
+long_site : (callee_saves : Bool) (unit : U.Unit) → stands_in callee_saves unit ≡ true → is_some (site_of (body unit)) ≡ true → site_words callee_saves ≤ word_count unit
+long_site false (V.Ijump which rs1 imm label) stands e = omega arith
+long_site false (V.Icall rs1 imm label) stands e = omega arith
+long_site true (V.LeanIjump rs1 imm label) stands e = omega arith
+long_site true (V.LeanIcall rs1 imm label) stands e = omega arith
+long_site true (V.Ijump which rs1 imm label) stands e = absurd (cc)
+long_site true (V.Icall rs1 imm label) stands e = absurd (cc)
+long_site false (V.LeanIjump rs1 imm label) stands e = absurd (cc)
+long_site false (V.LeanIcall rs1 imm label) stands e = absurd (cc)
+long_site callee_saves other stands e = absurd (cc)
+
+unit_site : (place : Place) → is_some (site_of place) ≡ true → (unit : U.Unit) × (place ≡ body unit)
+unit_site (body unit) e = (unit, refl)
+unit_site other e = absurd (cc)
 
 module _ (p : Profile) (profile : IsProfile p) (image : Contents) (graph : GraphParts) (bytes : AreBytes image) (formed : IsWellFormed p image graph) where
   abbrev W : List ℕ
@@ -163,9 +175,10 @@ module _ (p : Profile) (profile : IsProfile p) (image : Contents) (graph : Graph
         let (line, there, at, is) = listed_by graph.lines a (λ o. is_call_to o t) refl (not_false (is_call_to (line_at graph.lines a) t) (rw (here, call) at rule)) in
         subst (Contains graph.lines) (call_is a line t at is) there
 
-    -- a computed transfer to a target of its class
-    pub site_to : (asked : Asks) (v : ℕ) → site_of place ≡ Some asked → InClass graph.lines asked.kind asked.which asked.label v → IsSiteTo graph.lines asked.kind a v
-    site_to asked v site inside =
+    -- a computed transfer to where a target of its class leads
+    pub site_to : (asked : Asks) (v to : ℕ) → site_of place ≡ Some asked → InClass graph.lines asked.kind asked.which asked.label v →
+        to ≡ v + past_target graph.version asked.kind → IsSiteTo graph.version graph.lines asked.kind a to
+    site_to asked v to site inside behind =
         let rule = (sites_listed a).0 in
         let both = not_false (is_site_with (line_at graph.lines a) asked && is_some (targets_for graph.lines asked.kind asked.which asked.label)) (rw (here, site) at rule) in
         let (line_a, there_a, at, is) = listed_by graph.lines a (λ o. is_site_with o asked) refl (and_parts _ _ both).0 in
@@ -178,13 +191,15 @@ module _ (p : Profile) (profile : IsProfile p) (image : Contents) (graph : Graph
         record {
           label = asked.label;
           targets = ts;
+          gate = v;
           listed = subst (Contains graph.lines) (site_is a line_a asked at is) there_a;
           class = serving_line graph.lines s.class.sort asked.kind asked.which asked.label ts s.serving line;
           target = among_is v ts among;
+          behind = behind;
         }
 
-  -- no site line stands less than thirteen words before a unit
-  pub no_site : IsGraph graph → (a b : ℕ) (u : U.Unit) → UnitHere p W b u → a < b → b < a + 52 → NoSite graph.lines a
+  -- no site line stands fewer words before a unit than the unit of a computed transfer has
+  pub no_site : IsGraph graph → (a b : ℕ) (u : U.Unit) → UnitHere p W b u → a < b → b < a + 4 * site_words p.callee_saves → NoSite graph.lines a
   no_site ordered a b u here low high kind label (k, within, is) =
       let there = line_at-with graph.lines a
       ∙ with_key graph.lines (Address a) ordered.order k (Site a kind label) (slice_get-get_or graph.lines k (Site a kind label) within ∙ ap Some is) refl in
@@ -194,7 +209,9 @@ module _ (p : Profile) (profile : IsProfile p) (image : Contents) (graph : Graph
       elim (cases_Option (place_at p W a)) [
         | inl none ↦ false≢true (sym (ap (λ o. is_some (option_and_then site_of o)) none) ∙ site)
         | inr (place, some) ↦
-            let (unit, is_unit, long) = long_site place (sym (ap (λ o. is_some (option_and_then site_of o)) some) ∙ site) in
+            let there : is_some (site_of place) ≡ true = sym (ap (λ o. is_some (option_and_then site_of o)) some) ∙ site in
+            let (unit, is_unit) = unit_site place there in
             let facts = place_facts p profile image graph bytes formed a (body unit) (some ∙ ap Some is_unit) in
+            let long = long_site p.callee_saves unit (unit_stands_in p image graph formed a unit facts.is) (sym (ap (λ q. is_some (site_of q)) is_unit) ∙ there) in
             none-some u (sym (no_unit p (laid_out p profile) W b (facts.inner b low (omega arith))) ∙ here.is)
       ]

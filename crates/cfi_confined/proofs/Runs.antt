@@ -1,15 +1,15 @@
 -- A well-formed pair is confined: by induction on the steps, each of which keeps what is known of all harts.
-use Rattle.std.proofs.Common.{◌≡◌, ℕ, ◌+◌, ◌*◌, ◌<◌, ◌≤◌, inl, inr, true, List, [], ◌∷◌, length, refl, sym, ap, subst, ◌∙◌, Option, Some, None, arith}
-use Rattle.std.specs.Prelude.{slice_get}
+use Rattle.std.proofs.Common.{◌≡◌, ℕ, ◌+◌, ◌*◌, ◌^◌, ◌<◌, ◌≤◌, ◌⊎◌, inl, inr, Bool, true, false, List, [], ◌∷◌, length, refl, sym, ap, subst, ◌∙◌, Option, Some, None, arith}
+use Rattle.std.specs.Prelude.{if◌then◌else◌, slice_get}
 use Rattle.std.specs.List.{AllByRecursion}
 use Rattle.std.proofs.lemmas.Bool.{cases_eq, eq-eqb, ne_eqb}
-use Rattle.std.proofs.lemmas.Option.{slice_get_within}
+use Rattle.std.proofs.lemmas.Option.{same_Some, slice_get_within}
 use Rattle.rv_word.specs.Image.{Contents}
 use Rattle.rv_word.specs.MemoryMap.{PART_SIZE, START, IsProfile, MayRun, Profile, part_of}
 use Rattle.rv_word.specs.Memory.{Memory, loaded}
 use Rattle.rv_word.specs.Same.{SameOn}
 use Rattle.rv_word.proofs.Cases.{cases_Option}
-use Rattle.rv_word.proofs.Versions.{laid_out}
+use Rattle.rv_word.proofs.Profiles.{laid_out}
 use Rattle.rv_instr.specs.Registers.{Registers}
 use Rattle.rv_instr.specs.declared.instr.Instr.{Instr}
 use Rattle.rv_instr.specs.declared.instr.Instr.TheVariants.{Ecall}
@@ -18,44 +18,48 @@ use Rattle.rv_code.specs.Run.{ByteChange, HartStep, IsDataChange, changed, distu
 use Rattle.rv_code.specs.State.{After, Hart, Harts, Shared, last_exit, with_hart}
 use Rattle.rv_code.specs.Step.{exec, step}
 use Rattle.rv_code.specs.declared.turn.Turn.{Turn}
-use Rattle.rv_code.specs.declared.turn.Turn.TheVariants.{Ran}
+use Rattle.rv_code.specs.declared.turn.Turn.TheVariants.{Ran, Exit, Break, LoadFault, StoreFault, FetchFault, Illegal}
 use Rattle.rv_code.proofs.Frames.{read_same}
 use Rattle.cfi_graph.specs.Graph.{GraphParts, IsGraph, calls_in}
 use Rattle.cfi_unit.specs.Context.{Context, IsCodeOf}
 use Rattle.cfi_unit.specs.EventLaw.{MayCall}
-use Rattle.cfi_unit.specs.Flow as F
-use Rattle.cfi_unit.specs.Flow.{Act, flow_of}
-use Rattle.cfi_unit.specs.InPlace.{InPlace}
+use Rattle.cfi_unit.specs.Flow.{flow_of}
 use Rattle.cfi_unit.specs.declared.place.Place.{Place}
 use Rattle.cfi_unit.specs.declared.place.Place.TheVariants.{Handler as handler, Opening as opening, Closing as closing, Body as body}
-use Rattle.cfi_unit.specs.declared.unit.SystemOp.TheVariants as S
 use Rattle.cfi_unit.specs.declared.unit.Unit as U
-use Rattle.cfi_unit.specs.Leads.{Leads, by_label}
+use Rattle.cfi_unit.specs.declared.unit.Unit.TheVariants as V
 use Rattle.cfi_unit.specs.Place.{IsWordOf, place_instrs}
-use Rattle.cfi_unit.specs.Shadow.{MOST_PENDING, Holds}
+use Rattle.cfi_unit.specs.Prologue.{OPENING, opening_instrs}
+use Rattle.cfi_unit.specs.Shadow.{MOST_PENDING}
 use Rattle.cfi_unit.specs.Stand.{Stand}
-use Rattle.cfi_unit.specs.UnitLaw.{ActEnds, Ends, MayStand, Outcome, stays, leaves, ends}
-use Rattle.cfi_unit.proofs.Changed.{in_place_changed}
-use Rattle.cfi_unit.proofs.Context.{at_word, holds_same}
+use Rattle.cfi_unit.specs.UnitLaw.{MayStand}
+use Rattle.cfi_unit.specs.UnitWords.{Fits, Reaches}
+use Rattle.cfi_unit.proofs.Context.{at_word}
 use Rattle.cfi_unit.proofs.Events.{place_may}
 use Rattle.cfi_unit.proofs.Others.{other_part}
-use Rattle.cfi_unit.proofs.Parts.{own_is_part}
-use Rattle.cfi_unit.proofs.PlaceWords.{place_word}
-use Rattle.cfi_unit.proofs.UnitSteps.{unit_law}
-use Rattle.cfi_rules.specs.Along.{AreStepsOf, MayStart, OnRan}
+use Rattle.cfi_unit.proofs.Sought.{nowhere, opening_lacks}
+use Rattle.cfi_pending.specs.Opening as lean
+use Rattle.cfi_pending.specs.Starts.{Start, StandsBy, fresh, may_stand, saved}
+use Rattle.cfi_pending.proofs.StartSteps.{stacked_of}
+use Rattle.cfi_rules.specs.Along.{AreStepsOf, MayBreak, MayEnd, MayExit, MayFault, MayStart, OnRan, PlaceLeads, Walk}
 use Rattle.cfi_rules.specs.Laws.{AreBytes}
 use Rattle.cfi_rules.specs.Rules.{IsWellFormed}
 use Rattle.cfi_rules.specs.Split.{code_words, is_handler, place_at}
-use Rattle.cfi_rules.proofs.Bytes.{loaded_small}
-use Rattle.cfi_rules.proofs.Labels.{may_stand, place_stands}
+use Rattle.cfi_rules.specs.Walk.{by_class}
+use Rattle.cfi_rules.proofs.Labels.{full_may_stand, place_stands}
 use Rattle.cfi_rules.proofs.ListedRuns.{act_listed, admitted}
-use Rattle.cfi_rules.proofs.Moves.{full_place, Stage, arrive}
+use Rattle.cfi_rules.proofs.Moves.{Arrived, SitesStand, Stage, most_at}
+use Rattle.cfi_rules.proofs.OnRan.{on_ran}
 use Rattle.cfi_rules.proofs.Places.{PlaceFacts, at_opening, handler_is, nothing_inside, place_facts, prologue}
-use Rattle.cfi_rules.proofs.Safety.{begins, changed_above, first_call, most_pending, past, pointed}
-use Rattle.cfi_confined.specs.Confined.{ConfinedAlong, IsAllowed, IsHandler, MayEcall, MayStop, Moves, Pending, WritesOwn, fetched, with_pending}
+use Rattle.cfi_rules.proofs.RuleFacts.{unit_stands_in}
+use Rattle.cfi_rules.proofs.Safety.{changed_above}
+use Rattle.cfi_rules.proofs.StartKinds.{full_there, stands_there, start_there}
+use Rattle.cfi_rules.proofs.Steps.{InOpens, InUnitNow, Inside, Now, Ready, are_sites, arrived, begins, full_opens, inside_kept, lean_opens, opens_at, starting, step_on, within}
+use Rattle.cfi_confined.specs.Confined.{ConfinedAlong, IsAllowed, IsHandler, MayEcall, MayStop, Moves, Pending, SavesNewest, WritesOwn, fetched, most_calls, slot_for, with_pending}
 use Rattle.cfi_confined.specs.Laws.{WellFormedIsConfined}
-use Rattle.cfi_confined.proofs.Moves.{Went, moves}
-use Rattle.cfi_confined.proofs.Words.{Here, place_here}
+use Rattle.cfi_confined.proofs.Moves.{Standing, moves, sites_of}
+use Rattle.cfi_confined.proofs.Sites.{Went, low_sites, site_stands}
+use Rattle.cfi_confined.proofs.Words.{Here, closing_here, handler_here, lean_opening_here, opening_here, unit_here}
 use Rattle.cfi_confined.proofs.Writes.{writes}
 
 -- an instruction that stands in the image is fetched where code is the image's
@@ -65,6 +69,21 @@ fetched_there image m at instrs code stand k i is =
     let below = slice_get_within instrs k i is in
     let low = stand.low in let high = stand.high in
     ap decoded (read_same 4 image m (at + 4 * k) (λ j from to. code j (omega arith) (omega arith))) ∙ stand.words k i is
+
+-- how many calls may be pending at a start
+most_of : (p : Profile) (callee_saves : Bool) → p.callee_saves ≡ callee_saves → (start : Start) → (callee_saves ≡ false → start ≡ saved) → most_at start ≤ most_calls p
+most_of p true saves fresh full = let most = ap (λ b. if b then MOST_PENDING + 1 else MOST_PENDING) saves in omega arith
+most_of p true saves saved full = let most = ap (λ b. if b then MOST_PENDING + 1 else MOST_PENDING) saves in omega arith
+most_of p false saves start full =
+    let most = ap (λ b. if b then MOST_PENDING + 1 else MOST_PENDING) saves in
+    let same = ap most_at (full refl) in omega arith
+
+-- an enter stands at a fresh start
+enter_fresh : (start : Start) (unit : U.Unit) → may_stand start unit ≡ true → body unit ≡ body V.Enter → start ≡ fresh
+enter_fresh fresh unit may is = refl
+enter_fresh saved unit may is =
+    let same : unit ≡ V.Enter = cc in
+    let there : may_stand saved V.Enter ≡ true = subst (λ (u : U.Unit). may_stand saved u ≡ true) same may in absurd (cc)
 
 module _ (p : Profile) (profile : IsProfile p) (image : Contents) (graph : GraphParts) (bytes : AreBytes image) (formed : IsWellFormed p image graph) where
   abbrev W : List ℕ
@@ -87,26 +106,41 @@ module _ (p : Profile) (profile : IsProfile p) (image : Contents) (graph : Graph
   passes closing at pc facts word other = let layout = laid_out p profile in let here = word.2 in omega arith
   passes (body unit) at pc facts word other = let layout = laid_out p profile in let low = facts.low in let here = word.2 in omega arith
 
-  -- how a place may end, so may its words
-  module _ (at pc : ℕ) (turn : Turn) (next : Type 0) where
-    abbrev Stops : Turn → Type 0
-    Stops t = MayStop p pc t × OnRan t next (Unit {0})
+  -- as a place may end, so may its words
+  module _ (at pc : ℕ) where
+    exits_past : (place : Place) → Facts place at → IsWordOf p place at pc → MayExit place → START ≤ pc
+    exits_past handler facts word may = absurd may
+    exits_past (opening entry) facts word may = absurd may
+    exits_past closing facts word may = passes closing at pc facts word (λ e. absurd (cc))
+    exits_past (body unit) facts word may = passes (body unit) at pc facts word (λ e. absurd (cc))
 
-    act_stops : p.units_from ≤ pc → (act : Act) → ActEnds act at turn → Stops turn
-    act_stops low (F.does instr) how = subst Stops (sym how.1) (low, tt)
-    act_stops low (F.system S.Ecall) how = let layout = laid_out p profile in subst Stops (sym how.1) (omega arith, tt)
-    act_stops low (F.system S.Ebreak) how = subst Stops (sym how) (inr low, tt)
-    act_stops low F.calls how = let layout = laid_out p profile in subst Stops (sym how.1) (omega arith, tt)
-    act_stops low other how = absurd how
+    unit_past : (unit : U.Unit) → Facts (body unit) at → IsWordOf p (body unit) at pc → p.units_from ≤ pc
+    unit_past unit facts word = let low = facts.low in let here = word.2 in omega arith
 
-    stops : (place : Place) → Facts place at → IsWordOf p place at pc → Ends place at turn → Stops turn
-    stops handler facts word how =
+    breaks_there : (place : Place) → Facts place at → IsWordOf p place at pc → MayBreak place → IsHandler pc ⊎ (p.units_from ≤ pc)
+    breaks_there handler facts word may =
         let first = word.1 in let here = word.2 in
         let same : at ≡ pc = omega arith in
-        subst Stops (sym how) (inl (subst IsHandler same (handler_low at facts)), tt)
-    stops (opening entry) facts word how = absurd how
-    stops closing facts word how = let layout = laid_out p profile in let here = word.2 in subst Stops (sym how.1) (omega arith, tt)
-    stops (body unit) facts word how = let low = facts.low in let here = word.2 in act_stops (omega arith) (flow_of unit).act how
+        inl (subst IsHandler same (handler_low at facts))
+    breaks_there (opening entry) facts word may = absurd may
+    breaks_there closing facts word may = absurd may
+    breaks_there (body unit) facts word may = inr (unit_past unit facts word)
+
+    faults_there : (place : Place) → Facts place at → IsWordOf p place at pc → MayFault place → p.units_from ≤ pc
+    faults_there handler facts word may = absurd may
+    faults_there (opening entry) facts word may = absurd may
+    faults_there closing facts word may = absurd may
+    faults_there (body unit) facts word may = unit_past unit facts word
+
+    stops : (X Y : Type 0) (place : Place) → Facts place at → IsWordOf p place at pc → (turn : Turn) → MayEnd place pc turn → OnRan turn ((START ≤ pc) × X) Y →
+        MayStop p pc turn
+    stops X Y place facts word Ran may on = on.0
+    stops X Y place facts word (Exit status) may on = exits_past place facts word may
+    stops X Y place facts word (Break a) may on = breaks_there place facts word may.1
+    stops X Y place facts word (LoadFault b a) may on = faults_there place facts word may.1
+    stops X Y place facts word (StoreFault b a) may on = absurd may
+    stops X Y place facts word (FetchFault b) may on = absurd may
+    stops X Y place facts word (Illegal b) may on = absurd may
 
   -- what a unit or the closing may call
   allowed : (at : ℕ) (unit : U.Unit) (h : Hart) → Facts (body unit) at → MayCall (body unit) at h → IsAllowed (calls_in graph.lines) (h.regs 17)
@@ -127,122 +161,293 @@ module _ (p : Profile) (profile : IsProfile p) (image : Contents) (graph : Graph
   may_ecall place at h facts word Ecall may = may_call place at h facts word (may refl)
   may_ecall place at h facts word other may = tt
 
+  abbrev walk_of : ℕ → List ℕ → Registers → Walk
+  walk_of at pending regs = record { at = at; pending = pending; regs = regs }
+
   -- what is known of a hart, and of its own part of the shadow stack, between two steps
   pub record Within (part : ℕ) (pending : List ℕ) (h : Hart) (m : Memory) : Type 0 where
     at : ℕ
     place : Place
     regs : Registers
     is : place_at p W at ≡ Some place
-    stage : Stage p profile image graph bytes formed place pending
-    held : Holds part m pending
-    inside : InPlace p part (loaded image) place at pending regs h m
+    few : length pending ≤ most_calls p
+    inside : Inside p profile image graph bytes formed part place (walk_of at pending regs) h m
 
   -- changes outside of the own part keep it
   within_kept : (part : ℕ) (pending : List ℕ) (h : Hart) (m m' : Memory) → SameOn part (part + PART_SIZE) m m' → Within part pending h m → Within part pending h m'
-  within_kept part pending h m m' same w =
-      let most = most_pending p profile image graph bytes formed w.place pending w.stage in
-      record {
-        at = w.at;
-        place = w.place;
-        regs = w.regs;
-        is = w.is;
-        stage = w.stage;
-        held = holds_same part pending m m' (λ k from to. same k from (omega arith)) w.held;
-        inside = in_place_changed part m m' same p (loaded image) w.place w.at pending w.regs h w.inside;
-      }
+  within_kept part pending h m m' same w = record {
+    at = w.at;
+    place = w.place;
+    regs = w.regs;
+    is = w.is;
+    few = w.few;
+    inside = inside_kept p profile image graph bytes formed part m m' same w.place (walk_of w.at pending w.regs) h w.inside;
+  }
+
+  -- the word at which a hart is
+  pub record Worded (part at : ℕ) (pending : List ℕ) (r : Registers) (h : Hart) (place : Place) : Type 0 where
+    pub stacked : List ℕ
+    pub here : Here p part (loaded image) at stacked r h place
+    pub standing : (newer : List ℕ) (v : ℕ) → Standing p profile image graph bytes formed at pending stacked r newer v place
+    pub full : p.callee_saves ≡ false → stacked ≡ pending
+    pub lean : place ≡ body V.Enter → StandsBy fresh r pending stacked × (r 1 < 2 ^ 64)
+    pub call : here.instr ≡ Ecall → MayCall place at h
+
+  module _ (part : ℕ) (low : part < 2 ^ 32) (at : ℕ) (small : at < 2 ^ 32) (pending : List ℕ) (r : Registers) (h : Hart) (m : Memory) where
+    abbrev WordIs : Place → Type 0
+    WordIs place = Worded part at pending r h place
+
+    opening_worded : (entry : ℕ) → Facts (opening entry) at → pending ≡ [] → Here p part (loaded image) OPENING [] r h (opening entry) → WordIs (opening entry)
+    opening_worded entry facts none there =
+        let here : Here p part (loaded image) at [] r h (opening entry) =
+        subst (λ (a : ℕ). Here p part (loaded image) a [] r h (opening entry)) (sym facts.0) there in
+        record {
+          stacked = [];
+          here = here;
+          standing = λ newer v. tt;
+          full = λ saves. sym none;
+          lean = λ e. absurd (cc);
+          call = λ e. absurd (nowhere false (opening_instrs p entry) here.word Ecall refl (opening_lacks false p profile entry) (here.is ∙ ap Some e));
+        }
+
+    opens_worded : (entry : ℕ) → Facts (opening entry) at → pending ≡ [] → InOpens p profile image graph bytes formed part h m → WordIs (opening entry)
+    opens_worded entry facts none (full_opens full i) =
+        let may = full_may_stand p profile image graph bytes formed full entry at facts in
+        opening_worded entry facts none (opening_here p full part low (loaded image) r h entry may.3 i)
+    opens_worded entry facts none (lean_opens lean_is several this i) =
+        let fits : Fits (V.LinkCall entry) (lean.call_at several) = subst (λ (a : ℕ). Reaches a entry) this.call facts.1.reaches in
+        opening_worded entry facts none (lean_opening_here p part (loaded image) r h entry several this fits i)
+
+    abbrev kind : Start
+    kind = start_there p profile image graph bytes formed at
+
+    full_stacked : (start : Start) (stacked : List ℕ) → start ≡ saved → StandsBy start r pending stacked → stacked ≡ pending
+    full_stacked saved stacked is stands = stands
+    full_stacked fresh stacked is stands = absurd (cc)
+
+    link_low : (sites stacked : List ℕ) → SitesStand p profile image graph bytes formed sites → StandsBy fresh r sites stacked → r 1 < 2 ^ 64
+    link_low [] stacked stand stands = absurd stands
+    link_low (site ∷ older) stacked stand stands =
+        let low = (site_stands p profile image graph bytes formed site older stand).small in let newest = stands.0 in omega arith
+
+    unit_worded : (unit : U.Unit) → place_at p W at ≡ Some (body unit) → InUnitNow p profile image graph bytes formed part unit (walk_of at pending r) h m → WordIs (body unit)
+    unit_worded unit is i =
+        let here = place_facts p profile image graph bytes formed at (body unit) is in
+        let may_here = stands_there p profile image graph bytes formed at unit here.is in
+        let there = unit_here p part (loaded image) at i.stacked r h small low unit m (unit_stands_in p image graph formed at unit here.is) here.begins.fits i.word in
+        let may : MayStand p (body unit) at i.stacked =
+        (here.begins.fits, stacked_of kind r pending i.stacked i.stands (are_sites p profile image graph bytes formed pending i.stage.sites)) in
+        record {
+          stacked = i.stacked;
+          here = there;
+          standing = λ newer v. record { start = kind; may = may_here; stands = i.stands; sites = i.stage.sites };
+          full = λ saves. full_stacked kind i.stacked (full_there p profile image graph bytes formed saves at) i.stands;
+          lean = λ e.
+              let stands : StandsBy fresh r pending i.stacked =
+              subst (λ (start : Start). StandsBy start r pending i.stacked) (enter_fresh kind unit may_here e) i.stands in
+              (stands, link_low pending i.stacked i.stage.sites stands);
+          call = λ e. place_may p part (loaded image) at i.stacked r h m there.word there.pc (body unit) may i.word (there.is ∙ ap Some e);
+        }
+
+    pub worded : (place : Place) → place_at p W at ≡ Some place → Inside p profile image graph bytes formed part place (walk_of at pending r) h m → WordIs place
+    worded handler is i =
+        let there = handler_here p part (loaded image) at pending r h small low i in
+        record {
+          stacked = pending;
+          here = there;
+          standing = λ newer v. tt;
+          full = λ saves. refl;
+          lean = λ e. absurd (cc);
+          call = λ e. place_may p part (loaded image) at pending r h m there.word there.pc handler tt i (there.is ∙ ap Some e);
+        }
+    worded (opening entry) is i = opens_worded entry (place_facts p profile image graph bytes formed at (opening entry) is) i.0 i.1
+    worded closing is i =
+        let there = closing_here p part (loaded image) at pending r h small low i in
+        record {
+          stacked = pending;
+          here = there;
+          standing = λ newer v. tt;
+          full = λ saves. refl;
+          lean = λ e. absurd (cc);
+          call = λ e. place_may p part (loaded image) at pending r h m there.word there.pc closing tt i (there.is ∙ ap Some e);
+        }
+    worded (body unit) is i = unit_worded unit is i
 
   -- one step of a hart from inside of a place, and then what is owed
   module _ (ordered : IsGraph graph) (hart : ℕ) (below : hart < p.harts) (pending : List ℕ) (h : Hart) (s : Shared) (going : last_exit s.events ≡ None)
       (code : IsCodeOf (loaded image) s.memory) (w : Within (part_of hart) pending h s.memory) (Next : List ℕ → After → Type 0)
-      (go_on : (newer : List ℕ) (a : After) → Context (part_of hart) (loaded image) s.memory newer a.shared → Within (part_of hart) newer a.hart a.shared.memory → Next newer a) where
+      (go_on : (newer : List ℕ) (a : After) (stacked : List ℕ) → Context (part_of hart) (loaded image) s.memory stacked a.shared →
+      Within (part_of hart) newer a.hart a.shared.memory → Next newer a) where
     facts : Facts w.place w.at
     facts = place_facts p profile image graph bytes formed w.at w.place w.is
-
-    may : MayStand p w.place w.at pending
-    may = may_stand p profile image graph bytes formed w.place w.at pending facts (first_call p profile image graph bytes formed w.place pending w.stage)
 
     stand : Stand (loaded image) w.at (place_instrs p w.place w.at)
     stand = place_stands p profile image graph bytes formed w.place w.at facts
 
-    word : IsWordOf p w.place w.at h.pc
-    word = place_word p (part_of hart) (loaded image) w.place w.at pending w.regs h s.memory may w.inside
+    abbrev walk : Walk
+    walk = walk_of w.at pending w.regs
 
-    most : length pending ≤ MOST_PENDING
-    most = most_pending p profile image graph bytes formed w.place pending w.stage
-
-    pub there : Here p (part_of hart) (loaded image) w.at pending w.regs h w.place
-    there =
+    pub word_is : Worded (part_of hart) w.at pending w.regs h w.place
+    word_is =
         let laid = laid_out p profile in let parts = laid.most in let low = stand.low in let high = stand.high in
-        place_here p (part_of hart) (loaded image) w.place w.at pending w.regs h s.memory (omega arith) (omega arith)
-        (full_place p profile image graph bytes formed w.place w.at facts) may w.inside
+        worded (part_of hart) (omega arith) w.at (omega arith) pending w.regs h s.memory w.place w.is w.inside
 
-    abbrev ItsOutcome : After → Type 0
-    ItsOutcome a = Outcome p (part_of hart) (loaded image) s.memory w.place w.at pending w.regs a
+    abbrev there : Here p (part_of hart) (loaded image) w.at word_is.stacked w.regs h w.place
+    there = word_is.here
 
-    context : Context (part_of hart) (loaded image) s.memory pending s
-    context = record { going = going; kept = record { code = code; held = w.held; frame = λ k from out. refl } }
+    -- where a step went that ran, and what is known there: a handler does not run on
+    record Gone (a : After) : Type 0 where
+      newer : List ℕ
+      few : length newer ≤ most_calls p
+      other : w.place ≡ handler → ⊥
+      went : Went p profile image graph bytes formed w.at pending w.regs newer a.hart.pc w.place
+      next : Next newer a
 
-    -- its word, and what that leaves
+    few_there : (v : ℕ) (newer : List ℕ) (place : Place) (start : Start) → place_at p W v ≡ Some place → Stage p profile image graph bytes formed place start v newer →
+        (v < START → newer ≡ pending) → length newer ≤ most_calls p
+    few_there v newer handler start is stage low =
+        let handled = handler_low v (place_facts p profile image graph bytes formed v handler is) in
+        let same = ap length (low handled.1) in let few = w.few in omega arith
+    few_there v newer (opening entry) start is stage low = absurd stage
+    few_there v newer closing start is stage low = let none = ap length stage.1 in omega arith
+    few_there v newer (body unit) start is stage low =
+        let most = stage.1.most in
+        let all = most_of p p.callee_saves refl start (λ full. sym stage.0 ∙ full_there p profile image graph bytes formed full v) in omega arith
+
+    abbrev InsideHere : Place → Walk → After → Type 0
+    InsideHere place x a = Inside p profile image graph bytes formed (part_of hart) place x a.hart a.shared.memory
+
+    gone_inside : (a : After) (stacked : List ℕ) → Context (part_of hart) (loaded image) s.memory stacked a.shared → w.at < a.hart.pc → InsideHere w.place walk a → Gone a
+    gone_inside a stacked c low i =
+        let word = (step_on p profile image graph bytes formed hart below a.hart a.shared c.going c.kept.code (λ x b. Unit {0}) (λ x b sites d now. tt) walk w.place w.is i).word in
+        let size = word.1 in let here = word.2 in
+        record {
+          newer = pending;
+          few = w.few;
+          other = λ is. let stays : a.hart.pc ≡ w.at = subst (λ (q : Place). InsideHere q walk a) is i in omega arith;
+          went = inl (nothing_inside p profile image graph bytes formed w.place w.at a.hart.pc facts low (omega arith), refl);
+          next = go_on pending a stacked c (record { at = w.at; place = w.place; regs = w.regs; is = w.is; few = w.few; inside = i });
+        }
+
+    gone_to : (a : After) (stacked : List ℕ) → Context (part_of hart) (loaded image) s.memory stacked a.shared → (start : Start) (newer : List ℕ) →
+        Arrived p profile image graph bytes formed w.place walk start a.hart.pc newer → Ready p profile image graph bytes formed (part_of hart) start newer a.hart a.shared.memory → Gone a
+    gone_to a stacked c start newer to ready =
+        let went : Went p profile image graph bytes formed w.at pending w.regs newer a.hart.pc w.place = inr (to.settled.place, to.settled.is, to.leads) in
+        let few = few_there a.hart.pc newer to.settled.place start to.settled.is to.settled.stage
+        (λ low. low_sites p profile image graph bytes formed w.at pending w.regs newer a.hart.pc low w.place w.is
+        (sites_of p profile image graph bytes formed w.at pending word_is.stacked w.regs newer a.hart.pc w.place (word_is.standing newer a.hart.pc)) went) in
+        record {
+          newer = newer;
+          few = few;
+          other = λ is. subst (λ (q : Place). PlaceLeads p (by_class graph.lines) q w.at pending w.regs newer a.hart.pc) is to.leads;
+          went = went;
+          next = go_on newer a stacked c (record {
+            at = a.hart.pc;
+            place = to.settled.place;
+            regs = a.hart.regs;
+            is = to.settled.is;
+            few = few;
+            inside = (begins p profile image graph bytes formed hart below a.hart a.shared c.going c.kept.code to.settled.place start newer to.settled.is to.settled.stage ready).0;
+          });
+        }
+
+    same_place : (x : Walk) (place : Place) → x ≡ walk → place_at p W x.at ≡ Some place → place ≡ w.place
+    same_place x place same is = same_Some place w.place (sym is ∙ ap (λ (y : Walk). place_at p W y.at) same ∙ w.is)
+
+    abbrev Rest : Walk → After → Type 0
+    Rest x a = x ≡ walk → Gone a
+
+    gone : (x : Walk) (a : After) (stacked : List ℕ) → Context (part_of hart) (loaded image) s.memory stacked a.shared →
+        Now p profile image graph bytes formed (part_of hart) (Some x) a.hart a.shared.memory → Rest x a
+    gone x a stacked c (starting none e mine) same = absurd (cc)
+    gone x a stacked c (within y place b is low i) same =
+        let here : y ≡ walk = sym (same_Some x y b) ∙ same in
+        let place_is = same_place y place here is in
+        gone_inside a stacked c (subst (λ (z : Walk). z.at < a.hart.pc) here low)
+        (subst (λ (q : Place). InsideHere q walk a) place_is (subst (λ (z : Walk). InsideHere place z a) here i))
+    gone x a stacked c (arrived y place start newer b is to ready) same =
+        let here : y ≡ walk = sym (same_Some x y b) ∙ same in
+        let place_is = same_place y place here is in
+        gone_to a stacked c start newer
+        (subst (λ (q : Place). Arrived p profile image graph bytes formed q walk start a.hart.pc newer) place_is
+        (subst (λ (z : Walk). Arrived p profile image graph bytes formed place z start a.hart.pc newer) here to)) ready
+
     abbrev its : Instr
     its = there.instr
 
     abbrev left : After
     left = exec p its h s
 
+    abbrev after : After
+    after = step p h s
+
+    begun : (place : Place) × (place_at p W w.at ≡ Some place) × IsWordOf p place w.at h.pc × MayEnd place h.pc after.turn
+    begun =
+        let b = (step_on p profile image graph bytes formed hart below h s going code Rest gone walk w.place w.is w.inside).begun in
+        (b.0, b.1, b.2, b.3)
+
+    word : IsWordOf p w.place w.at h.pc
+    word = subst (λ (q : Place). IsWordOf p q w.at h.pc) (same_Some begun.0 w.place (sym begun.1 ∙ w.is)) begun.2
+
+    may_end : MayEnd w.place h.pc after.turn
+    may_end = subst (λ (q : Place). MayEnd q h.pc after.turn) (same_Some begun.0 w.place (sym begun.1 ∙ w.is)) begun.3
+
     abbrev Onward : After → Type 0
-    Onward a =
-        (newer : List ℕ) × (length newer ≤ MOST_PENDING) × Moves p graph (fetched s.memory) (Some its) h.pc pending a.hart.pc newer × Next newer a
-
-    abbrev Ended : Turn → Type 0
-    Ended turn = MayStop p h.pc turn × OnRan turn (Onward left) (Unit {0})
-
-    -- a step that ran
-    ran : (newer : List ℕ) → left.turn ≡ Ran → (w.place ≡ handler → ⊥) → Went p profile image graph bytes formed w.at pending w.regs newer left.hart.pc w.place →
-        Context (part_of hart) (loaded image) s.memory newer left.shared → Within (part_of hart) newer left.hart left.shared.memory → Ended left.turn
-    ran newer t other went c within =
-        let moved = moves p profile image graph bytes formed ordered (part_of hart) w.at pending w.regs w.place w.is w.stage h s (fetched s.memory)
-        (fetched_there (loaded image) s.memory w.at (place_instrs p w.place w.at) code stand) there.word there.pc newer its there.fact t went in
-        let bound = most_pending p profile image graph bytes formed within.place newer within.stage in
-        subst Ended (sym t) (passes w.place w.at h.pc facts word other, (newer, bound, moved, go_on newer left c within))
-
-    outcome : ItsOutcome left → Ended left.turn
-    outcome (stays t c low inside) =
-        let later = place_word p (part_of hart) (loaded image) w.place w.at pending w.regs left.hart left.shared.memory may inside in
-        let size = later.1 in let here = later.2 in
-        let nothing : place_at p W left.hart.pc ≡ None = nothing_inside p profile image graph bytes formed w.place w.at left.hart.pc facts low (omega arith) in
-        ran pending t (λ same.
-        let back : left.hart.pc ≡ w.at = subst (λ (q : Place). InPlace p (part_of hart) (loaded image) q w.at pending w.regs left.hart left.shared.memory) same inside in omega arith)
-        (inl (nothing, refl)) c (record { at = w.at; place = w.place; regs = w.regs; is = w.is; stage = w.stage; held = c.kept.held; inside = inside })
-    outcome (leaves newer t c x3 leads) =
-        let to = (arrive p profile image graph bytes formed w.place (record { at = w.at; pending = pending; regs = w.regs }) left.hart.pc newer w.is facts w.stage leads).settled in
-        ran newer t (λ same. subst (λ (q : Place). Leads p (by_label (loaded image)) q w.at pending w.regs newer left.hart.pc) same leads) (inr leads) c (record {
-          at = left.hart.pc;
-          place = to.place;
-          regs = left.hart.regs;
-          is = to.is;
-          stage = to.stage;
-          held = c.kept.held;
-          inside = begins p profile image graph bytes formed (part_of hart) to.place newer left.hart left.shared.memory to.is to.stage (λ o. absurd (to.later o))
-              (past p profile image graph bytes formed (pointed p profile image graph bytes formed x3));
-        })
-    outcome (ends how kept) = stops w.at h.pc left.turn (Onward left) w.place facts word how
+    Onward a = (newer : List ℕ) × (length newer ≤ most_calls p) × Moves p graph (fetched s.memory) (Some its) h.pc pending a.hart.pc newer × Next newer a
 
     abbrev pub Owed : After → Type 0
-    Owed a = MayStop p h.pc a.turn × WritesOwn (part_of hart) (length pending) s.memory a.shared.memory × OnRan a.turn (Onward a) (Unit {0})
+    Owed a =
+        MayStop p h.pc a.turn × WritesOwn (part_of hart) (slot_for p (length pending)) s.memory a.shared.memory
+        × SavesNewest p.callee_saves (part_of hart) pending s.memory a.shared.memory × OnRan a.turn (Onward a) (Unit {0})
 
-    pub owed : Owed (step p h s)
+    abbrev Given : After → Type 0
+    Given a = MayEnd w.place h.pc a.turn × OnRan a.turn (Gone a) (Unit {0})
+
+    given : Given after
+    given = (
+      may_end,
+      on_ran after.turn (Rest walk after) (IsCodeOf (loaded image) after.shared.memory) (Gone after) (Unit {0}) (λ rest. rest refl) (λ kept. tt)
+          (step_on p profile image graph bytes formed hart below h s going code Rest gone walk w.place w.is w.inside).on,
+    )
+
+    onward : left.turn ≡ Ran → Gone left → (START ≤ h.pc) × Onward left
+    onward t g = (
+      passes w.place w.at h.pc facts word g.other,
+      (
+        g.newer,
+        g.few,
+        moves p profile image graph bytes formed ordered (part_of hart) w.at pending word_is.stacked w.regs w.place w.is h s (fetched s.memory)
+            (fetched_there (loaded image) s.memory w.at (place_instrs p w.place w.at) code stand) there.word there.pc g.newer its there.fact t
+            (word_is.standing g.newer left.hart.pc) g.went,
+        g.next,
+      ),
+    )
+
+    ran_on : (turn : Turn) → left.turn ≡ turn → OnRan turn (Gone left) (Unit {0}) → OnRan turn ((START ≤ h.pc) × Onward left) (Unit {0})
+    ran_on Ran t g = onward t g
+    ran_on other t g = tt
+
+    left_owed : Given left → Owed left
+    left_owed g =
+        let on = ran_on left.turn refl g.1 in
+        let written = writes p (part_of hart) (omega arith) (loaded image) w.at pending word_is.stacked w.regs h s w.place word_is.full word_is.lean there.word its there.fact in (
+          stops w.at h.pc (Onward left) (Unit {0}) w.place facts word left.turn g.0 on,
+          written.own,
+          written.newest,
+          on_ran left.turn ((START ≤ h.pc) × Onward left) (Unit {0}) (Onward left) (Unit {0}) (λ x. x.1) (λ x. x) on,
+        )
+
+    pub owed : Owed after
     owed =
-        let own = own_is_part p profile hart below in
-        at_word (λ (a : After). ItsOutcome a → Owed a) p h context stand there.word its there.is there.pc
-        (λ out. let end = outcome out in (end.0, writes p (part_of hart) (loaded image) w.at pending w.regs h s w.place there.word its there.fact, end.1))
-        (unit_law p (part_of hart) (loaded image) s.memory w.place w.at pending w.regs h s own (loaded_small image bytes) may most stand context w.inside)
+        let context : Context (part_of hart) (loaded image) s.memory [] s =
+        record { going = going; kept = record { code = code; held = tt; frame = λ k from out. refl } } in
+        at_word (λ (a : After). Given a → Owed a) p h context stand there.word its there.is there.pc left_owed given
 
     pub its_code : fetched s.memory h.pc ≡ Some there.instr
     its_code = ap (fetched s.memory) there.pc ∙ fetched_there (loaded image) s.memory w.at (place_instrs p w.place w.at) code stand there.word there.instr there.is
 
     pub its_call : MayEcall p graph (Some there.instr) h.pc (h.regs 17)
-    its_call = may_ecall w.place w.at h facts word there.instr (λ call.
-        place_may p (part_of hart) (loaded image) w.at pending w.regs h s.memory there.word there.pc w.place may w.inside (there.is ∙ ap Some call))
+    its_call = may_ecall w.place w.at h facts word there.instr word_is.call
 
   module _ (ordered : IsGraph graph) (count : ℕ) (may_run : MayRun p count) where
     -- what is known of all harts between two steps
@@ -260,14 +465,14 @@ module _ (p : Profile) (profile : IsProfile p) (image : Contents) (graph : Graph
     }
 
     -- after a step of hart `k` the others are where they were, and their parts are as before
-    known_after : (pending : Pending) (hs : Harts) (k : ℕ) → k < count → (s : Shared) → Known pending hs s → (newer : List ℕ) (a : After) →
-        Context (part_of k) (loaded image) s.memory newer a.shared → Within (part_of k) newer a.hart a.shared.memory →
+    known_after : (pending : Pending) (hs : Harts) (k : ℕ) → k < count → (s : Shared) → Known pending hs s → (newer : List ℕ) (a : After) (stacked : List ℕ) →
+        Context (part_of k) (loaded image) s.memory stacked a.shared → Within (part_of k) newer a.hart a.shared.memory →
         Known (with_pending pending k newer) (with_hart hs k a.hart) a.shared
-    known_after pending hs k below s known newer a c within = record {
+    known_after pending hs k below s known newer a stacked c w = record {
       going = c.going;
       code = c.kept.code;
       each = λ j low. elim (cases_eq j k) [
-        | inl same ↦ rw (eq-eqb j k same) (subst (λ (i : ℕ). Within (part_of i) newer a.hart a.shared.memory) (sym same) within)
+        | inl same ↦ rw (eq-eqb j k same) (subst (λ (i : ℕ). Within (part_of i) newer a.hart a.shared.memory) (sym same) w)
         | inr other ↦ rw (ne_eqb j k other)
             (within_kept (part_of j) (pending j) (hs j) s.memory a.shared.memory
             (other_part (part_of k) (part_of j) s.memory a.shared.memory (omega arith) (omega arith) (λ e. other (omega arith)) (omega arith) c.kept.frame)
@@ -283,33 +488,35 @@ module _ (p : Profile) (profile : IsProfile p) (image : Contents) (graph : Graph
         let now = disturbed s t.changes in
         let h = hs t.hart in
         let there = known_disturbed pending hs s t.changes low.0.changes known in
-        let within = there.each t.hart below in
+        let here = there.each t.hart below in
         let Next : List ℕ → After → Type 0 = λ newer a. ConfinedAlong p graph (with_pending pending t.hart newer) (with_hart hs t.hart a.hart) a.shared rest in
-        let go_on : (newer : List ℕ) (a : After) → Context (part_of t.hart) (loaded image) now.memory newer a.shared → Within (part_of t.hart) newer a.hart a.shared.memory → Next newer a =
-        λ newer a c w. runs rest low.1 (with_pending pending t.hart newer) (with_hart hs t.hart a.hart) a.shared (known_after pending hs t.hart below now there newer a c w) in
-        let code = its_code ordered t.hart (omega arith) (pending t.hart) h now there.going there.code within Next go_on in
-        let call = its_call ordered t.hart (omega arith) (pending t.hart) h now there.going there.code within Next go_on in
-        let step = owed ordered t.hart (omega arith) (pending t.hart) h now there.going there.code within Next go_on in
-        rw code (step.0, call, step.1, step.2)
+        let go_on : (newer : List ℕ) (a : After) (stacked : List ℕ) → Context (part_of t.hart) (loaded image) now.memory stacked a.shared →
+        Within (part_of t.hart) newer a.hart a.shared.memory → Next newer a =
+        λ newer a stacked c w. runs rest low.1 (with_pending pending t.hart newer) (with_hart hs t.hart a.hart) a.shared
+        (known_after pending hs t.hart below now there newer a stacked c w) in
+        let code = its_code ordered t.hart (omega arith) (pending t.hart) h now there.going there.code here Next go_on in
+        let call = its_call ordered t.hart (omega arith) (pending t.hart) h now there.going there.code here Next go_on in
+        let step = owed ordered t.hart (omega arith) (pending t.hart) h now there.going there.code here Next go_on in
+        rw code (step.0, call, step.1, step.2, step.3)
 
     start_known : (hs : Harts) (s : Shared) → MayStart image count hs s → Known (λ k. []) hs s
     start_known hs s start =
         let entry = (prologue p profile image graph bytes formed).0 in
+        let most = may_run.most in
         record {
           going = start.going;
           code = start.code;
-          each = λ k below.
-              let here : place_at p W (hs k).pc ≡ Some (opening entry) = ap (place_at p W) (start.pc k below) ∙ at_opening p profile image graph bytes formed in
-              let pc = start.pc k below in
-              record {
-                at = (hs k).pc;
-                place = opening entry;
-                regs = (hs k).regs;
-                is = here;
-                stage = refl;
-                held = tt;
-                inside = begins p profile image graph bytes formed (part_of k) (opening entry) [] (hs k) s.memory here refl (λ o. ap part_of (sym (start.number k below))) (inr (omega arith));
-              };
+          each = λ k below. record {
+            at = (hs k).pc;
+            place = opening entry;
+            regs = (hs k).regs;
+            is = ap (place_at p W) (start.pc k below) ∙ at_opening p profile image graph bytes formed;
+            few = omega arith;
+            inside = (
+              refl,
+              opens_at p profile image graph bytes formed k (omega arith) (hs k) s start.going start.code profile (ap part_of (sym (start.number k below))) (start.pc k below),
+            );
+          };
         }
 
 pub well_formed_confined : WellFormedIsConfined

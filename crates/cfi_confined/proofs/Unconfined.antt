@@ -1,13 +1,13 @@
 -- Small pairs with one fault each: their undisturbed runs take a step that is not confined.
-use Rattle.std.proofs.Common.{◌≡◌, ℕ, zero, suc, ◌<◌, ◌&&◌, Bool, true, false, inl, inr, List, [], ◌∷◌, ◌++◌, length, refl, sym, ap, subst, ◌∙◌, Option, Some, None, arith, lit<, lit≤}
+use Rattle.std.proofs.Common.{◌≡◌, ℕ, zero, ◌-◌, ◌+◌, suc, ◌<◌, ◌&&◌, Bool, true, false, inl, inr, List, [], ◌∷◌, ◌++◌, length, refl, sym, ap, subst, ◌∙◌, Option, Some, None, arith, lit<, lit≤}
 use Rattle.std.specs.Prelude.{◌==◌, if◌then◌else◌, slice_get}
 use Rattle.std.specs.List.{Contains}
 use Rattle.std.proofs.lemmas.Bool.{and_parts, eq-eqb, false≢true}
 use Rattle.std.proofs.lemmas.Option.{same_Some}
 use Rattle.rv_word.specs.Image.{Contents}
-use Rattle.rv_word.specs.MemoryMap.{MayRun, Profile, part_of, version_1, version_2}
+use Rattle.rv_word.specs.MemoryMap.{MayRun, Profile, part_of, lean_version_1, version_1, version_2}
 use Rattle.rv_word.specs.Memory.{loaded, placed, write}
-use Rattle.rv_word.proofs.Versions.{laid_out}
+use Rattle.rv_word.proofs.Profiles.{LaidOut, laid_out}
 use Rattle.rv_instr.specs.declared.instr.Instr.{Instr}
 use Rattle.rv_instr.specs.declared.instr.Instr.TheVariants.{Branch, Jal, Jalr}
 use Rattle.rv_code.specs.Decode.{decoded}
@@ -29,8 +29,8 @@ use Rattle.cfi_rules.proofs.OnRan.{on_ran}
 use Rattle.cfi_rules.proofs.OneHart.{may_come, one_may_run, steps_of}
 use Rattle.cfi_rules.proofs.Starts.{machine_may_start}
 use Rattle.cfi_rules.proofs.Unsafe.{calm_is_data}
-use Rattle.cfi_confined.specs.Confined.{ConfinedAlong, IsConfined, MayEcall, MayStop, Moves, Pending, WritesOwn, fetched, with_pending}
-use Rattle.cfi_confined.specs.Unconfined.{FaultsAreUnconfined, borrowed_edge, borrowed_edge_graph, running_handler, early_return, early_return_graph, long_branch, long_branch_graph, unlisted_entry, unlisted_entry_graph, unlisted_jump, unlisted_jump_graph}
+use Rattle.cfi_confined.specs.Confined.{ConfinedAlong, IsConfined, MayEcall, MayStop, Moves, Pending, SavesNewest, WritesOwn, fetched, slot_for, with_pending}
+use Rattle.cfi_confined.specs.Unconfined.{FaultsAreUnconfined, borrowed_edge, borrowed_edge_graph, running_handler, early_return, early_return_graph, long_branch, long_branch_graph, unlisted_entry, unlisted_entry_graph, unlisted_jump, unlisted_jump_graph, lean_graph, moved_link, saved_high, saved_pointer, short_call, short_call_graph}
 
 -- no call and no return
 abbrev is_keeping : Option Instr → Bool
@@ -57,7 +57,8 @@ module _ (p : Profile) (graph : GraphParts) where
         let after = step p h now in
         MayStop p h.pc after.turn
         × MayEcall p graph (fetched now.memory h.pc) h.pc (h.regs 17)
-        × WritesOwn (part_of k) (length pending) now.memory after.shared.memory
+        × WritesOwn (part_of k) (slot_for p (length pending)) now.memory after.shared.memory
+        × SavesNewest p.callee_saves (part_of k) pending now.memory after.shared.memory
         × OnRan after.turn
         ((newer : List ℕ)
         × Moves p graph (fetched now.memory) (fetched now.memory h.pc) h.pc pending after.hart.pc newer
@@ -73,11 +74,12 @@ module _ (p : Profile) (graph : GraphParts) where
           c.0,
           c.1,
           c.2,
+          c.3,
           on_ran after.turn _ (Unit {0}) _ (Unit {0})
               (λ on.
               let later : Rest (if k == k then on.0 else pending k) (if k == k then after.hart else harts k) =
               alone rest (with_pending pending k on.0) (with_hart harts k after.hart) after.shared on.3 in
-              (on.0, on.2, subst (λ (b : Bool). Rest (if b then on.0 else pending k) (if b then after.hart else harts k)) (eq-eqb k k refl) later)) (λ none. none) c.3,
+              (on.0, on.2, subst (λ (b : Bool). Rest (if b then on.0 else pending k) (if b then after.hart else harts k)) (eq-eqb k k refl) later)) (λ none. none) c.4,
         )
 
     -- some undisturbed steps run, none of which is a call or a return
@@ -94,7 +96,7 @@ module _ (p : Profile) (graph : GraphParts) where
         let a = step p h s in
         let runs = and_parts (is_ran a.turn) (is_keeping (fetched s.memory h.pc) && all_keep n a.hart a.shared) run in
         let parts = and_parts (is_keeping (fetched s.memory h.pc)) (all_keep n a.hart a.shared) runs.1 in
-        let on = rw (ran_of a.turn runs.0) at c.3 in
+        let on = rw (ran_of a.turn runs.0) at c.4 in
         let same = keeps (fetched s.memory) (fetched s.memory h.pc) h.pc pending a.hart.pc on.0 parts.0 on.1 in
         later n pending a.hart a.shared rest parts.1 (subst (λ (l : List ℕ). AloneAlong l a.hart a.shared (calm n ++ rest)) same on.2)
 
@@ -115,27 +117,43 @@ several : (image : Contents) (graph : GraphParts) (n : ℕ) → IsConfined versi
     AloneAlong version_2 graph 0 [] (after_steps version_2 image n).hart (after_steps version_2 image n).shared (calm 1)
 several image graph n = from_start version_2 image graph 2 n 1 (record { some = lit≤ tt; most = lit≤ tt }) (lit< tt)
 
-module _ (image : Contents) (graph : GraphParts) where
-  lone : (n more : ℕ) → IsConfined version_1 image graph → all_keep version_1 graph 0 n (start_hart 0) (start_shared image []) ≡ true →
-      AloneAlong version_1 graph 0 [] (after_steps version_1 image n).hart (after_steps version_1 image n).shared (calm more)
-  lone n more = from_start version_1 image graph 1 n more (one_may_run version_1 (laid_out version_1 (inl refl))) (lit< tt)
+-- images for one hart, whose opening calls the entry after its first steps
+module _ (p : Profile) (laid : LaidOut p) (first : ℕ) (image : Contents) (graph : GraphParts) where
+  lone_of : (n more : ℕ) → IsConfined p image graph → all_keep p graph 0 n (start_hart 0) (start_shared image []) ≡ true →
+      AloneAlong p graph 0 [] (after_steps p image n).hart (after_steps p image n).shared (calm more)
+  lone_of n more = from_start p image graph 1 n more (one_may_run p laid) (lit< tt)
 
-  -- the tenth step is the opening's call
   abbrev entered : After
-  entered = let h = after_steps version_1 image 9 in step version_1 h.hart h.shared
+  entered = let h = after_steps p image first in step p h.hart h.shared
 
-  called : (n more : ℕ) → IsConfined version_1 image graph → all_keep version_1 graph 0 9 (start_hart 0) (start_shared image []) ≡ true → is_ran entered.turn ≡ true →
-      all_keep version_1 graph 0 n entered.hart entered.shared ≡ true →
-      (pending : List ℕ) × AloneAlong version_1 graph 0 pending (after_calm version_1 n entered.hart entered.shared).hart (after_calm version_1 n entered.hart entered.shared).shared (calm more)
-  called n more confined opens ran run =
+  called_of : (n more : ℕ) → IsConfined p image graph → all_keep p graph 0 first (start_hart 0) (start_shared image []) ≡ true → is_ran entered.turn ≡ true →
+      all_keep p graph 0 n entered.hart entered.shared ≡ true →
+      (pending : List ℕ) × Moves p graph (fetched (after_steps p image first).shared.memory) (fetched (after_steps p image first).shared.memory (after_steps p image first).hart.pc)
+      (after_steps p image first).hart.pc [] entered.hart.pc pending
+      × AloneAlong p graph 0 pending (after_calm p n entered.hart entered.shared).hart (after_calm p n entered.hart entered.shared).shared (calm more)
+  called_of n more confined opens ran run =
       let start = start_shared image [] in
       let changes : List (List ByteChange) = [] ∷ (calm n ++ calm more) in
-      let c = later version_1 graph 0 9 [] (start_hart 0) start changes opens
-      (alone version_1 graph 0 (calm 9 ++ changes) (λ k. []) start_hart start
-      (confined 1 (one_may_run version_1 (laid_out version_1 (inl refl))) start_hart start (machine_may_start image [] 1) (steps_of 0 (calm 9 ++ changes))
-      (may_come 1 0 (lit< tt) (calm 9 ++ changes) (calm_and 9 changes (tt, calm_and n (calm more) (calm_is_data more)))))) in
-      let on = rw (ran_of entered.turn ran) at c.3 in
-      (on.0, later version_1 graph 0 n on.0 entered.hart entered.shared (calm more) run on.2)
+      let c = later p graph 0 first [] (start_hart 0) start changes opens
+      (alone p graph 0 (calm first ++ changes) (λ k. []) start_hart start
+      (confined 1 (one_may_run p laid) start_hart start (machine_may_start image [] 1) (steps_of 0 (calm first ++ changes))
+      (may_come 1 0 (lit< tt) (calm first ++ changes) (calm_and first changes (tt, calm_and n (calm more) (calm_is_data more)))))) in
+      let on = rw (ran_of entered.turn ran) at c.4 in
+      (on.0, on.1, later p graph 0 n on.0 entered.hart entered.shared (calm more) run on.2)
+
+-- the tenth step is the opening's call
+lone : (image : Contents) (graph : GraphParts) (n more : ℕ) → IsConfined version_1 image graph → all_keep version_1 graph 0 n (start_hart 0) (start_shared image []) ≡ true →
+    AloneAlong version_1 graph 0 [] (after_steps version_1 image n).hart (after_steps version_1 image n).shared (calm more)
+lone image graph = lone_of version_1 (laid_out version_1 (inl (inl refl))) 9 image graph
+
+called : (image : Contents) (graph : GraphParts) (n more : ℕ) → IsConfined version_1 image graph → all_keep version_1 graph 0 9 (start_hart 0) (start_shared image []) ≡ true →
+    is_ran (entered version_1 (laid_out version_1 (inl (inl refl))) 9 image graph).turn ≡ true →
+    all_keep version_1 graph 0 n (entered version_1 (laid_out version_1 (inl (inl refl))) 9 image graph).hart (entered version_1 (laid_out version_1 (inl (inl refl))) 9 image graph).shared ≡ true →
+    (pending : List ℕ)
+    × AloneAlong version_1 graph 0 pending (after_calm version_1 n (entered version_1 (laid_out version_1 (inl (inl refl))) 9 image graph).hart (entered version_1 (laid_out version_1 (inl (inl refl))) 9 image graph).shared).hart
+    (after_calm version_1 n (entered version_1 (laid_out version_1 (inl (inl refl))) 9 image graph).hart (entered version_1 (laid_out version_1 (inl (inl refl))) 9 image graph).shared).shared (calm more)
+called image graph n more confined opens ran run =
+    let c = called_of version_1 (laid_out version_1 (inl (inl refl))) 9 image graph n more confined opens ran run in (c.0, c.2)
 
 -- two numbers are not the same
 differ : {a b : ℕ} → (a == b) ≡ false → a ≡ b → ⊥
@@ -150,7 +168,7 @@ jump_unconfined : IsConfined version_1 unlisted_jump unlisted_jump_graph → ⊥
 unfolding loaded placed decoded code_of step write last_exit after_calm is_ran all_keep
 jump_unconfined confined =
     let c = called unlisted_jump unlisted_jump_graph 0 1 confined refl refl refl in
-    elim c.1.3.1 [
+    elim c.1.4.1 [
       | inl (zero_is, inl low, same) ↦ let end = low.1 in omega arith
       | inl (zero_is, inr (inl edge), same) ↦ no_edge _ _ _ _ edge
       | inl (zero_is, inr (inr edge), same) ↦ no_edge _ _ _ _ edge.1
@@ -161,7 +179,7 @@ branch_unconfined : IsConfined version_1 long_branch long_branch_graph → ⊥
 unfolding loaded placed decoded code_of step write last_exit after_calm is_ran all_keep
 branch_unconfined confined =
     let c = called long_branch long_branch_graph 0 1 confined refl refl refl in
-    elim c.1.3.1.0 [
+    elim c.1.4.1.0 [
       | inl (inl next) ↦ omega arith
       | inl (inr (inl over)) ↦ omega arith
       | inl (inr (inr (low, high, call))) ↦ absurd (cc)
@@ -172,7 +190,7 @@ entry_unconfined : IsConfined version_1 unlisted_entry unlisted_entry_graph → 
 unfolding loaded placed decoded code_of step write last_exit after_calm is_ran all_keep
 entry_unconfined confined =
     let c = lone unlisted_entry unlisted_entry_graph 9 1 confined refl in
-    elim c.3.1 [
+    elim c.4.1 [
       | inl (zero_is, to, same) ↦ differ refl zero_is
       | inr (one_is, (k, below, is), new) ↦ omega arith
     ]
@@ -198,10 +216,12 @@ target_unconfined : IsConfined version_1 astray_call astray_call_graph → ⊥
 unfolding loaded placed decoded code_of words_of step write last_exit after_calm is_ran all_keep
 target_unconfined confined =
     let c = called astray_call astray_call_graph 16 1 confined refl refl refl in
-    elim c.1.3.1 [
+    elim c.1.4.1 [
       | inl (zero_is, to) ↦ differ refl zero_is
       | inr (one_is, site, new) ↦ elim site.class [
-        | inl class ↦ no_target (subst (λ (ts : List ℕ). Contains ts 0x40000090) (sym (only_class site.label site.targets class)) site.target)
+        | inl class ↦
+            let gate : 0x40000090 ≡ site.gate = site.behind ∙ omega arith in
+            no_target (subst (λ (ts : List ℕ). Contains ts 0x40000090) (sym (only_class site.label site.targets class)) (subst (λ (a : ℕ). Contains site.targets a) (sym gate) site.target))
         | inr class ↦ no_class site.label site.targets class
       ]
     ]
@@ -218,9 +238,9 @@ return_unconfined : IsConfined version_1 early_return early_return_graph → ⊥
 unfolding loaded placed decoded code_of step write last_exit after_calm is_ran all_keep
 return_unconfined confined =
     let c = called early_return early_return_graph 0 3 confined refl refl refl in
-    let call = c.1.3 in
-    let jump = call.2.3 in
-    let back = jump.2.3 in
+    let call = c.1.4 in
+    let jump = call.2.4 in
+    let back = jump.2.4 in
     elim call.1 [
       | inl (zero_is, to, same) ↦ differ refl zero_is
       | inr (one_is, line, new) ↦ elim jump.1 [
@@ -246,7 +266,7 @@ borrowed_unconfined : IsConfined version_1 borrowed_edge borrowed_edge_graph →
 unfolding loaded placed decoded code_of step write last_exit after_calm is_ran all_keep
 borrowed_unconfined confined =
     let c = called borrowed_edge borrowed_edge_graph 1 1 confined refl refl refl in
-    elim c.1.3.1 [
+    elim c.1.4.1 [
       | inl (zero_is, inl low, same) ↦ let end = low.1 in omega arith
       | inl (zero_is, inr (inl edge), same) ↦ other_edge _ _ refl edge
       | inl (zero_is, inr (inr (over, edge)), same) ↦ differ refl over
@@ -275,7 +295,7 @@ break_unconfined : IsConfined version_1 breaking_closing breaking_closing_graph 
 unfolding loaded placed decoded code_of step write last_exit after_calm is_ran all_keep
 break_unconfined confined =
     let c = called breaking_closing breaking_closing_graph 3 3 confined refl refl refl in
-    elim c.1.3.2.3.2.0 [ inl low ↦ let end = low.1 in omega arith | inr past ↦ omega arith ]
+    elim c.1.4.2.4.2.0 [ inl low ↦ let end = low.1 in omega arith | inr past ↦ omega arith ]
 
 call_unconfined : IsConfined version_2 calling_opening one_pointer_graph → ⊥
 unfolding loaded placed decoded code_of step write last_exit after_calm is_ran all_keep
@@ -291,6 +311,89 @@ slot_unconfined confined = let c = lone high_pointer opening_graph 7 1 confined 
 part_unconfined : IsConfined version_2 storing_opening one_pointer_graph → ⊥
 unfolding loaded placed decoded code_of step write last_exit after_calm is_ran all_keep
 part_unconfined confined = let c = several storing_opening one_pointer_graph 8 confined refl in differ refl (c.2 0x600407f2 (lit≤ tt) (inr (inr (lit≤ tt))))
+
+-- where callees save sites, the sixth step is the opening's call, and leaves the closing as the newest site
+the_lean : LaidOut lean_version_1
+the_lean = laid_out lean_version_1 (inr (inl refl))
+
+module _ (image : Contents) (graph : GraphParts) where
+  abbrev LeanCall : List ℕ → Type 0
+  LeanCall pending =
+      let before = after_steps lean_version_1 image 5 in
+      Moves lean_version_1 graph (fetched before.shared.memory) (Some (Jal 1 6)) 0x40000020 [] 0x4000002c pending
+
+  lean_pending : (pending : List ℕ) → LeanCall pending → pending ≡ 0x40000024 ∷ []
+  lean_pending pending (inl (zero_is, to, same)) = absurd (differ refl zero_is)
+  lean_pending pending (inr (one_is, line, new)) = new
+
+saved_unconfined : IsConfined lean_version_1 saved_pointer (lean_graph 0x30) → ⊥
+unfolding loaded placed decoded code_of step write last_exit after_calm is_ran all_keep
+saved_unconfined confined =
+    let c = called_of lean_version_1 the_lean 5 saved_pointer (lean_graph 0x30) 0 1 confined refl refl refl in
+    let pending = lean_pending saved_pointer (lean_graph 0x30) c.0 c.1 in
+    let e = entered lean_version_1 the_lean 5 saved_pointer (lean_graph 0x30) in
+    let saves = subst (λ (l : List ℕ). SavesNewest true (part_of 0) l e.shared.memory (step lean_version_1 e.hart e.shared).shared.memory) pending c.2.3 in
+    elim saves [
+      | inl before ↦ differ refl before
+      | inr newest ↦ differ refl newest
+    ]
+
+-- the site's lowest byte is in slot 1
+high_unconfined : IsConfined lean_version_1 saved_high (lean_graph 0x30) → ⊥
+unfolding loaded placed decoded code_of step write last_exit after_calm is_ran all_keep
+high_unconfined confined =
+    let c = called_of lean_version_1 the_lean 5 saved_high (lean_graph 0x30) 0 1 confined refl refl refl in
+    let pending = lean_pending saved_high (lean_graph 0x30) c.0 c.1 in
+    let e = entered lean_version_1 the_lean 5 saved_high (lean_graph 0x30) in
+    let writes = subst (λ (l : List ℕ). WritesOwn (part_of 0) (length l - 1) e.shared.memory (step lean_version_1 e.hart e.shared).shared.memory) pending c.2.2 in
+    differ refl (writes 0x60000010 (lit≤ tt) (inr (inl (lit≤ tt))))
+
+no_site_line : (kind : SiteKind) (a b c label : ℕ) → Contains (Call a b ∷ []) (Site c kind label) → ⊥
+no_site_line kind a b c label (zero, below, is) = absurd (cc)
+no_site_line kind a b c label (suc k, below, is) = absurd (omega arith)
+
+link_unconfined : IsConfined lean_version_1 moved_link (lean_graph 0x34) → ⊥
+unfolding loaded placed decoded code_of step write last_exit after_calm is_ran all_keep
+link_unconfined confined =
+    let c = called_of lean_version_1 the_lean 5 moved_link (lean_graph 0x34) 1 1 confined refl refl refl in
+    let pending = lean_pending moved_link (lean_graph 0x34) c.0 c.1 in
+    elim c.2.4.1 [
+      | inl (zero_is, inl (none, pops)) ↦
+          let first : slice_get (0x40000024 ∷ []) 0 ≡ slice_get (0x40000028 ∷ c.2.4.0) 0 = ap (λ (l : List ℕ). slice_get l 0) (sym pending ∙ pops) in
+          differ refl (same_Some 0x40000024 0x40000028 first)
+      | inl (zero_is, inr (site, same)) ↦ no_site_line K.Jump _ _ _ site.label site.listed
+      | inr other ↦ differ refl other.0
+    ]
+
+-- the lines of the short call have one class, with one target
+short_target : (label : ℕ) (targets : List ℕ) → Contains short_call_graph.lines (Class sorts.Both label targets) → (0x40000038 ∷ []) ≡ targets
+short_target label targets (zero, below, is) = cc
+short_target label targets (suc zero, below, is) = absurd (cc)
+short_target label targets (suc (suc zero), below, is) = absurd (cc)
+short_target label targets (suc (suc (suc k)), below, is) = absurd (omega arith)
+
+no_calls : (label : ℕ) (targets : List ℕ) → Contains short_call_graph.lines (Class sorts.Calls label targets) → ⊥
+no_calls label targets (zero, below, is) = absurd (cc)
+no_calls label targets (suc zero, below, is) = absurd (cc)
+no_calls label targets (suc (suc zero), below, is) = absurd (cc)
+no_calls label targets (suc (suc (suc k)), below, is) = absurd (omega arith)
+
+no_gate : (gate : ℕ) → Contains {X = ℕ} (0x40000038 ∷ []) gate → 0x40000038 ≡ gate + 8 → ⊥
+no_gate gate (zero, below, is) behind = let here : 0x40000038 ≡ gate = is in omega arith
+no_gate gate (suc k, below, is) behind = absurd (omega arith)
+
+gate_unconfined : IsConfined lean_version_1 short_call short_call_graph → ⊥
+unfolding loaded placed decoded code_of step write last_exit after_calm is_ran all_keep
+gate_unconfined confined =
+    let c = called_of lean_version_1 the_lean 5 short_call short_call_graph 1 1 confined refl refl refl in
+    elim c.2.4.1 [
+      | inl (zero_is, to) ↦ differ refl zero_is
+      | inr (one_is, site, new) ↦ elim site.class [
+        | inl class ↦
+            no_gate site.gate (subst (λ (ts : List ℕ). Contains ts site.gate) (sym (short_target site.label site.targets class)) site.target) site.behind
+        | inr class ↦ no_calls site.label site.targets class
+      ]
+    ]
 
 pub faults_unconfined : FaultsAreUnconfined
 faults_unconfined = record {
@@ -310,4 +413,10 @@ faults_unconfined = record {
   call = call_unconfined;
   slot = slot_unconfined;
   part = part_unconfined;
+  lean = record {
+    saved = saved_unconfined;
+    slot = high_unconfined;
+    link = link_unconfined;
+    gate = gate_unconfined;
+  };
 }

@@ -1,58 +1,70 @@
 -- The word at which a hart is, of what stands at an address: its instruction, where that leads, and what it
 -- stores.
-use Rattle.std.proofs.Common.{◌≡◌, ℕ, suc, ◌+◌, ◌-◌, ◌*◌, ◌^◌, ◌<◌, ◌≤◌, ◌⊎◌, inl, inr, true, List, [], ◌∷◌, ◌++◌, length, refl, sym, ap, subst, ◌∙◌, Some, arith, lit<, lit≤, Bool, false, zero}
-use Rattle.std.specs.Prelude.{slice_get}
+use Rattle.std.proofs.Common.{◌≡◌, ℕ, suc, ◌+◌, ◌-◌, ◌*◌, ◌/◌, ◌^◌, ◌<◌, ◌≤◌, ◌⊎◌, inl, inr, true, List, [], ◌∷◌, ◌++◌, length, refl, sym, ap, subst, ◌∙◌, Some, arith, lit<, lit≤, Bool, false, zero}
+use Rattle.std.specs.Prelude.{map, slice_get}
 use Rattle.std.specs.List.{list_all}
 use Rattle.std.proofs.lemmas.Bool.{and_parts}
 use Rattle.std.proofs.lemmas.Option.{same_Some, slice_get_cases, slice_get_within}
 use Rattle.rv_word.specs.Bits.{wrap}
-use Rattle.rv_word.specs.MemoryMap.{IsProfile, Profile}
+use Rattle.rv_word.specs.MemoryMap.{IsFullProfile, Profile}
 use Rattle.rv_word.specs.Memory.{Memory}
-use Rattle.rv_word.proofs.Versions.{laid_out}
+use Rattle.rv_word.proofs.Profiles.{full_saves, laid_out}
 use Rattle.rv_instr.specs.Registers.{Registers}
 use Rattle.rv_instr.specs.declared.instr.Instr.{Instr}
 use Rattle.rv_instr.specs.declared.instr.Instr.TheVariants.{Jal, Jalr, Branch, Store, Immediate, Ecall, Ebreak}
 use Rattle.rv_instr.specs.declared.instr.ImmediateOp.TheVariants.{Addi}
 use Rattle.rv_instr.specs.declared.instr.BranchOp.{BranchOp}
 use Rattle.rv_instr.specs.declared.instr.BranchOp.TheVariants.{Beq}
+use Rattle.rv_instr.specs.declared.instr.StoreOp.{StoreOp}
+use Rattle.rv_instr.specs.declared.instr.StoreOp.TheVariants.{Sd}
 use Rattle.rv_code.specs.State.{Hart}
 use Rattle.rv_code.specs.Step.{address, offset}
 use Rattle.cfi_unit.specs.declared.place.Place.{Place}
 use Rattle.cfi_unit.specs.declared.place.Place.TheVariants.{Handler as handler, Opening as opening, Closing as closing, Body as body}
 use Rattle.cfi_unit.specs.declared.members.Member.{Member}
+use Rattle.cfi_unit.specs.declared.mask.Mask.{Mask}
 use Rattle.cfi_unit.specs.declared.mask.Mask.TheVariants.{Shifts, Short, Long}
 use Rattle.cfi_unit.specs.declared.target_word.TargetWord.{TargetWord}
-use Rattle.cfi_unit.specs.declared.target_word.TargetWord.TheVariants.{First}
+use Rattle.cfi_unit.specs.declared.target_word.TargetWord.TheVariants.{First, Third}
 use Rattle.cfi_unit.specs.declared.unit.SystemOp.TheVariants as S
 use Rattle.cfi_unit.specs.declared.unit.Unit as U
 use Rattle.cfi_unit.specs.declared.unit.Unit.TheVariants as V
 use Rattle.cfi_unit.specs.Flow as F
-use Rattle.cfi_unit.specs.Flow.{flow_of}
-use Rattle.cfi_unit.specs.InPlace.{InWord, only, InBranch, branch_test, branch_jump, InGuarded, guarded_load, guarded_test, guarded_other, guarded_call, InStores, stores_mask, stores_store, shifts_addi, shifts_slli, shifts_srli, InPush, push_slli, push_bne, push_deep, push_auipc, push_addi, push_store, push_grow, InCall, call_push, call_jump, InCheck, check_addi, check_andi, check_lui, check_sub, check_srli, check_region, check_outside, check_lw, check_label, check_opcode, check_word, check_other, InIjump, ijump_check, ijump_jump, InIcall, icall_check, icall_push, icall_jump, InReturn, return_ld, return_addi, return_beq, return_other, return_jump, InOpening, opening_lone, opening_own, opening_call, InClosing, closing_number, closing_ecall, InUnit, InPlace}
+use Rattle.cfi_unit.specs.Flow.{Exit, Sites, flow_of}
+use Rattle.cfi_unit.specs.InPlace.{InWord, only, InBranch, branch_test, branch_jump, InGuarded, guarded_load, guarded_test, guarded_other, guarded_call, InStores, stores_mask, stores_store, shifts_addi, shifts_slli, shifts_srli, short_and, long_addi, long_and, InPush, push_slli, push_bne, push_deep, push_auipc, push_addi, push_store, push_grow, InCall, call_push, call_jump, InCheck, check_addi, check_andi, check_lui, check_sub, check_srli, check_region, check_outside, check_lw, check_label, check_opcode, check_word, check_other, InIjump, ijump_check, ijump_jump, InIcall, icall_check, icall_push, icall_jump, InLean, lean_check, lean_upper, lean_lower, lean_jump, InEnter, enter_slli, enter_bne, enter_deep, enter_store, enter_grow, InLeafReturn, leaf_jump, InReturn, return_ld, return_addi, return_beq, return_other, return_jump, InOpening, opening_lone, opening_own, opening_call, InClosing, closing_number, closing_ecall, InUnit}
 use Rattle.cfi_unit.specs.Leads.{HasLabel, destination}
 use Rattle.cfi_unit.specs.Members.{member_instr}
 use Rattle.cfi_unit.specs.Place.{place_instrs, place_size}
 use Rattle.cfi_unit.specs.Prologue.{OPENING, call_at, set_up}
 use Rattle.cfi_unit.specs.Shadow.{slot, MOST_PENDING}
-use Rattle.cfi_unit.specs.UnitLaw.{MayStand}
-use Rattle.cfi_unit.specs.Templates.{is_full}
-use Rattle.cfi_unit.specs.UnitWords.{BAD_TARGET, BAD_RETURN, DEEP, CheckFits, Fits, Reaches, check, is_plain, jump, jump_offset, near_offset, push, skip_offset}
+use Rattle.cfi_unit.specs.Templates.{is_lean}
+use Rattle.cfi_unit.specs.UnitWords.{BAD_TARGET, BAD_RETURN, DEEP, CheckFits, Fits, Reaches, check, is_plain, jump, jump_offset, mask_made, near_offset, push, skip_offset}
+use Rattle.cfi_unit.proofs.ComputedUnits.{arrives}
 use Rattle.cfi_unit.proofs.Context.{slice_get-back, slice_get-front}
 use Rattle.cfi_unit.proofs.GuardedWords.{test_leads, unit_call, unit_jump, unit_load, unit_test}
 use Rattle.cfi_unit.proofs.MemberWords.{member_at}
 use Rattle.cfi_unit.proofs.PlaceWords.{lone_word, own_word}
-use Rattle.cfi_unit.proofs.Parts.{call_site, set_up_length}
+use Rattle.cfi_unit.proofs.Parts.{call_site, opening_parts, set_up_length}
 use Rattle.cfi_unit.proofs.StoreUnit.{member_address}
-use Rattle.cfi_rules.proofs.Leading.{IsFullPlace}
+use Rattle.cfi_pending.specs.Opening.{InLone, InOwn, InSetUp}
+use Rattle.cfi_pending.specs.Opening as lean
+use Rattle.cfi_pending.specs.StartLaw.{stands_in}
 use Rattle.cfi_rules.specs.Rules.{edge_of}
+use Rattle.cfi_rules.proofs.LeanOpening.{IsLeanOpening}
 use Rattle.cfi_confined.specs.Confined.{IsHandler, LeadsOver}
 
 -- no site is put on top or taken off
+abbrev pub keeps_by : Sites → Exit → Bool
+keeps_by F.keeps F.linked = false
+keeps_by F.keeps exit = true
+keeps_by F.saves exit = true
+keeps_by other exit = false
+
 abbrev pub Keeps : Place → Type 0
 Keeps handler = Unit {0}
 Keeps (opening entry) = ⊥
 Keeps closing = Unit {0}
-Keeps (body unit) = (flow_of unit).sites ≡ F.keeps
+Keeps (body unit) = keeps_by (flow_of unit).sites (flow_of unit).exit ≡ true
 
 -- so where word `k` of a place is led to: it is inside, or the place keeps the sites
 abbrev pub Kept : Profile → Place → ℕ → Type 0
@@ -61,7 +73,17 @@ Kept p place k = (4 * k < place_size p place) ⊎ Keeps place
 -- x1 and x31 are the newest site
 abbrev pub AreNewest : List ℕ → ℕ → ℕ → Type 0
 AreNewest [] x1 x31 = ⊥
-AreNewest (site ∷ pending) x1 x31 = (x1 ≡ site) × (x31 ≡ site)
+AreNewest (site ∷ stacked) x1 x31 = (x1 ≡ site) × (x31 ≡ site)
+
+-- where a unit stands that stands in no lean code, callers save sites
+pub caller_saves : (callee_saves : Bool) (unit : U.Unit) → is_lean unit ≡ false → stands_in callee_saves unit ≡ true → callee_saves ≡ false
+caller_saves false unit full stands = refl
+caller_saves true unit full stands = absurd (cc)
+
+-- eight bytes past x31, where that is a legal destination
+arrives_beyond : {image : Memory} {which : TargetWord} {label : ℕ} (h : Hart) (v : ℕ) → h.regs 31 ≡ v → HasLabel image which label v →
+    address h 31 8 / 2 * 2 ≡ v + 8
+arrives_beyond h v is legal = let round = legal.round in let high = legal.high in omega arith
 
 -- no branch, no jump and no store
 abbrev is_quiet : Instr → Bool
@@ -81,7 +103,8 @@ plain_quiet other plain = refl
 halted : (a to : ℕ) → a ≡ to → IsHandler to → IsHandler a
 halted a to e is = subst IsHandler (sym e) is
 
-module _ (p : Profile) (part : ℕ) (image : Memory) (at : ℕ) (pending : List ℕ) (r : Registers) (h : Hart) where
+-- of the pending sites the shadow stack holds some, at whose end x3 points
+module _ (p : Profile) (part : ℕ) (image : Memory) (at : ℕ) (stacked : List ℕ) (r : Registers) (h : Hart) where
   -- an `ecall` of the place, to which word `k` leads
   pub record ToEcall (place : Place) (k to : ℕ) : Type 0 where
     pub word : ℕ
@@ -103,19 +126,39 @@ module _ (p : Profile) (part : ℕ) (image : Memory) (at : ℕ) (pending : List 
   abbrev pub CallFact : Place → ℕ → ℕ → Type 0
   CallFact (opening entry) k to = (entry ≡ to) × (at + 4 * k ≡ p.opening_call)
   CallFact (body (V.Call target)) k to = (target ≡ to) × (k ≡ 7)
+  CallFact (body (V.LinkCall target)) k to = (target ≡ to) × (k ≡ 0)
   CallFact other k to = ⊥
 
-  abbrev pub ComputedFact : Place → ℕ → ℕ → Type 0
-  ComputedFact (body (V.Ijump which rs1 imm label)) k rd =
-      (rd ≡ 0) × (k ≡ 12) × HasLabel image which label (destination r rs1 imm) × (h.regs 31 ≡ destination r rs1 imm)
-  ComputedFact (body (V.Icall rs1 imm label)) k rd =
-      (rd ≡ 1) × (k ≡ 19) × HasLabel image First label (destination r rs1 imm) × (h.regs 31 ≡ destination r rs1 imm)
-  ComputedFact (body V.Return) k rd = (rd ≡ 0) × (k ≡ 4) × AreNewest pending (r 1) (h.regs 31)
-  ComputedFact other k rd = ⊥
+  abbrev pub ComputedFact : Place → ℕ → ℕ → ℕ → Type 0
+  ComputedFact (body (V.Ijump which rs1 imm label)) k rd to =
+      (rd ≡ 0) × (k ≡ 12) × HasLabel image which label (destination r rs1 imm) × (to ≡ destination r rs1 imm)
+  ComputedFact (body (V.Icall rs1 imm label)) k rd to =
+      (rd ≡ 1) × (k ≡ 19) × HasLabel image First label (destination r rs1 imm) × (to ≡ destination r rs1 imm)
+  ComputedFact (body (V.LeanIjump rs1 imm label)) k rd to =
+      (rd ≡ 0) × (k ≡ 14) × HasLabel image First label (destination r rs1 imm) × (to ≡ destination r rs1 imm)
+  ComputedFact (body (V.LeanIcall rs1 imm label)) k rd to =
+      (rd ≡ 1) × (k ≡ 14) × HasLabel image Third label (destination r rs1 imm) × (to ≡ destination r rs1 imm + 8)
+  ComputedFact (body V.Return) k rd to = (rd ≡ 0) × (k ≡ 4) × (to ≡ address h 31 0 / 2 * 2) × AreNewest stacked (r 1) (h.regs 31)
+  ComputedFact (body V.LeafReturn) k rd to = (rd ≡ 0) × (k ≡ 0) × (to ≡ address h 1 0 / 2 * 2) × (h.regs 1 ≡ r 1)
+  ComputedFact other k rd to = ⊥
+
+  -- where callees save sites, an enter alone stores to the shadow stack: what x1 was at its start
+  abbrev pub SavesLink : Bool → Place → StoreOp → ℕ → Type 0
+  SavesLink false place op rs2 = Unit {0}
+  SavesLink true place op rs2 = (place ≡ body V.Enter) × (op ≡ Sd) × (rs2 ≡ 1) × (h.regs 1 ≡ r 1)
+
+  full_link : (callee_saves : Bool) (place : Place) (op : StoreOp) (rs2 : ℕ) → callee_saves ≡ false → SavesLink callee_saves place op rs2
+  full_link false place op rs2 full = tt
+  full_link true place op rs2 full = absurd (cc)
+
+  enter_link : (callee_saves : Bool) → h.regs 1 ≡ r 1 → SavesLink callee_saves (body V.Enter) Sd 1
+  enter_link false x1 = tt
+  enter_link true x1 = (refl, refl, refl, x1)
 
   -- a store writes the next slot, or data
-  abbrev pub StoreFact : ℕ → Type 0
-  StoreFact a = ((a ≡ slot part (length pending)) × (length pending < MOST_PENDING)) ⊎ (a < 2 ^ 28 + 2 ^ 11)
+  abbrev pub StoreFact : Place → StoreOp → ℕ → ℕ → Type 0
+  StoreFact place op rs2 a =
+      ((a ≡ slot part (length stacked)) × (length stacked < MOST_PENDING) × SavesLink p.callee_saves place op rs2) ⊎ (a < 2 ^ 28 + 2 ^ 11)
 
   -- what is known of the instruction that is word `k`
   abbrev pub Fact : Place → ℕ → Instr → Type 0
@@ -123,8 +166,8 @@ module _ (p : Profile) (part : ℕ) (image : Memory) (at : ℕ) (pending : List 
   Fact place k (Jal rd imm) =
       ((rd ≡ 0) × JumpFact place k (wrap (at + 4 * k + offset 21 (imm * 2))))
       ⊎ ((rd ≡ 1) × CallFact place k (wrap (at + 4 * k + offset 21 (imm * 2))))
-  Fact place k (Jalr rd rs1 imm) = (rs1 ≡ 31) × (imm ≡ 0) × ComputedFact place k rd
-  Fact place k (Store op rs1 rs2 imm) = Kept p place (k + 1) × StoreFact (address h rs1 imm)
+  Fact place k (Jalr rd rs1 imm) = ComputedFact place k rd (address h rs1 imm / 2 * 2)
+  Fact place k (Store op rs1 rs2 imm) = Kept p place (k + 1) × StoreFact place op rs2 (address h rs1 imm)
   Fact place k other = Kept p place (k + 1)
 
   quiet_fact : (place : Place) (k : ℕ) (i : Instr) → is_quiet i ≡ true → Kept p place (k + 1) → Fact place k i
@@ -163,12 +206,12 @@ module _ (p : Profile) (part : ℕ) (image : Memory) (at : ℕ) (pending : List 
       check_here (check_other e x3 out) = here place 11 _ (front 11 _ refl) e (inl (refl, inl (halted _ BAD_TARGET fits.4 (lit≤ tt, lit< tt))))
 
     -- the words of a push, after some others and before one
-    module _ (place : Place) (front : List Instr) (last : Instr) (from : ℕ) (whole : place_instrs p place at ≡ front ++ (push from ++ last ∷ []))
+    module _ (saves : p.callee_saves ≡ false) (place : Place) (front : List Instr) (last : Instr) (from : ℕ) (whole : place_instrs p place at ≡ front ++ (push from ++ last ∷ []))
         (base : from ≡ at + 4 * length front) (few : length front < 20) (room : 4 * (length front + 7) < place_size p place) (deep : Reaches (from + 8) DEEP) where
       get : (k : ℕ) (i : Instr) → slice_get (push from ++ last ∷ []) k ≡ Some i → slice_get (place_instrs p place at) (length front + k) ≡ Some i
       get k i is = ap (λ l. slice_get l (length front + k)) whole ∙ slice_get-back front (push from ++ last ∷ []) k ∙ is
 
-      push_here : {v : ℕ} {m : Memory} → InPush part from v (length pending) h m → Here place
+      push_here : {v : ℕ} {m : Memory} → InPush part from v (length stacked) h m → Here place
       push_here (push_slli e x31 x3) = here place (length front + 0) _ (get 0 _ refl) (omega arith) (inl (omega arith))
       push_here (push_bne e x31 x3 x30) =
           here place (length front + 1) _ (get 1 _ refl) (omega arith) (inl (omega arith), inl (omega arith, inl (omega arith)))
@@ -179,8 +222,8 @@ module _ (p : Profile) (part : ℕ) (image : Memory) (at : ℕ) (pending : List 
       push_here (push_auipc e x31 x3 some) = here place (length front + 3) _ (get 3 _ refl) (omega arith) (inl (omega arith))
       push_here (push_addi e x31 x3 some x30) = here place (length front + 4) _ (get 4 _ refl) (omega arith) (inl (omega arith))
       push_here (push_store e x31 x3 some x30) =
-          let to : address h 3 0 ≡ slot part (length pending) = omega arith in
-          here place (length front + 5) _ (get 5 _ refl) (omega arith) (inl (omega arith), inl (to, some))
+          let to : address h 3 0 ≡ slot part (length stacked) = omega arith in
+          here place (length front + 5) _ (get 5 _ refl) (omega arith) (inl (omega arith), inl (to, some, full_link p.callee_saves place Sd 30 saves))
       push_here (push_grow e x31 x3 some stored) = here place (length front + 6) _ (get 6 _ refl) (omega arith) (inl (omega arith))
 
     branch_here : (op : BranchOp) (rs1 rs2 target : ℕ) {n : ℕ} → Fits (V.Branch op rs1 rs2 target) at → InBranch part at n h → Here (body (V.Branch op rs1 rs2 target))
@@ -205,29 +248,46 @@ module _ (p : Profile) (part : ℕ) (image : Memory) (at : ℕ) (pending : List 
         here (body (V.Guarded ns)) (2 * length ns) (jump (at + 8 * length ns) BAD_TARGET) (unit_jump ns at) e (inl (refl, inl (halted _ BAD_TARGET jumps (lit≤ tt, lit< tt))))
     guarded_here ns fits (guarded_call e x3 x17 listed) = here (body (V.Guarded ns)) (2 * length ns + 1) Ecall (unit_call ns at) e (inr refl)
 
-    stores_here : (rs1 imm : ℕ) (members : List Member) {n : ℕ} → Fits (V.Stores Shifts rs1 imm members) at → InStores Shifts part at (length members) n h →
-        Here (body (V.Stores Shifts rs1 imm members))
-    stores_here rs1 imm members fits (stores_mask (shifts_addi e x3)) = here (body (V.Stores Shifts rs1 imm members)) 0 _ refl (omega arith) (inr refl)
-    stores_here rs1 imm members fits (stores_mask (shifts_slli e x3)) = here (body (V.Stores Shifts rs1 imm members)) 1 _ refl e (inr refl)
-    stores_here rs1 imm members fits (stores_mask (shifts_srli e x3 masked)) = here (body (V.Stores Shifts rs1 imm members)) 2 _ refl e (inr refl)
-    stores_here rs1 imm members fits (stores_store k below e x3 masked) =
+    member_here : (mask : Mask) (rs1 imm : ℕ) (members : List Member) (k word : ℕ) → Fits (V.Stores mask rs1 imm members) at → k < length members →
+        ((m : Member) → slice_get (map member_instr members) k ≡ Some (member_instr m) →
+        slice_get (place_instrs p (body (V.Stores mask rs1 imm members)) at) word ≡ Some (member_instr m)) →
+        h.pc ≡ at + 4 * word → h.regs 31 < 2 ^ 28 → Here (body (V.Stores mask rs1 imm members))
+    member_here mask rs1 imm members k word fits below behind e masked =
         let (m, (is, there)) = member_at members k fits.2.each below in
         let near = is.1 in
         let to : address h 31 m.distance ≡ h.regs 31 + m.distance = member_address (h.regs 31) (h.regs 31) m.distance refl masked near in
-        here (body (V.Stores Shifts rs1 imm members)) (suc (suc (suc k))) (member_instr m) there (omega arith) (inr refl, inr (omega arith))
+        here (body (V.Stores mask rs1 imm members)) word (member_instr m) (behind m there) e (inr refl, inr (omega arith))
 
-    return_here : {site n : ℕ} (older : List ℕ) → pending ≡ site ∷ older → Fits V.Return at → InReturn part at (r 1) site n h → Here (body V.Return)
+    shifts_here : (rs1 imm : ℕ) (members : List Member) {n : ℕ} → Fits (V.Stores Shifts rs1 imm members) at → InStores Shifts part at (length members) n h →
+        Here (body (V.Stores Shifts rs1 imm members))
+    shifts_here rs1 imm members fits (stores_mask (shifts_addi e x3)) = here (body (V.Stores Shifts rs1 imm members)) 0 _ refl (omega arith) (inr refl)
+    shifts_here rs1 imm members fits (stores_mask (shifts_slli e x3)) = here (body (V.Stores Shifts rs1 imm members)) 1 _ refl e (inr refl)
+    shifts_here rs1 imm members fits (stores_mask (shifts_srli e x3 masked)) = here (body (V.Stores Shifts rs1 imm members)) 2 _ refl e (inr refl)
+    shifts_here rs1 imm members fits (stores_store k below e x3 masked) = member_here Shifts rs1 imm members k (suc (suc (suc k))) fits below (λ m is. is) (omega arith) masked
+
+    short_here : (rs1 imm : ℕ) (members : List Member) {n : ℕ} → Fits (V.Stores Short rs1 imm members) at → InStores Short part at (length members) n h →
+        Here (body (V.Stores Short rs1 imm members))
+    short_here rs1 imm members fits (stores_mask (short_and e x3 x4)) = here (body (V.Stores Short rs1 imm members)) 0 _ refl (omega arith) (inr refl)
+    short_here rs1 imm members fits (stores_store k below e x3 masked) = member_here Short rs1 imm members k (suc k) fits below (λ m is. is) (omega arith) masked
+
+    long_here : (rs1 imm : ℕ) (members : List Member) {n : ℕ} → Fits (V.Stores Long rs1 imm members) at → InStores Long part at (length members) n h →
+        Here (body (V.Stores Long rs1 imm members))
+    long_here rs1 imm members fits (stores_mask (long_addi e x3 x4)) = here (body (V.Stores Long rs1 imm members)) 0 _ refl (omega arith) (inr refl)
+    long_here rs1 imm members fits (stores_mask (long_and e x3 x4)) = here (body (V.Stores Long rs1 imm members)) 1 _ refl e (inr refl)
+    long_here rs1 imm members fits (stores_store k below e x3 masked) = member_here Long rs1 imm members k (suc (suc k)) fits below (λ m is. is) (omega arith) masked
+
+    return_here : {site n : ℕ} (older : List ℕ) → stacked ≡ site ∷ older → Fits V.Return at → InReturn part at (r 1) site n h → Here (body V.Return)
     return_here older new fits (return_ld e x3 x1) = here (body V.Return) 0 _ refl (omega arith) (inl (omega arith))
     return_here older new fits (return_addi e x3 x1 x31) = here (body V.Return) 1 _ refl e (inl (omega arith))
     return_here older new fits (return_beq e x3 x1 x31) = here (body V.Return) 2 _ refl e (inl (omega arith), inl (omega arith, inl (omega arith)))
     return_here older new fits (return_other e x3 apart) = here (body V.Return) 3 _ refl e (inl (refl, inl (halted _ BAD_RETURN fits (lit≤ tt, lit< tt))))
     return_here older new fits (return_jump e x3 same x31) =
-        here (body V.Return) 4 _ refl e (refl, refl, (refl, refl, subst (λ (l : List ℕ). AreNewest l (r 1) (h.regs 31)) (sym new) (same, x31)))
+        here (body V.Return) 4 _ refl e (refl, refl, refl, subst (λ (l : List ℕ). AreNewest l (r 1) (h.regs 31)) (sym new) (same, x31))
 
-    call_here : (target : ℕ) {v : ℕ} {m : Memory} → Fits (V.Call target) at → InCall part at v (length pending) h m → Here (body (V.Call target))
-    call_here target fits (call_push i) =
-        push_here (body (V.Call target)) [] (Jal 1 (jump_offset (at + 28) target)) at refl (omega arith) (omega arith) (omega arith) fits.0 i
-    call_here target fits (call_jump e pushed) = here (body (V.Call target)) 7 _ refl e (inr (refl, (sym fits.1, refl)))
+    call_here : (target : ℕ) {v : ℕ} {m : Memory} → p.callee_saves ≡ false → Fits (V.Call target) at → InCall part at v (length stacked) h m → Here (body (V.Call target))
+    call_here target saves fits (call_push i) =
+        push_here saves (body (V.Call target)) [] (Jal 1 (jump_offset (at + 28) target)) at refl (omega arith) (omega arith) (omega arith) fits.0 i
+    call_here target saves fits (call_jump e pushed) = here (body (V.Call target)) 7 _ refl e (inr (refl, (sym fits.1, refl)))
 
     ijump_here : (which : TargetWord) (rs1 imm label : ℕ) {n : ℕ} → Fits (V.Ijump which rs1 imm label) at → {sum : ℕ} →
         InIjump part image which at rs1 imm label sum (destination r rs1 imm) n h → Here (body (V.Ijump which rs1 imm label))
@@ -235,19 +295,54 @@ module _ (p : Profile) (part : ℕ) (image : Memory) (at : ℕ) (pending : List 
         check_here (body (V.Ijump which rs1 imm label)) rs1 imm label which fits (omega arith)
         (λ k j is. slice_get-front (check at rs1 imm label which) (Jalr 0 31 0 ∷ []) k j is) i
     ijump_here which rs1 imm label fits (ijump_jump e checked) =
-        here (body (V.Ijump which rs1 imm label)) 12 _ refl e (refl, refl, (refl, refl, checked.legal, checked.destination_is))
+        here (body (V.Ijump which rs1 imm label)) 12 _ refl e
+        (refl, refl, checked.legal, arrives h (destination r rs1 imm) checked.destination_is checked.legal)
 
-    icall_here : (rs1 imm label : ℕ) {m : Memory} → Fits (V.Icall rs1 imm label) at → {sum : ℕ} →
-        InIcall part image at rs1 imm label sum (destination r rs1 imm) (length pending) h m → Here (body (V.Icall rs1 imm label))
-    icall_here rs1 imm label fits (icall_check i) =
+    icall_here : (rs1 imm label : ℕ) {m : Memory} → p.callee_saves ≡ false → Fits (V.Icall rs1 imm label) at → {sum : ℕ} →
+        InIcall part image at rs1 imm label sum (destination r rs1 imm) (length stacked) h m → Here (body (V.Icall rs1 imm label))
+    icall_here rs1 imm label saves fits (icall_check i) =
         check_here (body (V.Icall rs1 imm label)) rs1 imm label First fits.0 (omega arith)
         (λ k j is. slice_get-front (check at rs1 imm label First) (push (at + 48) ++ Jalr 1 31 0 ∷ []) k j is) i
-    icall_here rs1 imm label fits (icall_push legal i) =
+    icall_here rs1 imm label saves fits (icall_push legal i) =
         let next : at + 56 ≡ at + 48 + 8 = omega arith in
-        push_here (body (V.Icall rs1 imm label)) (check at rs1 imm label First) (Jalr 1 31 0) (at + 48) refl refl (omega arith) (omega arith)
+        push_here saves (body (V.Icall rs1 imm label)) (check at rs1 imm label First) (Jalr 1 31 0) (at + 48) refl refl (omega arith) (omega arith)
         (subst (λ a. Reaches a DEEP) next fits.1) i
-    icall_here rs1 imm label fits (icall_jump e legal pushed) =
-        here (body (V.Icall rs1 imm label)) 19 _ refl e (refl, refl, (refl, refl, legal, pushed.kept))
+    icall_here rs1 imm label saves fits (icall_jump e legal pushed) =
+        here (body (V.Icall rs1 imm label)) 19 _ refl e (refl, refl, legal, arrives h (destination r rs1 imm) pushed.kept legal)
+
+    lean_ijump_here : (rs1 imm label : ℕ) {n : ℕ} → Fits (V.LeanIjump rs1 imm label) at → {sum : ℕ} →
+        InLean part image First at rs1 imm label sum (destination r rs1 imm) n h → Here (body (V.LeanIjump rs1 imm label))
+    lean_ijump_here rs1 imm label fits (lean_check i) =
+        check_here (body (V.LeanIjump rs1 imm label)) rs1 imm label First fits (omega arith)
+        (λ k j is. slice_get-front (check at rs1 imm label First) (mask_made ++ Jalr 0 31 0 ∷ []) k j is) i
+    lean_ijump_here rs1 imm label fits (lean_upper e checked) = here (body (V.LeanIjump rs1 imm label)) 12 _ refl e (inr refl)
+    lean_ijump_here rs1 imm label fits (lean_lower e checked x4) = here (body (V.LeanIjump rs1 imm label)) 13 _ refl e (inr refl)
+    lean_ijump_here rs1 imm label fits (lean_jump e checked x4) =
+        here (body (V.LeanIjump rs1 imm label)) 14 _ refl e
+        (refl, refl, checked.legal, arrives h (destination r rs1 imm) checked.destination_is checked.legal)
+
+    lean_icall_here : (rs1 imm label : ℕ) {n : ℕ} → Fits (V.LeanIcall rs1 imm label) at → {sum : ℕ} →
+        InLean part image Third at rs1 imm label sum (destination r rs1 imm) n h → Here (body (V.LeanIcall rs1 imm label))
+    lean_icall_here rs1 imm label fits (lean_check i) =
+        check_here (body (V.LeanIcall rs1 imm label)) rs1 imm label Third fits (omega arith)
+        (λ k j is. slice_get-front (check at rs1 imm label Third) (mask_made ++ Jalr 1 31 8 ∷ []) k j is) i
+    lean_icall_here rs1 imm label fits (lean_upper e checked) = here (body (V.LeanIcall rs1 imm label)) 12 _ refl e (inl (omega arith))
+    lean_icall_here rs1 imm label fits (lean_lower e checked x4) = here (body (V.LeanIcall rs1 imm label)) 13 _ refl e (inl (omega arith))
+    lean_icall_here rs1 imm label fits (lean_jump e checked x4) =
+        here (body (V.LeanIcall rs1 imm label)) 14 _ refl e
+        (refl, refl, checked.legal, arrives_beyond h (destination r rs1 imm) checked.destination_is checked.legal)
+
+    enter_here : {m : Memory} → Fits V.Enter at → InEnter part at (r 1) (length stacked) h m → Here (body V.Enter)
+    enter_here fits (enter_slli e x3 x1) = here (body V.Enter) 0 _ refl (omega arith) (inr refl)
+    enter_here fits (enter_bne e x3 x1 x30) = here (body V.Enter) 1 _ refl e (inr refl, inl (omega arith, inr refl))
+    enter_here fits (enter_deep e x3 full) = here (body V.Enter) 2 _ refl e (inl (refl, inl (halted _ DEEP fits (lit≤ tt, lit< tt))))
+    enter_here fits (enter_store e x3 x1 some) =
+        let to : address h 3 0 ≡ slot part (length stacked) = omega arith in
+        here (body V.Enter) 3 _ refl e (inr refl, inl (to, some, enter_link p.callee_saves x1))
+    enter_here fits (enter_grow e x3 some stored) = here (body V.Enter) 4 _ refl e (inr refl)
+
+    leaf_here : {n : ℕ} → InLeafReturn part at (r 1) n h → Here (body V.LeafReturn)
+    leaf_here (leaf_jump e x3 x1) = here (body V.LeafReturn) 0 _ refl (omega arith) (refl, refl, refl, x1)
 
     first : (bits imm to : ℕ) → wrap (at + offset bits imm) ≡ to → wrap (at + 4 * 0 + offset bits imm) ≡ to
     first bits imm to e = ap (λ a. wrap (a + offset bits imm)) (let z : at + 4 * 0 ≡ at = omega arith in z) ∙ e
@@ -255,45 +350,46 @@ module _ (p : Profile) (part : ℕ) (image : Memory) (at : ℕ) (pending : List 
     word_here : (unit : U.Unit) (i : Instr) {n : ℕ} → slice_get (place_instrs p (body unit) at) 0 ≡ Some i → Fact (body unit) 0 i → InWord part at n h → Here (body unit)
     word_here unit i is fact (only e x3) = here (body unit) 0 i is (omega arith) fact
 
-    any_return_here : (m : Memory) (sites : List ℕ) → pending ≡ sites → Fits V.Return at → InUnit part image V.Return at sites r h m → Here (body V.Return)
+    any_return_here : (m : Memory) (sites : List ℕ) → stacked ≡ sites → Fits V.Return at → InUnit part image V.Return at sites r h m → Here (body V.Return)
     any_return_here m [] none fits i = absurd i
     any_return_here m (site ∷ older) new fits i = return_here older new fits i
 
-    unit_here : (unit : U.Unit) (m : Memory) → is_full unit ≡ true → Fits unit at → InUnit part image unit at pending r h m → Here (body unit)
-    unit_here (V.Gate label) m full fits i = word_here (V.Gate label) _ refl (inr refl) i
-    unit_here (V.Plain instr) m full fits i = word_here (V.Plain instr) instr refl (quiet_fact (body (V.Plain instr)) 0 instr (plain_quiet instr fits.1) (inr refl)) i
-    unit_here (V.Branch op rs1 rs2 target) m full fits i = branch_here op rs1 rs2 target fits i
-    unit_here (V.Near op rs1 rs2 target) m full fits i =
+    pub unit_here : (unit : U.Unit) (m : Memory) → stands_in p.callee_saves unit ≡ true → Fits unit at → InUnit part image unit at stacked r h m → Here (body unit)
+    unit_here (V.Gate label) m stands fits i = word_here (V.Gate label) _ refl (inr refl) i
+    unit_here (V.Plain instr) m stands fits i = word_here (V.Plain instr) instr refl (quiet_fact (body (V.Plain instr)) 0 instr (plain_quiet instr fits.1) (inr refl)) i
+    unit_here (V.Branch op rs1 rs2 target) m stands fits i = branch_here op rs1 rs2 target fits i
+    unit_here (V.Near op rs1 rs2 target) m stands fits i =
         word_here (V.Near op rs1 rs2 target) _ refl (inr refl, inr (inr (refl, ap Some (sym (first 13 (near_offset at target * 2) target fits.2))), refl)) i
-    unit_here (V.Jump target) m full fits i =
+    unit_here (V.Jump target) m stands fits i =
         word_here (V.Jump target) _ refl (inl (refl, inr (inl refl, ap Some (sym (first 21 (jump_offset at target * 2) target fits.1)), refl))) i
-    unit_here V.Stop m full fits i =
+    unit_here V.Stop m stands fits i =
         word_here V.Stop _ refl (inl (refl, inl (halted _ BAD_TARGET (first 21 (jump_offset at BAD_TARGET * 2) BAD_TARGET fits) (lit≤ tt, lit< tt)))) i
-    unit_here (V.System S.Ecall) m full fits i = word_here (V.System S.Ecall) _ refl (inr refl) i
-    unit_here (V.System S.Ebreak) m full fits i = word_here (V.System S.Ebreak) _ refl (inr refl) i
-    unit_here (V.Guarded ns) m full fits i = guarded_here ns fits i
-    unit_here (V.Stores Shifts rs1 imm members) m full fits i = stores_here rs1 imm members fits i
-    unit_here (V.Stores Short rs1 imm members) m full fits i = absurd (cc)
-    unit_here (V.Stores Long rs1 imm members) m full fits i = absurd (cc)
-    unit_here (V.Call target) m full fits i = call_here target fits i
-    unit_here (V.Ijump which rs1 imm label) m full fits i = ijump_here which rs1 imm label fits i
-    unit_here (V.Icall rs1 imm label) m full fits i = icall_here rs1 imm label fits i
-    unit_here V.Return m full fits i = any_return_here m pending refl fits i
-    unit_here (V.LinkCall target) m full fits i = absurd (cc)
-    unit_here V.Enter m full fits i = absurd (cc)
-    unit_here (V.LeanIjump rs1 imm label) m full fits i = absurd (cc)
-    unit_here (V.LeanIcall rs1 imm label) m full fits i = absurd (cc)
-    unit_here V.LeafReturn m full fits i = absurd (cc)
+    unit_here (V.System S.Ecall) m stands fits i = word_here (V.System S.Ecall) _ refl (inr refl) i
+    unit_here (V.System S.Ebreak) m stands fits i = word_here (V.System S.Ebreak) _ refl (inr refl) i
+    unit_here (V.Guarded ns) m stands fits i = guarded_here ns fits i
+    unit_here (V.Stores Shifts rs1 imm members) m stands fits i = shifts_here rs1 imm members fits i
+    unit_here (V.Stores Short rs1 imm members) m stands fits i = short_here rs1 imm members fits i
+    unit_here (V.Stores Long rs1 imm members) m stands fits i = long_here rs1 imm members fits i
+    unit_here (V.Call target) m stands fits i = call_here target (caller_saves p.callee_saves (V.Call target) refl stands) fits i
+    unit_here (V.Ijump which rs1 imm label) m stands fits i = ijump_here which rs1 imm label fits i
+    unit_here (V.Icall rs1 imm label) m stands fits i = icall_here rs1 imm label (caller_saves p.callee_saves (V.Icall rs1 imm label) refl stands) fits i
+    unit_here V.Return m stands fits i = any_return_here m stacked refl fits i
+    unit_here (V.LinkCall target) m stands fits i =
+        word_here (V.LinkCall target) _ refl (inr (refl, (sym (first 21 (jump_offset at target * 2) target fits), refl))) i
+    unit_here V.Enter m stands fits i = enter_here fits i.1
+    unit_here (V.LeanIjump rs1 imm label) m stands fits i = lean_ijump_here rs1 imm label fits i
+    unit_here (V.LeanIcall rs1 imm label) m stands fits i = lean_icall_here rs1 imm label fits i
+    unit_here V.LeafReturn m stands fits i = leaf_here i
 
-    closing_here : InClosing at h → Here closing
+    pub closing_here : InClosing at h → Here closing
     closing_here (closing_number e) = here closing 0 _ refl (omega arith) (inr tt)
     closing_here (closing_ecall e x17) = here closing 1 _ refl e (inr tt)
 
-    handler_here : h.pc ≡ at → Here handler
+    pub handler_here : h.pc ≡ at → Here handler
     handler_here e = here handler 0 Ebreak refl (omega arith) (inr tt)
 
 -- the words of an opening's set-up lead to the next one
-set_up_quiet : (p : Profile) → IsProfile p → list_all is_quiet (set_up p) ≡ true
+set_up_quiet : (p : Profile) → IsFullProfile p → list_all is_quiet (set_up p) ≡ true
 set_up_quiet p (inl e) = subst (λ (q : Profile). list_all is_quiet (set_up q) ≡ true) (sym e) refl
 set_up_quiet p (inr e) = subst (λ (q : Profile). list_all is_quiet (set_up q) ≡ true) (sym e) refl
 
@@ -302,46 +398,90 @@ one_quiet [] k i all is = absurd (cc)
 one_quiet (j ∷ instrs) zero i all is = ap is_quiet (sym (same_Some j i is)) ∙ (and_parts _ _ all).0
 one_quiet (j ∷ instrs) (suc k) i all is = one_quiet instrs k i (and_parts _ _ all).1 is
 
--- the opening's words
-module _ (p : Profile) (is : IsProfile p) (part : ℕ) (low : part < 2 ^ 32) (image : Memory) (r : Registers) (h : Hart) (entry : ℕ) (fits : Fits (V.Call entry) (call_at p)) where
+-- the opening's words, where callers save sites
+module _ (p : Profile) (is : IsFullProfile p) (part : ℕ) (low : part < 2 ^ 32) (image : Memory) (r : Registers) (h : Hart) (entry : ℕ) (fits : Fits (V.Call entry) (call_at p)) where
   abbrev OpeningHere : Type 0
   OpeningHere = Here p part image OPENING [] r h (opening entry)
+
+  get_whole : (k : ℕ) (i : Instr) → slice_get (set_up p ++ (push (call_at p) ++ Jal 1 (jump_offset (call_at p + 28) entry) ∷ [])) k ≡ Some i →
+      slice_get (place_instrs p (opening entry) OPENING) k ≡ Some i
+  get_whole k i found = ap (λ l. slice_get l k) (opening_parts p is entry) ∙ found
 
   set_up_here : (k : ℕ) → k < length (set_up p) → h.pc ≡ OPENING + 4 * k → OpeningHere
   set_up_here k below e =
       let site = call_site p is in let set = set_up_length p is in
       elim (slice_get_cases (set_up p) k).1 [
         | inl (i, within, found, same) ↦
-            here p part image OPENING [] r h (opening entry) k i (slice_get-front (set_up p) _ k i found) e
+            here p part image OPENING [] r h (opening entry) k i (get_whole k i (slice_get-front (set_up p) _ k i found)) e
             (quiet_fact p part image OPENING [] r h (opening entry) k i (one_quiet (set_up p) k i (set_up_quiet p is) found) (inl (omega arith)))
         | inr past ↦ let beyond = past.0 in absurd (omega arith)
       ]
 
   calling_here : {v : ℕ} {m : Memory} → InCall part (call_at p) v 0 h m → OpeningHere
   calling_here (call_push i) =
-      let site = call_site p is in let set = set_up_length p is in let layout = laid_out p is in
-      push_here p part image OPENING [] r h (lit< tt) low (opening entry) (set_up p) (Jal 1 (jump_offset (call_at p + 28) entry)) (call_at p) refl (sym set)
-      (omega arith) (omega arith) fits.0 i
+      let site = call_site p is in let set = set_up_length p is in let layout = laid_out p (inl is) in
+      push_here p part image OPENING [] r h (lit< tt) low (full_saves p is) (opening entry) (set_up p) (Jal 1 (jump_offset (call_at p + 28) entry)) (call_at p)
+      (opening_parts p is entry) (sym set) (omega arith) (omega arith) fits.0 i
   calling_here (call_jump e pushed) =
-      let site = call_site p is in let set = set_up_length p is in let layout = laid_out p is in
+      let site = call_site p is in let set = set_up_length p is in let layout = laid_out p (inl is) in
       let to : OPENING + 4 * (length (set_up p) + 7) ≡ call_at p + 28 = omega arith in
       let leads : wrap (OPENING + 4 * (length (set_up p) + 7) + offset 21 (jump_offset (call_at p + 28) entry * 2)) ≡ entry =
       ap (λ a. wrap (a + offset 21 (jump_offset (call_at p + 28) entry * 2))) to ∙ fits.1 in
       here p part image OPENING [] r h (opening entry) (length (set_up p) + 7) (Jal 1 (jump_offset (call_at p + 28) entry))
-      (slice_get-back (set_up p) (push (call_at p) ++ Jal 1 (jump_offset (call_at p + 28) entry) ∷ []) 7) (omega arith) (inr (refl, (sym leads, omega arith)))
+      (get_whole (length (set_up p) + 7) _ (slice_get-back (set_up p) (push (call_at p) ++ Jal 1 (jump_offset (call_at p + 28) entry) ∷ []) 7)) (omega arith)
+      (inr (refl, (sym leads, omega arith)))
 
-  opening_here : {m : Memory} → InOpening p part h m → OpeningHere
+  pub opening_here : {m : Memory} → InOpening p part h m → OpeningHere
   opening_here (opening_lone version i) =
       let (k, below, e) = lone_word i in let call = ap call_at version in let set = set_up_length p is in set_up_here k (omega arith) e
   opening_here (opening_own version i) =
       let (k, below, e) = own_word i in let call = ap call_at version in let set = set_up_length p is in set_up_here k (omega arith) e
   opening_here (opening_call v i) = calling_here i
 
-pub place_here : (p : Profile) (part : ℕ) (image : Memory) (place : Place) (at : ℕ) (pending : List ℕ) (r : Registers) (h : Hart) (m : Memory) → at < 2 ^ 32 →
-    part < 2 ^ 32 → IsFullPlace place → MayStand p place at pending → InPlace p part image place at pending r h m → Here p part image at pending r h place
-place_here p part image handler at pending r h m small low full may i = handler_here p part image at pending r h small low i
-place_here p part image (opening entry) at [] r h m small low full may i =
-    subst (λ (a : ℕ). Here p part image a [] r h (opening entry)) (sym may.1) (opening_here p may.0 part low image r h entry may.3 i)
-place_here p part image (opening entry) at (site ∷ pending) r h m small low full may i = let none = may.2 in absurd (cc)
-place_here p part image closing at pending r h m small low full may i = closing_here p part image at pending r h small low i
-place_here p part image (body unit) at pending r h m small low full may i = unit_here p part image at pending r h small low unit m full may.0 i
+-- and where callees do
+module _ (p : Profile) (several : Bool) (this : IsLeanOpening p several) (part : ℕ) (image : Memory) (r : Registers) (h : Hart) (entry : ℕ) where
+  abbrev LeanHere : Type 0
+  LeanHere = Here p part image OPENING [] r h (opening entry)
+
+  lean_whole : (k : ℕ) (i : Instr) → slice_get (lean.opening_instrs several entry) k ≡ Some i → slice_get (place_instrs p (opening entry) OPENING) k ≡ Some i
+  lean_whole k i found = ap (λ l. slice_get l k) (this.instrs entry) ∙ found
+
+  lean_set_up : (k : ℕ) (i : Instr) → slice_get (lean.opening_instrs several entry) k ≡ Some i → is_quiet i ≡ true → OPENING + 4 * (k + 1) < lean.site_of several →
+      h.pc ≡ OPENING + 4 * k → LeanHere
+  lean_set_up k i found quiet below e =
+      let site = this.site in
+      here p part image OPENING [] r h (opening entry) k i (lean_whole k i found) e (quiet_fact p part image OPENING [] r h (opening entry) k i quiet (inl (omega arith)))
+
+  lean_calling : (k : ℕ) → OPENING + 4 * k ≡ lean.call_at several →
+      slice_get (lean.opening_instrs several entry) k ≡ Some (Jal 1 (jump_offset (lean.call_at several) entry)) → Fits (V.LinkCall entry) (lean.call_at several) →
+      h.pc ≡ OPENING + 4 * k → LeanHere
+  lean_calling k at found fits e =
+      let leads : wrap (OPENING + 4 * k + offset 21 (jump_offset (lean.call_at several) entry * 2)) ≡ entry =
+      ap (λ a. wrap (a + offset 21 (jump_offset (lean.call_at several) entry * 2))) at ∙ fits in
+      here p part image OPENING [] r h (opening entry) k _ (lean_whole k _ found) e (inr (refl, (sym leads, at ∙ sym this.call)))
+
+module _ (p : Profile) (part : ℕ) (image : Memory) (r : Registers) (h : Hart) (entry : ℕ) where
+  lone_here : (this : IsLeanOpening p false) → Fits (V.LinkCall entry) (lean.call_at false) → InLone part h → LeanHere p false this part image r h entry
+  lone_here this fits (lean.lone_stack e mine) = lean_set_up p false this part image r h entry 0 _ refl refl (omega arith) e
+  lone_here this fits (lean.lone_mask e mine) = lean_set_up p false this part image r h entry 1 _ refl refl (omega arith) e
+  lone_here this fits (lean.lone_less e mine x4) = lean_set_up p false this part image r h entry 2 _ refl refl (omega arith) e
+  lone_here this fits (lean.lone_shadow e mine x4) = lean_set_up p false this part image r h entry 3 _ refl refl (omega arith) e
+  lone_here this fits (lean.lone_slot e mine x4 x3) = lean_set_up p false this part image r h entry 4 _ refl refl (omega arith) e
+  lone_here this fits (lean.lone_call e x4 x3) = lean_calling p false this part image r h entry 5 refl refl fits e
+
+  own_here : (this : IsLeanOpening p true) → Fits (V.LinkCall entry) (lean.call_at true) → InOwn part h → LeanHere p true this part image r h entry
+  own_here this fits (lean.own_stack e mine) = lean_set_up p true this part image r h entry 0 _ refl refl (omega arith) e
+  own_here this fits (lean.own_mask e mine) = lean_set_up p true this part image r h entry 1 _ refl refl (omega arith) e
+  own_here this fits (lean.own_less e mine x4) = lean_set_up p true this part image r h entry 2 _ refl refl (omega arith) e
+  own_here this fits (lean.own_offset e mine x4) = lean_set_up p true this part image r h entry 3 _ refl refl (omega arith) e
+  own_here this fits (lean.own_end e mine x4) = lean_set_up p true this part image r h entry 4 _ refl refl (omega arith) e
+  own_here this fits (lean.own_shadow e mine x4) = lean_set_up p true this part image r h entry 5 _ refl refl (omega arith) e
+  own_here this fits (lean.own_part_offset e mine x4 x3) = lean_set_up p true this part image r h entry 6 _ refl refl (omega arith) e
+  own_here this fits (lean.own_part e mine x4 x3) = lean_set_up p true this part image r h entry 7 _ refl refl (omega arith) e
+  own_here this fits (lean.own_slot e x3 x4) = lean_set_up p true this part image r h entry 8 _ refl refl (omega arith) e
+  own_here this fits (lean.own_call e x4 x3) = lean_calling p true this part image r h entry 9 refl refl fits e
+
+  pub lean_opening_here : (several : Bool) (this : IsLeanOpening p several) → Fits (V.LinkCall entry) (lean.call_at several) → InSetUp several part h →
+      LeanHere p several this part image r h entry
+  lean_opening_here true this fits i = own_here this fits i
+  lean_opening_here false this fits i = lone_here this fits i

@@ -1,9 +1,10 @@
--- What an executed instruction writes, from what is known of its word: the next slot of the own part of the
--- shadow stack, or data, or nothing.
-use Rattle.std.proofs.Common.{ℕ, ◌+◌, ◌<◌, ◌≤◌, ◌⊎◌, inl, inr, List, length, refl, ap, arith}
+-- What an executed instruction writes, from what is known of its word: data, or a slot of the own part of the shadow stack, or
+-- nothing. Where callees save sites, the slot is that of the newest site, and that site is what is written.
+use Rattle.std.proofs.Common.{◌≡◌, ℕ, ◌+◌, ◌-◌, ◌^◌, ◌<◌, ◌≤◌, ◌⊎◌, inl, inr, Bool, true, false, List, [], ◌∷◌, length, refl, sym, ap, subst, ◌∙◌, arith}
+use Rattle.std.specs.Prelude.{if◌then◌else◌}
 use Rattle.std.proofs.lemmas.Bool.{cond_both}
 use Rattle.rv_word.specs.MemoryMap.{DATA_END, PART_SIZE, Profile, can_load, can_store}
-use Rattle.rv_word.specs.Memory.{Memory}
+use Rattle.rv_word.specs.Memory.{Memory, read, write}
 use Rattle.rv_instr.specs.Registers.{Registers, get_reg}
 use Rattle.rv_instr.specs.declared.instr.Instr.{Instr}
 use Rattle.rv_instr.specs.declared.instr.Instr.TheVariants.{Upper, Branch, Load, Store, Ecall}
@@ -13,41 +14,97 @@ use Rattle.rv_code.specs.Arithmetic.{branch_taken, load_size, store_size}
 use Rattle.rv_code.specs.State.{After, Hart, Shared}
 use Rattle.rv_code.specs.Step.{address, exec, store_at}
 use Rattle.rv_code.proofs.Calls.{AfterCall, after_call, answered, ended}
-use Rattle.rv_code.proofs.Frames.{write_outside}
+use Rattle.rv_code.proofs.Frames.{read_same, read_write, write_outside}
 use Rattle.cfi_unit.specs.declared.place.Place.{Place}
-use Rattle.cfi_unit.specs.Shadow.{slot}
+use Rattle.cfi_unit.specs.declared.place.Place.TheVariants.{Body as body}
+use Rattle.cfi_unit.specs.declared.unit.Unit.TheVariants as V
+use Rattle.cfi_unit.specs.Shadow.{slot, MOST_PENDING}
 use Rattle.cfi_unit.proofs.Regions.{store_size-small}
-use Rattle.cfi_confined.specs.Confined.{WritesOwn}
-use Rattle.cfi_confined.proofs.Words.{Fact, StoreFact}
+use Rattle.cfi_pending.specs.Starts.{StandsBy, fresh}
+use Rattle.cfi_confined.specs.Confined.{SavesNewest, WritesOwn, slot_for}
+use Rattle.cfi_confined.proofs.Words.{Fact, SavesLink, StoreFact}
 
-module _ (p : Profile) (part : ℕ) (image : Memory) (at : ℕ) (pending : List ℕ) (r : Registers) (h : Hart) (s : Shared) where
-  abbrev Writes : After → Type 0
-  Writes a = WritesOwn part (length pending) s.memory a.shared.memory
+-- nothing past data is written, so no slot is
+kept_newest : (callee_saves : Bool) (part : ℕ) (pending : List ℕ) (m m' : Memory) → DATA_END ≤ part → ((k : ℕ) → DATA_END ≤ k → m' k ≡ m k) →
+    SavesNewest callee_saves part pending m m'
+kept_newest false part pending m m' high same = tt
+kept_newest true part [] m m' high same = tt
+kept_newest true part (site ∷ pending) m m' high same = inl (read_same 8 m m' (slot part (length pending)) (λ k from to. same k (omega arith)))
 
-  call_writes : (a : After) → AfterCall h s a → Writes a
-  call_writes a (answered t pc regs going same) k high out = same k (omega arith)
-  call_writes a (ended status t same) k high out = ap (λ (m : Memory). m k) same
+-- of the pending sites all stand on the shadow stack where callers save them; at an enter all but the newest, which is in x1
+module _ (p : Profile) (part : ℕ) (high : DATA_END ≤ part) (image : Memory) (at : ℕ) (pending stacked : List ℕ) (r : Registers) (h : Hart) (s : Shared) (place : Place)
+    (full : p.callee_saves ≡ false → stacked ≡ pending) (lean : place ≡ body V.Enter → StandsBy fresh r pending stacked × (r 1 < 2 ^ 64)) where
+  pub record Written (a : After) : Type 0 where
+    pub own : WritesOwn part (slot_for p (length pending)) s.memory a.shared.memory
+    pub newest : SavesNewest p.callee_saves part pending s.memory a.shared.memory
 
-  -- neither the next slot nor what is near data is beside them
-  apart : (a n k : ℕ) → n ≤ 8 → StoreFact p part image at pending r h a → DATA_END ≤ k →
-      (k < slot part (length pending)) ⊎ ((slot part (length pending) + 8 ≤ k) ⊎ (part + PART_SIZE ≤ k)) → (k < a) ⊎ (a + n ≤ k)
-  apart a n k few (inl to) high (inl below) = let e = to.0 in inl (omega arith)
-  apart a n k few (inl to) high (inr (inl above)) = let e = to.0 in inr (omega arith)
-  apart a n k few (inl to) high (inr (inr past)) = let e = to.0 in let room = to.1 in inr (omega arith)
-  apart a n k few (inr low) high out = inr (omega arith)
+  abbrev Quiet : After → Type 0
+  Quiet a = (k : ℕ) → DATA_END ≤ k → a.shared.memory k ≡ s.memory k
 
-  store_writes : (op : StoreOp) (v a : ℕ) → StoreFact p part image at pending r h a → Writes (store_at p op v h s a)
-  store_writes op v a fact =
-      cond_both (can_store p a (store_size op)) _ _ Writes
-      (λ can k high out. write_outside (store_size op) s.memory a v k (apart a (store_size op) k (store_size-small op) fact high out)) (λ cannot k high out. refl)
+  quietly : (a : After) → Quiet a → Written a
+  quietly a quiet = record { own = λ k above out. quiet k above; newest = kept_newest p.callee_saves part pending s.memory a.shared.memory high quiet }
 
-  pub writes : (place : Place) (k : ℕ) (i : Instr) → Fact p part image at pending r h place k i → Writes (exec p i h s)
-  writes place k (Branch op rs1 rs2 imm) fact =
-      cond_both (branch_taken op (get_reg h.regs rs1) (get_reg h.regs rs2)) _ _ Writes (λ taken a high out. refl) (λ not_taken a high out. refl)
-  writes place k (Load op rd rs1 imm) fact =
-      cond_both (can_load p (address h rs1 imm) (load_size op)) _ _ Writes (λ can a high out. refl) (λ cannot a high out. refl)
-  writes place k (Store op rs1 rs2 imm) fact = store_writes op (get_reg h.regs rs2) (address h rs1 imm) fact.1
-  writes place k Ecall fact = call_writes (exec p Ecall h s) (after_call h s)
-  writes place k (Upper Lui rd imm) fact = λ a high out. refl
-  writes place k (Upper Auipc rd imm) fact = λ a high out. refl
-  writes place k other fact = λ a high out. refl
+  call_quiet : (a : After) → AfterCall h s a → Quiet a
+  call_quiet a (answered t pc regs going same) k above = same k (omega arith)
+  call_quiet a (ended status t same) k above = ap (λ (m : Memory). m k) same
+
+  -- the slot of a store to the shadow stack
+  tail_length : (sites : List ℕ) → StandsBy fresh r sites stacked → length sites - 1 ≡ length stacked
+  tail_length [] stands = absurd stands
+  tail_length (site ∷ older) stands = let same = ap length stands.1 in omega arith
+
+  slot_is : (op : StoreOp) (rs2 : ℕ) (callee_saves : Bool) → p.callee_saves ≡ callee_saves → SavesLink p part image at stacked r h callee_saves place op rs2 →
+      (if callee_saves then length pending - 1 else length pending) ≡ length stacked
+  slot_is op rs2 false saves link = ap length (sym (full saves))
+  slot_is op rs2 true saves link = tail_length pending (lean link.0).0
+
+  -- and what is stored there
+  link_newest : (op : StoreOp) (rs2 a : ℕ) (callee_saves : Bool) (sites : List ℕ) → SavesLink p part image at stacked r h callee_saves place op rs2 →
+      (place ≡ body V.Enter → StandsBy fresh r sites stacked × (r 1 < 2 ^ 64)) → a ≡ slot part (length stacked) →
+      SavesNewest callee_saves part sites s.memory (write (store_size op) s.memory a (get_reg h.regs rs2))
+  link_newest op rs2 a false sites link stands to = tt
+  link_newest op rs2 a true [] link stands to = tt
+  link_newest op rs2 a true (site ∷ older) link stands to =
+      let here = stands link.0 in
+      let newest : h.regs 1 ≡ site = link.3 ∙ here.0.0 in
+      let there : a ≡ slot part (length older) = to ∙ ap (λ (l : List ℕ). slot part (length l)) here.0.1 in
+      let whole : read 8 (write 8 s.memory (slot part (length older)) (h.regs 1)) (slot part (length older)) ≡ h.regs 1 =
+      read_write 8 s.memory (slot part (length older)) (h.regs 1) (let low = here.1 in let same = link.3 in omega arith) in
+      let stored : read 8 (write (store_size op) s.memory a (get_reg h.regs rs2)) (slot part (length older)) ≡ h.regs 1 =
+      ap (λ (o : StoreOp). read 8 (write (store_size o) s.memory a (get_reg h.regs rs2)) (slot part (length older))) link.1
+      ∙ ap (λ n. read 8 (write 8 s.memory a (get_reg h.regs n)) (slot part (length older))) link.2
+      ∙ ap (λ b. read 8 (write 8 s.memory b (h.regs 1)) (slot part (length older))) there
+      ∙ whole in
+      inr (stored ∙ newest)
+
+  -- what is beside the slot is beside what is stored there
+  abbrev Beside : ℕ → ℕ → Type 0
+  Beside k n = (k < slot part n) ⊎ ((slot part n + 8 ≤ k) ⊎ (part + PART_SIZE ≤ k))
+
+  apart : (a n k : ℕ) → n ≤ 8 → a ≡ slot part (length stacked) → length stacked < MOST_PENDING → Beside k (length stacked) → (k < a) ⊎ (a + n ≤ k)
+  apart a n k few to room (inl below) = inl (omega arith)
+  apart a n k few to room (inr (inl above)) = inr (omega arith)
+  apart a n k few to room (inr (inr past)) = inr (omega arith)
+
+  store_writes : (op : StoreOp) (rs2 a : ℕ) → StoreFact p part image at stacked r h place op rs2 a → Written (store_at p op (get_reg h.regs rs2) h s a)
+  store_writes op rs2 a (inr low) =
+      cond_both (can_store p a (store_size op)) _ _ Written
+      (λ can. quietly _ (λ k above. write_outside (store_size op) s.memory a (get_reg h.regs rs2) k (let few = store_size-small op in inr (omega arith))))
+      (λ cannot. quietly _ (λ k above. refl))
+  store_writes op rs2 a (inl (to, room, link)) =
+      cond_both (can_store p a (store_size op)) _ _ Written
+      (λ can. record {
+        own = λ k above out. write_outside (store_size op) s.memory a (get_reg h.regs rs2) k (apart a (store_size op) k (store_size-small op) to room (subst (Beside k) (slot_is op rs2 p.callee_saves refl link) out));
+        newest = link_newest op rs2 a p.callee_saves pending link lean to;
+      }) (λ cannot. quietly _ (λ k above. refl))
+
+  pub writes : (k : ℕ) (i : Instr) → Fact p part image at stacked r h place k i → Written (exec p i h s)
+  writes k (Branch op rs1 rs2 imm) fact =
+      cond_both (branch_taken op (get_reg h.regs rs1) (get_reg h.regs rs2)) _ _ Written (λ taken. quietly _ (λ a above. refl)) (λ not_taken. quietly _ (λ a above. refl))
+  writes k (Load op rd rs1 imm) fact =
+      cond_both (can_load p (address h rs1 imm) (load_size op)) _ _ Written (λ can. quietly _ (λ a above. refl)) (λ cannot. quietly _ (λ a above. refl))
+  writes k (Store op rs1 rs2 imm) fact = store_writes op rs2 (address h rs1 imm) fact.1
+  writes k Ecall fact = quietly (exec p Ecall h s) (call_quiet (exec p Ecall h s) (after_call h s))
+  writes k (Upper Lui rd imm) fact = quietly _ (λ a above. refl)
+  writes k (Upper Auipc rd imm) fact = quietly _ (λ a above. refl)
+  writes k other fact = quietly _ (λ a above. refl)

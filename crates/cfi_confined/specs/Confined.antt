@@ -1,9 +1,10 @@
 -- Confined runs: of each executed instruction, where it leads, what it writes and how it ends, said by the
 -- word at the pc and the graph's lines alone.
-use Rattle.std.specs.Prelude.{◌≡◌, ℕ, ◌+◌, ◌-◌, ◌<◌, ◌≤◌, ◌==◌, ◌⊎◌, IsTrue, List, [], ◌∷◌, length, Option, Some, None, if◌then◌else◌}
+use Rattle.std.specs.Prelude.{◌≡◌, ℕ, Bool, true, false, ◌+◌, ◌-◌, ◌<◌, ◌≤◌, ◌==◌, ◌⊎◌, IsTrue, List, [], ◌∷◌, length, Option, Some, None, if◌then◌else◌}
 use Rattle.std.specs.List.{Contains}
 use Rattle.rv_word.specs.Image.{Contents}
 use Rattle.rv_word.specs.declared.version.GraphVersion.{GraphVersion}
+use Rattle.rv_word.specs.declared.version.GraphVersion.TheVariants.{OneLabel, TwoLabels, CalleeSaves}
 use Rattle.rv_word.specs.MemoryMap.{CODE_START, DATA_END, PART_SIZE, START, MayRun, Profile, part_of}
 use Rattle.rv_word.specs.Memory.{Memory, read}
 use Rattle.rv_word.specs.Numbers.{is_listed}
@@ -26,17 +27,39 @@ use Rattle.cfi_unit.specs.Shadow.{slot, MOST_PENDING}
 use Rattle.cfi_rules.specs.Along.{AreStepsOf, MayStart, OnRan}
 
 -- Distances in code, by the version of its graph: how far before a computed transfer the address of its site
--- line is, how far before a direct call that of its call line, and how far ahead the `ecall` may be to which a
--- branch leads
+-- line is, how far before a direct call that of its call line, how far past a class's target a computed transfer
+-- leads, and how far ahead the `ecall` may be to which a branch leads
 abbrev pub before_site : GraphVersion → SiteKind → ℕ
-before_site version K.Jump = 48
-before_site version K.Call = 76
+before_site OneLabel K.Jump = 48
+before_site OneLabel K.Call = 76
+before_site TwoLabels K.Jump = 48
+before_site TwoLabels K.Call = 76
+before_site CalleeSaves kind = 56
 
 abbrev pub before_call : GraphVersion → ℕ
-before_call version = 28
+before_call OneLabel = 28
+before_call TwoLabels = 28
+before_call CalleeSaves = 0
+
+abbrev pub past_target : GraphVersion → SiteKind → ℕ
+past_target CalleeSaves K.Call = 8
+past_target CalleeSaves K.Jump = 0
+past_target OneLabel kind = 0
+past_target TwoLabels kind = 0
 
 abbrev pub most_skip : GraphVersion → ℕ
-most_skip version = 64
+most_skip OneLabel = 64
+most_skip TwoLabels = 64
+most_skip CalleeSaves = 64
+
+-- how many calls may be pending: where callees save their return addresses one more, whose own is in x1 alone
+abbrev pub most_calls : Profile → ℕ
+most_calls p = if p.callee_saves then MOST_PENDING + 1 else MOST_PENDING
+
+-- which slot of the shadow stack may be written while so many calls are pending: that of the next call, or, where
+-- callees save, that of the newest one
+abbrev pub slot_for : Profile → ℕ → ℕ
+slot_for p n = if p.callee_saves then n - 1 else n
 
 -- the sort of the classes that serve one kind of computed transfers alone, and the line of such a class
 abbrev pub sort_of : SiteKind → Sort
@@ -46,13 +69,15 @@ sort_of K.Jump = sorts.Jumps
 abbrev pub class_line : SiteKind → ℕ → List ℕ → GraphLine
 class_line kind label targets = Class (sort_of kind) label targets
 
--- the graph has a site line at an address, and the class with its label has a target
-pub record IsSiteTo (lines : List GraphLine) (kind : SiteKind) (site to : ℕ) : Type 0 where
+-- the graph has a site line at an address, and the class with its label has a target that leads there
+pub record IsSiteTo (version : GraphVersion) (lines : List GraphLine) (kind : SiteKind) (site to : ℕ) : Type 0 where
   pub label : ℕ
   pub targets : List ℕ
+  pub gate : ℕ
   pub listed : Contains lines (Site site kind label)
   pub class : Contains lines (Class sorts.Both label targets) ⊎ Contains lines (class_line kind label targets)
-  pub target : Contains targets to
+  pub target : Contains targets gate
+  pub behind : to ≡ gate + past_target version kind
 
 -- the graph has no site line at an address
 abbrev pub NoSite : List GraphLine → ℕ → Type 0
@@ -89,7 +114,7 @@ JumpMoves graph code pc to =
 abbrev pub ComputedMoves : GraphParts → ℕ → List ℕ → ℕ → List ℕ → Type 0
 ComputedMoves graph pc pending to newer =
     let site = pc - before_site graph.version K.Jump in
-    (NoSite graph.lines site × (pending ≡ to ∷ newer)) ⊎ (IsSiteTo graph.lines K.Jump site to × (newer ≡ pending))
+    (NoSite graph.lines site × (pending ≡ to ∷ newer)) ⊎ (IsSiteTo graph.version graph.lines K.Jump site to × (newer ≡ pending))
 
 -- where an instruction at a pc may lead, and the return addresses of the calls pending there, the newest first.
 -- No other `jal` or `jalr` is executed, and no word that is no instruction
@@ -101,7 +126,7 @@ Moves p graph code (Some (Jal rd imm)) pc pending to newer =
     ⊎ ((rd ≡ 1) × Contains graph.lines (Call (call_line p graph.version pc) to) × (newer ≡ (pc + 4) ∷ pending))
 Moves p graph code (Some (Jalr rd rs1 imm)) pc pending to newer =
     ((rd ≡ 0) × ComputedMoves graph pc pending to newer)
-    ⊎ ((rd ≡ 1) × IsSiteTo graph.lines K.Call (pc - before_site graph.version K.Call) to × (newer ≡ (pc + 4) ∷ pending))
+    ⊎ ((rd ≡ 1) × IsSiteTo graph.version graph.lines K.Call (pc - before_site graph.version K.Call) to × (newer ≡ (pc + 4) ∷ pending))
 Moves p graph code (Some other) pc pending to newer = (to ≡ pc + 4) × (newer ≡ pending)
 
 -- how an instruction at a pc may end: no handler runs on, and past the prologue the program may break or load
@@ -130,11 +155,17 @@ MayEcall p graph other pc number = Unit {0}
 abbrev pub fetched : Memory → ℕ → Option Instr
 fetched m a = decoded (read 4 m a)
 
--- memory is as it was outside of data and of the slot for one more of so many pending calls in a hart's own
--- part of the shadow stack
+-- memory is as it was outside of data and of a slot in a hart's own part of the shadow stack
 abbrev pub WritesOwn : ℕ → ℕ → Memory → Memory → Type 0
 WritesOwn part n before after =
     (a : ℕ) → DATA_END ≤ a → (a < slot part n) ⊎ ((slot part n + 8 ≤ a) ⊎ (part + PART_SIZE ≤ a)) → after a ≡ before a
+
+-- where callees save, what is written there is the return address of the newest call
+abbrev pub SavesNewest : Bool → ℕ → List ℕ → Memory → Memory → Type 0
+SavesNewest false part pending before after = Unit {0}
+SavesNewest true part [] before after = Unit {0}
+SavesNewest true part (site ∷ pending) before after =
+    let slot_at = slot part (length pending) in (read 8 after slot_at ≡ read 8 before slot_at) ⊎ (read 8 after slot_at ≡ site)
 
 -- the return addresses of the pending calls of each hart
 abbrev pub Pending : Type 0
@@ -153,10 +184,11 @@ ConfinedAlong p graph pending harts s (t ∷ rest) =
     let code = fetched now.memory in
     MayStop p h.pc after.turn
     × MayEcall p graph (code h.pc) h.pc (h.regs 17)
-    × WritesOwn (part_of t.hart) (length (pending t.hart)) now.memory after.shared.memory
+    × WritesOwn (part_of t.hart) (slot_for p (length (pending t.hart))) now.memory after.shared.memory
+    × SavesNewest p.callee_saves (part_of t.hart) (pending t.hart) now.memory after.shared.memory
     × OnRan after.turn
     ((newer : List ℕ)
-    × (length newer ≤ MOST_PENDING)
+    × (length newer ≤ most_calls p)
     × Moves p graph code (code h.pc) h.pc (pending t.hart) after.hart.pc newer
     × ConfinedAlong p graph (with_pending pending t.hart newer) (with_hart harts t.hart after.hart) after.shared rest)
     (Unit {0})

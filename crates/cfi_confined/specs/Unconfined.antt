@@ -1,13 +1,17 @@
 -- Small pairs with one fault each, which are not confined: so it is not said of everything.
-use Rattle.std.specs.Prelude.{[], ◌∷◌}
+use Rattle.std.specs.Prelude.{ℕ, List, [], ◌∷◌, ◌++◌, map}
 use Rattle.rv_word.specs.Image.{Contents}
-use Rattle.rv_word.specs.declared.version.GraphVersion.TheVariants.{OneLabel}
-use Rattle.rv_word.specs.MemoryMap.{version_1, version_2}
+use Rattle.rv_word.specs.declared.version.GraphVersion.TheVariants.{OneLabel, CalleeSaves}
+use Rattle.rv_word.specs.declared.version.ImageVersion.TheVariants.{OneHart}
+use Rattle.rv_word.specs.MemoryMap.{START, lean_version_1, version_1, version_2}
+use Rattle.rv_code.specs.Encode.{code_of}
 use Rattle.cfi_graph.specs.Graph.{GraphParts}
+use Rattle.cfi_graph.specs.declared.line.GraphLine.{GraphLine}
 use Rattle.cfi_graph.specs.declared.line.Sort.TheVariants as sorts
 use Rattle.cfi_graph.specs.declared.line.GraphLine.TheVariants.{Call, Class, Edge, Site}
 use Rattle.cfi_graph.specs.declared.line.SiteKind.TheVariants as K
-use Rattle.cfi_rules.specs.Unsafe.{astray_call, astray_call_graph, breaking_closing, breaking_closing_graph, calling_opening, graph_of, graph_with, handler_graph, handler_with, high_pointer, illegal_handler, image_with, loading_handler, one_pointer_graph, opening_graph, storing_handler, storing_opening}
+use Rattle.cfi_unit.specs.Prologue.{prologue_instrs}
+use Rattle.cfi_rules.specs.Unsafe.{astray_call, astray_call_graph, breaking_closing, breaking_closing_graph, bytes_of, calling_opening, graph_of, graph_with, handler_graph, handler_with, high_pointer, illegal_handler, image_with, loading_handler, one_pointer_graph, opening_graph, storing_handler, storing_opening}
 use Rattle.cfi_confined.specs.Confined.{IsConfined}
 
 -- a jump to the stop that follows it, whose graph has no edge
@@ -50,6 +54,42 @@ borrowed_edge = image_with (0x00001663 ∷ 0x0080006f ∷ 0xfb9ff06f ∷ 0xfb5ff
 abbrev pub borrowed_edge_graph : GraphParts
 borrowed_edge_graph = graph_with 0x50 (Edge 0x40000040 0x4000004c ∷ [])
 
+-- where callees save sites: the prologue, whose call goes to the first unit, and words after it; and the call's line, and others
+abbrev pub lean_image_with : List ℕ → Contents
+lean_image_with words = record { version = OneHart; init = []; code = bytes_of (map code_of (prologue_instrs lean_version_1 lean_version_1.units_from) ++ words) }
+
+abbrev pub lean_graph_with : ℕ → List GraphLine → List GraphLine → GraphParts
+lean_graph_with len classes lines = record { version = CalleeSaves; code = len; lines = classes ++ (Call START lean_version_1.units_from ∷ lines) }
+
+-- a store of x3 to the slot of the newest site
+abbrev pub saved_pointer : Contents
+saved_pointer = lean_image_with (0x0031b023 ∷ [])
+
+-- a store of the newest site to the slot after its own
+abbrev pub saved_high : Contents
+saved_high = lean_image_with (0x0011b423 ∷ [])
+
+-- a return through x1, once that is four past the newest site
+abbrev pub moved_link : Contents
+moved_link = lean_image_with (0x00408093 ∷ 0x00008067 ∷ [])
+
+abbrev pub lean_graph : ℕ → GraphParts
+lean_graph len = lean_graph_with len [] []
+
+-- a computed call that goes to the target of its class, and not past the gate there
+abbrev pub short_call : Contents
+short_call = lean_image_with (0x00000297 ∷ 0x00c280e7 ∷ [])
+
+abbrev pub short_call_graph : GraphParts
+short_call_graph = lean_graph_with 0x34 (Class sorts.Both 1 (0x40000038 ∷ []) ∷ []) (Site 0x3ffffff8 K.Call 1 ∷ [])
+
+-- such as are faults where callees save sites
+pub record LeanFaultsAreUnconfined : Type 0 where
+  pub saved : IsConfined lean_version_1 saved_pointer (lean_graph 0x30) → ⊥
+  pub slot : IsConfined lean_version_1 saved_high (lean_graph 0x30) → ⊥
+  pub link : IsConfined lean_version_1 moved_link (lean_graph 0x34) → ⊥
+  pub gate : IsConfined lean_version_1 short_call short_call_graph → ⊥
+
 -- stops that may not come where they do
 pub record WrongStopsAreUnconfined : Type 0 where
   pub run : IsConfined version_1 running_handler handler_graph → ⊥
@@ -59,7 +99,8 @@ pub record WrongStopsAreUnconfined : Type 0 where
   pub break : IsConfined version_1 breaking_closing breaking_closing_graph → ⊥
 
 -- transfers that go along no line of their own, to no target of their class, or back to no newest call; stops;
--- an opening that makes a system call, and such as write another slot, or another hart's part of the shadow stack
+-- an opening that makes a system call, and such as write another slot, or another hart's part of the shadow stack; and
+-- those of lean images
 pub record FaultsAreUnconfined : Type 0 where
   pub jump : IsConfined version_1 unlisted_jump unlisted_jump_graph → ⊥
   pub borrowed : IsConfined version_1 borrowed_edge borrowed_edge_graph → ⊥
@@ -71,3 +112,4 @@ pub record FaultsAreUnconfined : Type 0 where
   pub call : IsConfined version_2 calling_opening one_pointer_graph → ⊥
   pub slot : IsConfined version_1 high_pointer opening_graph → ⊥
   pub part : IsConfined version_2 storing_opening one_pointer_graph → ⊥
+  pub lean : LeanFaultsAreUnconfined

@@ -1,7 +1,7 @@
 -- A request that is prepared is ready to be written, and what its writing comes to is what the request comes to.
 use Rattle.std.proofs.Common.{ℕ, ◌^◌, ◌<◌, ◌≤◌, List, Result, Ok, Err, arith, refl, subst, sym}
 use Rattle.std.specs.Prelude.{sum}
-use Rattle.rv_word.proofs.Versions.{is_profile, laid_out}
+use Rattle.rv_word.proofs.Profiles.{is_profile, laid_out}
 use Rattle.rv_word.specs.Form.{graph_version, image_version, profile_for}
 use Rattle.rv_word.specs.MemoryMap.{CODE_SIZE}
 use Rattle.rv_word.specs.declared.end.End.{End}

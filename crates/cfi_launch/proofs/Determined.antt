@@ -6,11 +6,11 @@ use Rattle.rv_word.specs.Image.{Contents, image_profile}
 use Rattle.rv_word.specs.MemoryMap.{MayRun, profile_of}
 use Rattle.elf_image.specs.Fault.{version_in}
 use Rattle.cfi_graph.specs.Graph.{GraphParts}
-use Rattle.cfi_rules.specs.Rules.{IsWellFormed}
+use Rattle.cfi_rules.specs.Rules.{IsWellFormed, pair_profile}
 use Rattle.cfi_script.specs.Script.{ScriptParts}
 use Rattle.cfi_pair.specs.Spelled.{Spell}
 use Rattle.cfi_pair.specs.declared.opening.PairFault.TheVariants.{Graph, Image}
-use Rattle.cfi_pair.proofs.Determined.{judged_read, no_fault, none_rejected, own}
+use Rattle.cfi_pair.proofs.Determined.{graph_read, no_fault, none_rejected, own}
 use Rattle.cfi_pair.proofs.OneImage.{version_told}
 use Rattle.cfi_launch.specs.Launch.{HasRun, IsLaunchEnd, IsLaunchFault, IsLaunchOf, script_given}
 use Rattle.rv_word.specs.declared.end.End.{End}
@@ -33,7 +33,7 @@ module _ (image_bytes graph_bytes : List ℕ) (image : Contents) (graph : GraphP
     no_launch_fault (Pair (Image refusal)) is = let none = no_fault image_bytes graph_bytes image graph spell in cc (is, none)
     no_launch_fault (Pair (Graph line reason)) is =
         let wrong = is.1 in
-        let right = judged_read image_bytes graph_bytes image graph spell in
+        let right = graph_read image_bytes graph_bytes image graph spell in
         cc (wrong, right)
     no_launch_fault (Script line reason) is = let wrong = is.1 in cc (wrong, given)
     no_launch_fault (Harts count) is =
@@ -47,7 +47,7 @@ module _ (image_bytes graph_bytes : List ℕ) (image : Contents) (graph : GraphP
     no_run NoMemory result has is = inr is
     no_run (Fault fault) result has is = absurd (no_launch_fault fault has)
 
-    pub run_there : (well : IsWellFormed (image_profile image) image graph) (input : List ℕ) (limit : ℕ) (launched : Launched)
+    pub run_there : (well : IsWellFormed (pair_profile image graph) image graph) (input : List ℕ) (limit : ℕ) (launched : Launched)
         → IsLaunchOf image_bytes graph_bytes script input limit launched → HasRun (Ok launched) ⊎ (◌≡◌ {A = Result Launched (End LaunchFault)} (Ok launched) (Err NoMemory))
     run_there well input limit (Ran version report) is = inl tt
     run_there well input limit (Rejected reject) is =

@@ -6,7 +6,7 @@ use Rattle.rv_word.specs.declared.version.ImageVersion.TheVariants.{OneHart, Eig
 use Rattle.rv_word.specs.MemoryMap.{MayRun, profile_of}
 use Rattle.rv_word.specs.declared.profile.TheConstants.{MOST_HARTS}
 use Rattle.rv_word.proofs.Cases.{chosen}
-use Rattle.rv_word.proofs.Versions.{is_profile, laid_out}
+use Rattle.rv_word.proofs.Profiles.{is_profile, laid_out}
 use Rattle.rv_word.specs.declared.end.End.{End}
 use Rattle.text_lines.specs.Lines.{lines_of, words_of}
 use Rattle.text_lines.specs.Reading.{if_right, one_named}

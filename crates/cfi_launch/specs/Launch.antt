@@ -9,7 +9,7 @@ use Rattle.text_lines.specs.declared.fault.LineFault.{LineFault}
 use Rattle.text_lines.specs.Answers.{line_fault}
 use Rattle.elf_image.specs.Fault.{version_in}
 use Rattle.cfi_graph.specs.Graph.{GraphParts}
-use Rattle.cfi_rules.specs.Rules.{IsRejected, IsWellFormed}
+use Rattle.cfi_rules.specs.Rules.{IsRejected, IsWellFormed, pair_profile}
 use Rattle.cfi_script.specs.Script.{ScriptParts}
 use Rattle.cfi_script.specs.ScriptText.{script_of}
 use Rattle.cfi_pair.specs.Opening.{AreRead, IsPairFault}
@@ -49,7 +49,7 @@ IsLaunchEnd image graph script NoMemory = ⊤
 
 -- the pair is rejected, or it is run
 abbrev pub IsLaunchOfPair : Contents → GraphParts → ScriptParts → List ℕ → ℕ → Launched → Type 0
-IsLaunchOfPair image graph script input limit (Rejected reject) = IsRejected (image_profile image) image graph reject
+IsLaunchOfPair image graph script input limit (Rejected reject) = IsRejected (pair_profile image graph) image graph reject
 IsLaunchOfPair image graph script input limit (Ran version report) = (version ≡ image.version) × IsSafeRun image graph script input limit report
 
 -- the texts spell a pair and a script, whose harts the image may have, of which this comes
@@ -68,4 +68,4 @@ HasRun other = ⊥
 abbrev pub IsComplete : List ℕ → List ℕ → Option (List ℕ) → Result Launched (End LaunchFault) → Type 0
 IsComplete image_bytes graph_bytes script result =
     (image : Contents) (graph : GraphParts) (read : ScriptParts) → Spell image_bytes graph_bytes image graph → script_given script ≡ Ok read
-    → MayRun (image_profile image) read.harts → IsWellFormed (image_profile image) image graph → HasRun result ⊎ (result ≡ Err NoMemory)
+    → MayRun (image_profile image) read.harts → IsWellFormed (pair_profile image graph) image graph → HasRun result ⊎ (result ≡ Err NoMemory)

@@ -1,13 +1,13 @@
 -- What the report of a run says: the pair meets the rules, is safe and is confined, the program makes no system calls but those of the
 -- graph's list, if there is one, and this is its run under a script.
 use Rattle.std.specs.Prelude.{◌≡◌, ℕ, List, [], Some}
-use Rattle.rv_word.specs.Image.{Contents, image_profile}
+use Rattle.rv_word.specs.Image.{Contents}
 use Rattle.rv_code.specs.State.{start_hart, start_shared}
 use Rattle.cfi_graph.specs.Graph.{GraphParts, calls_in}
 use Rattle.cfi_confined.specs.Confined.{IsConfined}
 use Rattle.cfi_rules.specs.Along.{IsSafe}
 use Rattle.cfi_rules.specs.Listed.{IsListed}
-use Rattle.cfi_rules.specs.Rules.{IsWellFormed}
+use Rattle.cfi_rules.specs.Rules.{IsWellFormed, pair_profile}
 use Rattle.cfi_script.specs.Plan.{planned}
 use Rattle.cfi_step.specs.Report.{IsReport}
 use Rattle.cfi_script.specs.Script.{ScriptParts, script_plan}
@@ -19,9 +19,9 @@ undisturbed_script = record { harts = 1; turns = []; changes = [] }
 
 -- a report of a safe pair's run under a script, with its harts, their turns and its changes
 pub record IsSafeRun (image : Contents) (graph : GraphParts) (script : ScriptParts) (input : List ℕ) (limit : ℕ) (report : RunReport) : Type 0 where
-  pub well_formed : IsWellFormed (image_profile image) image graph
-  pub safe : IsSafe (image_profile image) image graph
-  pub listed : (calls : List ℕ) → calls_in graph.lines ≡ Some calls → IsListed (image_profile image) image calls
-  pub confined : IsConfined (image_profile image) image graph
-  pub report_is : IsReport (image_profile image) image input script.harts
-      (planned (image_profile image) (script_plan script) script.harts 0 start_hart (start_shared image input) limit) report
+  pub well_formed : IsWellFormed (pair_profile image graph) image graph
+  pub safe : IsSafe (pair_profile image graph) image graph
+  pub listed : (calls : List ℕ) → calls_in graph.lines ≡ Some calls → IsListed (pair_profile image graph) image calls
+  pub confined : IsConfined (pair_profile image graph) image graph
+  pub report_is : IsReport (pair_profile image graph) image input script.harts
+      (planned (pair_profile image graph) (script_plan script) script.harts 0 start_hart (start_shared image input) limit) report

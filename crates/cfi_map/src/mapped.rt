@@ -3,7 +3,7 @@
 ghost use Rattle.std.specs.Prelude.{◌≡◌, ◌<◌, ◌≤◌, ◌^◌, ℕ, true, false, IfOk, IfSome, Some, is_some, length, slice_index};
 ghost use Rattle.std.specs.List.Sorted.{IsStrictlyIncreasing};
 ghost use Rattle.rv_word.specs.Form.{graph_version, profile_for};
-ghost use Rattle.rv_word.specs.MemoryMap.{IsProfile};
+ghost use Rattle.rv_word.specs.MemoryMap.{IsFullProfile};
 ghost use Rattle.obj_program.specs.AtMap.{instr_at};
 ghost use Rattle.obj_program.specs.DataAtMap.{data_at, init_size};
 ghost use Rattle.obj_program.specs.MapFit.{EndsLast};
@@ -127,7 +127,7 @@ impl<'a, 'b> Mapped<'a, 'b> {
         ensures sound { IsSound self.now.program }
         ensures last { EndsLast self.now.program }
         ensures entry { self.now.entry < count self.now.program }
-        ensures profile { IsProfile self.now.profile }
+        ensures profile { IsFullProfile self.now.profile }
     {
         self.items.fits_maps();
         self.items.count()

@@ -17,12 +17,12 @@ use Rattle.cfi_unit.specs.declared.unit.Unit as U
 use Rattle.cfi_unit.specs.declared.unit.Unit.TheVariants as V
 use Rattle.cfi_unit.specs.UnitWords.{after_unit, word_count}
 use Rattle.cfi_unit.specs.Leads.{sum_of}
-use Rattle.cfi_rules.specs.Rules.{jump_word}
 use Rattle.cfi_runs.specs.Distances.{field, level}
 use Rattle.cfi_runs.specs.GroupStores.{IsPast, members_from, own_store}
 use Rattle.cfi_runs.specs.Own.{Own, executes, own_step}
 use Rattle.cfi_runs.specs.Tame.{IsTame, touched}
 use Rattle.cfi_runs.proofs.GroupPlaces.{IsStoreAt, group_step}
+use Rattle.cfi_rules.specs.Lines.{jump_word}
 use Rattle.cfi_writer.specs.Units.{Choice, behind, group_at, instr_of, is_later_at, low_at, member_at, member_for, offset_at, offset_of, unit_here}
 use Rattle.cfi_writer.proofs.GroupUnit.{IsStore, bases, inside, masked, store_at}
 use Rattle.cfi_meaning.specs.ImageOf.{IsImageOf, IsPlace}

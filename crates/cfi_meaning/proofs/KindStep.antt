@@ -27,9 +27,9 @@ use Rattle.cfi_unit.specs.declared.target_word.TargetWord.{TargetWord}
 use Rattle.cfi_unit.specs.Leads.{sum_of}
 use Rattle.cfi_unit.specs.Leaving.{with_memory}
 use Rattle.cfi_unit.proofs.Regions.{can_store_data, store_size-small}
-use Rattle.cfi_rules.specs.Rules.{jump_word}
 use Rattle.cfi_runs.specs.Own.{Own, OwnAfter, executes, goes, own_past}
 use Rattle.cfi_runs.specs.Tame.{IsTame, touched}
+use Rattle.cfi_rules.specs.Lines.{jump_word}
 use Rattle.cfi_writer.specs.Units.{Group, call_unit, group_at, instr_of, inverse, unit_here, unit_of}
 use Rattle.cfi_writer.proofs.GroupUnit.{IsStore}
 use Rattle.cfi_writer.proofs.Standing.{instr_is, next_after}

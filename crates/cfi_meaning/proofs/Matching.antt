@@ -6,7 +6,7 @@ use Rattle.std.proofs.lemmas.List.{get_or_past}
 use Rattle.rv_word.specs.Image.{Contents}
 use Rattle.rv_word.specs.MemoryMap.{SHADOW_START}
 use Rattle.rv_word.specs.Memory.{loaded}
-use Rattle.rv_word.proofs.Versions.{laid_out}
+use Rattle.rv_word.proofs.Profiles.{laid_out}
 use Rattle.rv_code.specs.State.{After}
 use Rattle.obj_program.specs.Program.{count}
 use Rattle.cfi_map.specs.GraphAtMap.{ProgramAtMap, gate}
@@ -70,7 +70,7 @@ IsSite site = (site % 2 ≡ 0) × (site < 2 ^ 64)
 module _ (m : Choice) (ok : IsAccepted m) where
   closing_site : IsSite m.layout.profile.closing
   closing_site =
-      let laid = laid_out m.layout.profile ok.profile in
+      let laid = laid_out m.layout.profile (inl ok.profile) in
       let first_unit = laid.closing in
       let high = laid.high in
       let round = laid.round in

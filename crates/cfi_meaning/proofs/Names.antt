@@ -17,9 +17,9 @@ use Rattle.cfi_map.specs.Placement.{whole_at}
 use Rattle.cfi_unit.specs.declared.mask.Mask.TheVariants.{Shifts}
 use Rattle.cfi_unit.specs.declared.target_word.TargetWord.{TargetWord}
 use Rattle.cfi_unit.specs.declared.unit.Unit.TheVariants as V
-use Rattle.cfi_rules.specs.Rules.{jump_word}
 use Rattle.cfi_runs.specs.Tame.{NamesNoReserved}
 use Rattle.cfi_runs.proofs.GroupMembers.{stores_free}
+use Rattle.cfi_rules.specs.Lines.{jump_word}
 use Rattle.cfi_writer.specs.Accepted.{IsAccepted}
 use Rattle.cfi_writer.specs.Units.{Choice, call_unit, Group, behind, group_at, instr_of, is_later_at, low_at, member_at, member_for, unit_here, unit_of}
 use Rattle.cfi_writer.proofs.GroupUnit.{IsStore, inside, store_at}

@@ -1,10 +1,10 @@
 -- Nothing differs: where the program's run goes on its trace is the beginning of the image's, and where
 -- it has ended both are the same.
-use Rattle.std.proofs.Common.{◌≡◌, ℕ, zero, suc, ◌+◌, ◌-◌, ◌≤◌, ◌==◌, Bool, true, List, [], ◌∷◌, ◌++◌, length, map, Option, Some, None, append-nil, append_assoc, replicate, refl, sym, ap, subst, ◌∙◌, arith}
+use Rattle.std.proofs.Common.{inl, ◌≡◌, ℕ, zero, suc, ◌+◌, ◌-◌, ◌≤◌, ◌==◌, Bool, true, List, [], ◌∷◌, ◌++◌, length, map, Option, Some, None, append-nil, append_assoc, replicate, refl, sym, ap, subst, ◌∙◌, arith}
 use Rattle.std.proofs.lemmas.Bool.{eq-eqb, le-ltb}
 use Rattle.rv_word.specs.Image.{Contents}
 use Rattle.rv_word.specs.MemoryMap.{Profile}
-use Rattle.rv_word.proofs.Versions.{laid_out}
+use Rattle.rv_word.proofs.Profiles.{laid_out}
 use Rattle.rv_code.specs.Continue.{continue}
 use Rattle.rv_code.specs.Run.{ByteChange, next_or_stop, run_alone}
 use Rattle.rv_code.specs.State.{After, start_hart, start_shared}
@@ -168,7 +168,7 @@ module _ (m : Choice) (ok : IsAccepted m) (image : Contents) (input : List ℕ) 
       let events : (after most).shared.events ≡ st.shared.events = ap (λ (x : After). x.shared.events) same ∙ answer.2.events in
       let turn : (after most).turn ≡ Break (word m.layout k) = ap (λ (x : After). x.turn) same ∙ answer.0 in
       let past = answer.1 in
-      let low = (laid_out p ok.profile).low in
+      let low = (laid_out p (inl ok.profile)).low in
       let own : image_end (Break (word m.layout k)) ≡ broke ∷ [] = rw (le-ltb (word m.layout k) OPENING (omega arith)) refl in
       let none : first_difference 0 true (trace st.shared.events (broke ∷ [])) (trace (after most).shared.events (image_end (after most).turn)) ≡ None =
       ap (λ (es : List Event). first_difference 0 true (trace st.shared.events (broke ∷ [])) (trace es (image_end (after most).turn))) events

@@ -8,7 +8,7 @@ use Rattle.rv_code.specs.declared.turn.Turn.TheVariants.{Ran}
 use Rattle.rv_word.specs.Image.{Contents}
 use Rattle.rv_word.specs.Memory.{Memory, loaded}
 use Rattle.rv_word.specs.MemoryMap.{Profile}
-use Rattle.rv_word.proofs.Versions.{laid_out}
+use Rattle.rv_word.proofs.Profiles.{full_saves, laid_out}
 use Rattle.obj_program.specs.Program.{count, is_end, item_of}
 use Rattle.cfi_map.specs.GraphAtMap.{gate, word}
 use Rattle.cfi_unit.specs.declared.unit.Unit as U
@@ -22,8 +22,8 @@ use Rattle.cfi_runs.specs.OwnRuns.{OwnRuns, words_along}
 use Rattle.cfi_runs.specs.Tame.{IsTame, NamesNoReserved, TameStep}
 use Rattle.cfi_rules.specs.Split.{code_words, unit_at}
 use Rattle.cfi_rules.proofs.Places.{unit_facts}
-use Rattle.cfi_rules.proofs.RuleFacts.{unit_full}
 use Rattle.cfi_rules.proofs.Standing.{unit_stands}
+use Rattle.cfi_rules.proofs.StartKinds.{stands_full}
 use Rattle.cfi_writer.specs.Accepted.{IsAccepted}
 use Rattle.cfi_writer.specs.Units.{Choice, behind, is_later_at, lead, lead_unit, unit_here}
 use Rattle.cfi_writer.proofs.Grouping.{later_behind, later_below, later_store, other_first}
@@ -90,13 +90,15 @@ module _ (m : Choice) (image : Contents) (of : IsImageOf m image) where
   pub stands_here : (a : ℕ) (u : U.Unit) → unit_at m.layout.profile (code_words image.code) a ≡ Some u → Fits u a × Stand (loaded image) a (instrs_of u a)
   stands_here a u e =
       let p = m.layout.profile in
-      let laid = laid_out p of.accepted.profile in
-      let here = unit_facts p of.accepted.profile image (written_graph m image of) of.bytes (formed m image of) a u e in
+      let laid = laid_out p (inl of.accepted.profile) in
+      let here = unit_facts p (inl of.accepted.profile) image (written_graph m image of) of.bytes (formed m image of) a u e in
       (here.begins.fits, unit_stands p laid image of.bytes a u here)
 
   -- and is one of code whose callers save sites
   full_here : (a : ℕ) (u : U.Unit) → unit_at m.layout.profile (code_words image.code) a ≡ Some u → is_full u ≡ true
-  full_here a u e = unit_full m.layout.profile image (written_graph m image of) (formed m image of) a u e
+  full_here a u e =
+      stands_full m.layout.profile (inl of.accepted.profile) image (written_graph m image of) of.bytes (formed m image of) a u
+      (full_saves m.layout.profile of.accepted.profile) e
 
   pub unit_written : (k : ℕ) → k < count m.layout.program → is_later_at m k ≡ false →
       unit_at m.layout.profile (code_words image.code) (word m.layout k) ≡ Some (unit_here m k)

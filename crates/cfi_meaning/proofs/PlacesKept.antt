@@ -8,7 +8,7 @@ use Rattle.std.proofs.lemmas.Nat.{mul-le}
 use Rattle.rv_word.specs.Image.{Contents}
 use Rattle.rv_word.specs.MemoryMap.{Profile, SHADOW_START, version_1, version_2}
 use Rattle.rv_word.specs.Memory.{loaded}
-use Rattle.rv_word.proofs.Versions.{laid_out}
+use Rattle.rv_word.proofs.Profiles.{laid_out}
 use Rattle.rv_instr.specs.Registers.{cleared}
 use Rattle.rv_code.specs.State.{After}
 use Rattle.rv_code.specs.declared.turn.Turn.{Turn}
@@ -115,7 +115,7 @@ bound_rises lead last few n less = let more = mul-le (20 + lead) few (20 + lead)
 pub places_kept : law.PlacesKept
 places_kept m image input places next o of chain free on =
     let p = m.layout.profile in
-    let laid = laid_out p of.accepted.profile in
+    let laid = laid_out p (inl of.accepted.profile) in
     let closing = laid.closing in
     let low = laid.low in
     let first = own_start p 0 (entry_gate m) cleared (own_shared image input) in

@@ -1,5 +1,5 @@
 -- What is written meets the rules, so its prologue stands.
-use Rattle.std.proofs.Common.{◌≡◌, ℕ, length, refl, sym, ap, subst, ◌∙◌}
+use Rattle.std.proofs.Common.{◌≡◌, ℕ, inl, length, refl, sym, ap, subst, ◌∙◌}
 use Rattle.std.proofs.lemmas.Option.{same_Some}
 use Rattle.rv_word.specs.Image.{Contents}
 use Rattle.rv_word.specs.Memory.{loaded}
@@ -29,10 +29,10 @@ pub written_prologue : law.WrittenPrologue
 written_prologue m image of =
     let p = m.layout.profile in
     let is = of.accepted.profile in
-    let found = prologue p is image (written_graph m image of) of.bytes (formed m image of) in
+    let found = prologue p (inl is) image (written_graph m image of) of.bytes (formed m image of) in
     let same : found.0 ≡ entry_gate m =
     same_Some found.0 (entry_gate m) (sym found.1.is ∙ ap (entry_of p) of.code ∙ written_entry m of.accepted) in
-    let stands : PrologueStands p (loaded image) found.0 = prologue_stands p is (loaded image) found.0 found.1.stands in
+    let stands : PrologueStands p (loaded image) found.0 = prologue_stands p (inl is) (loaded image) found.0 found.1.stands in
     subst (λ (entry : ℕ). HasPrologue p image entry) same (record {
       is = is;
       bytes = loaded_small image of.bytes;

@@ -5,7 +5,7 @@ use Rattle.std.proofs.lemmas.Option.{same_Some}
 use Rattle.rv_word.specs.Image.{Contents}
 use Rattle.rv_word.specs.MemoryMap.{Profile, SHADOW_START}
 use Rattle.rv_word.specs.Memory.{Memory, loaded}
-use Rattle.rv_word.proofs.Versions.{laid_out}
+use Rattle.rv_word.proofs.Profiles.{laid_out}
 use Rattle.rv_code.specs.State.{After, Hart, Shared, last_exit}
 use Rattle.rv_code.specs.Step.{step, stops}
 use Rattle.rv_code.specs.declared.turn.Turn.{Turn}
@@ -64,7 +64,7 @@ module _ (m : Choice) (image : Contents) (of : IsImageOf m image) where
   has = written_prologue m image of
 
   own_part : IsPart p SHADOW_START
-  own_part = let some = (laid_out p of.accepted.profile).some in own_is_part p of.accepted.profile 0 (omega arith)
+  own_part = let some = (laid_out p (inl of.accepted.profile)).some in own_is_part p (inl of.accepted.profile) 0 (omega arith)
 
   -- the step of a place leaves pending sites that fit
   pub sites_after : (k : ℕ) (o : Own) → TamePlace m image k o → SitesFit o.pending → SitesFit (place_step m k o).state.pending

@@ -15,7 +15,7 @@ use Rattle.obj_program.proofs.Kept.{kept}
 use Rattle.cfi_map.specs.GraphAtMap.{ProgramAtMap, gate, gate_to, word, words_at}
 use Rattle.cfi_map.specs.LabelOf.{site_label}
 use Rattle.cfi_map.specs.Placement.{whole_at}
-use Rattle.cfi_rules.specs.Rules.{jump_word}
+use Rattle.cfi_rules.specs.Lines.{jump_word}
 use Rattle.cfi_writer.specs.Units.{Choice, group_at, instr_of}
 use Rattle.cfi_writer.proofs.Leading.{direct}
 use Rattle.cfi_writer.proofs.Standing.{gate_lies, instr_is, word_is}

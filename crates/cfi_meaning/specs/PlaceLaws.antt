@@ -17,7 +17,7 @@ use Rattle.cfi_runs.specs.Own.{Own, own_step}
 use Rattle.cfi_runs.specs.OwnRuns.{OwnRuns, words_along}
 use Rattle.cfi_runs.specs.Tame.{TameStep}
 use Rattle.cfi_runs.specs.WholeRun.{HasPrologue}
-use Rattle.cfi_rules.specs.Rules.{jump_word}
+use Rattle.cfi_rules.specs.Lines.{jump_word}
 use Rattle.cfi_writer.specs.Accepted.{IsAccepted}
 use Rattle.cfi_writer.specs.SideLaws.{word_read}
 use Rattle.cfi_writer.specs.Units.{Choice, behind, entry_gate, is_later_at, unit_here}

@@ -1,11 +1,11 @@
 -- What the rules say of an image and its graph.
 use Rattle.std.specs.Prelude.{◌≡◌, ◌⊎◌, ℕ, List, Some, Result, Ok, Err}
-use Rattle.rv_word.specs.Image.{Contents, image_profile}
+use Rattle.rv_word.specs.Image.{Contents}
 use Rattle.cfi_graph.specs.Graph.{GraphParts, calls_in}
 use Rattle.cfi_confined.specs.Confined.{IsConfined}
 use Rattle.cfi_rules.specs.Along.{IsSafe}
 use Rattle.cfi_rules.specs.Listed.{IsListed}
-use Rattle.cfi_rules.specs.Rules.{IsWellFormed, IsRejected}
+use Rattle.cfi_rules.specs.Rules.{IsRejected, IsWellFormed, pair_profile}
 use Rattle.cfi_pair.specs.Spelled.{Spell}
 use Rattle.cfi_pair.specs.declared.judging.Verdict.{Verdict}
 use Rattle.cfi_pair.specs.declared.judging.Verdict.TheVariants.{Accepted, Rejected}
@@ -17,10 +17,10 @@ use Rattle.rv_word.specs.declared.end.End.TheVariants.{NoMemory}
 -- confined; rejected: by the first rule that fails
 abbrev pub IsJudgement : Contents → GraphParts → Verdict → Type 0
 IsJudgement image graph Accepted =
-    IsWellFormed (image_profile image) image graph × IsSafe (image_profile image) image graph
-    × ((calls : List ℕ) → calls_in graph.lines ≡ Some calls → IsListed (image_profile image) image calls)
-    × IsConfined (image_profile image) image graph
-IsJudgement image graph (Rejected reject) = IsRejected (image_profile image) image graph reject
+    IsWellFormed (pair_profile image graph) image graph × IsSafe (pair_profile image graph) image graph
+    × ((calls : List ℕ) → calls_in graph.lines ≡ Some calls → IsListed (pair_profile image graph) image calls)
+    × IsConfined (pair_profile image graph) image graph
+IsJudgement image graph (Rejected reject) = IsRejected (pair_profile image graph) image graph reject
 
 -- the texts spell a pair that has this judgement
 abbrev pub HasJudgement : List ℕ → List ℕ → Verdict → Type 0
@@ -30,5 +30,5 @@ HasJudgement image_bytes graph_bytes verdict =
 -- every pair that meets the rules is accepted, but for want of memory
 abbrev pub IsComplete : List ℕ → List ℕ → Result Verdict (End PairFault) → Type 0
 IsComplete image_bytes graph_bytes result =
-    (image : Contents) (graph : GraphParts) → Spell image_bytes graph_bytes image graph → IsWellFormed (image_profile image) image graph
+    (image : Contents) (graph : GraphParts) → Spell image_bytes graph_bytes image graph → IsWellFormed (pair_profile image graph) image graph
     → (result ≡ Ok Accepted) ⊎ (result ≡ Err NoMemory)

@@ -23,7 +23,7 @@ reason_number reason.Form = 1
 reason_number reason.Range = 2
 reason_number reason.Order = 3
 
--- the rules that have an address, after 1 for `Length`
+-- the rules that have an address, after 1 for `Length`; the last to come has the last number
 abbrev pub rule_number : rules.Rule → ℕ
 rule_number R.Prologue = 2
 rule_number R.Unit = 3
@@ -34,6 +34,7 @@ rule_number R.Site = 7
 rule_number R.Gate = 8
 rule_number R.Astray = 9
 rule_number R.End = 10
+rule_number R.Leaf = 11
 
 abbrev pub verdict_of : Result Verdict (End PairFault) → RvcfiVerdict
 verdict_of (Ok Accepted) = numbers 0 0 0 0

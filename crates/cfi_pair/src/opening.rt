@@ -1,15 +1,12 @@
 //! Two texts, read as an image and its graph.
 
-ghost use Rattle.std.specs.Prelude.{◌≡◌, IsTrue, IfOk, IfErr};
-ghost use Rattle.text_lines.specs.Answers.{Answers};
-ghost use Rattle.cfi_graph.specs.Graph.{IsGraph};
-ghost use Rattle.cfi_graph.specs.Text.{graph_text};
-ghost use Rattle.cfi_pair.specs.Opening.{AreRead, IsPairEnd, judged_graph};
-ghost use Rattle.cfi_pair.specs.Spelled.{Spell, is_judged};
+ghost use Rattle.std.specs.Prelude.{IfOk, IfErr};
+ghost use Rattle.cfi_pair.specs.Opening.{AreRead, IsPairEnd};
+ghost use Rattle.cfi_pair.specs.Spelled.{Spell};
 
 use cfi_graph::{Graph, read_graph};
 use elf_image::{ImageRefusal, read_image};
-use rv_word::{End, GraphVersion, Image};
+use rv_word::{End, Image};
 use std::alloc::Global;
 use text_lines::{LineFault, Reason};
 
@@ -29,33 +26,6 @@ pub enum PairFault {
     Graph(u64, Reason),
 }
 
-/// Whether graphs of this version are judged.
-fn is_judged(version: GraphVersion) -> bool
-    ensures { result ≡ is_judged version }
-{
-    match version {
-        GraphVersion::OneLabel | GraphVersion::TwoLabels => true,
-        GraphVersion::CalleeSaves => false,
-    }
-}
-
-/// The graph that a text spells, where it is judged.
-fn read_judged(alloc: Global, text: &[u8]) -> Result<Graph, End<LineFault>>
-    ensures exact { Answers result (judged_graph text.now) }
-    ensures allowed { IfOk result IsGraph }
-    ensures spelled { IfOk result (λ g. text.now ≡ graph_text g) }
-    ensures judged { IfOk result (λ g. IsTrue (is_judged g.version)) }
-{
-    let graph = match read_graph(alloc, text) {
-        Ok(graph) => graph,
-        Err(end) => return Err(end),
-    };
-    if is_judged(graph.version()) {
-        return Ok(graph);
-    }
-    Err(End::Fault(LineFault(1, Reason::Form)))
-}
-
 /// The image and the graph that two texts spell.
 pub fn open_pair<'a>(
     alloc: Global,
@@ -72,7 +42,7 @@ pub fn open_pair<'a>(
     };
     // Computes nothing: it tells the proof the sizes of the image.
     let _code = image.code();
-    match read_judged(alloc, graph) {
+    match read_graph(alloc, graph) {
         Ok(graph) => Ok(Pair { image, graph }),
         Err(End::Fault(LineFault(line, reason))) => {
             Err(End::Fault(PairFault::Graph(line, reason)))

@@ -61,6 +61,7 @@ fn rule_number(rule: Rule) -> u32
         Rule::Gate => 8,
         Rule::Astray => 9,
         Rule::End => 10,
+        Rule::Leaf => 11,
     }
 }
 

@@ -5,7 +5,7 @@ use Rattle.rv_word.specs.MemoryMap.{MayRun}
 use Rattle.cfi_graph.specs.Graph.{GraphParts}
 use Rattle.cfi_script.specs.Script.{ScriptParts}
 use Rattle.cfi_step.specs.declared.report.RunReport.{RunReport}
-use Rattle.cfi_rules.specs.Rules.{IsWellFormed}
+use Rattle.cfi_rules.specs.Rules.{IsWellFormed, pair_profile}
 use Rattle.tool_common.specs.Reads.{Content}
 use Rattle.cfi_pair.specs.Spelled.{Spell}
 use Rattle.cfi_pair.proofs.Determined.{none_rejected, one_pair}
@@ -43,7 +43,7 @@ module _ (image_bytes graph_bytes : List ℕ) (image : Contents) (graph : GraphP
   no_refusal script read given may (Harts count) is = no_fault script read given may (faults.Harts count) is
   no_refusal script read given may other is = is
 
-  module _ (well : IsWellFormed (image_profile image) image graph) where
+  module _ (well : IsWellFormed (pair_profile image graph) image graph) where
     judged : (verdict : D.Verdict) → IsVerdictOf image_bytes graph_bytes verdict → verdict_status verdict ≡ 0
     judged verdicts.Accepted is = refl
     judged (verdicts.Refused refusal) is = absurd (no_refusal None undisturbed_script refl (one_may_run image.version) refusal is)

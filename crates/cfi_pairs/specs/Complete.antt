@@ -3,7 +3,7 @@ use Rattle.std.specs.Prelude.{◌≡◌, ℕ, List, [], ◌∷◌, Ok}
 use Rattle.rv_word.specs.Image.{Contents, image_profile}
 use Rattle.rv_word.specs.MemoryMap.{MayRun}
 use Rattle.cfi_graph.specs.Graph.{GraphParts}
-use Rattle.cfi_rules.specs.Rules.{IsWellFormed}
+use Rattle.cfi_rules.specs.Rules.{IsWellFormed, pair_profile}
 use Rattle.cfi_script.specs.Script.{ScriptParts}
 use Rattle.cfi_step.specs.declared.report.RunReport.{RunReport}
 use Rattle.tool_common.specs.Held.{AreHeld}
@@ -21,7 +21,7 @@ abbrev pub VerifyIsComplete : Content → VerifyWords → ℕ → Type 0
 VerifyIsComplete content words status =
     (image_bytes graph_bytes : List ℕ) (image : Contents) (graph : GraphParts)
     → AreHeld content (verify_names words) (image_bytes ∷ graph_bytes ∷ [])
-    → Spell image_bytes graph_bytes image graph → IsWellFormed (image_profile image) image graph → status ≡ 0
+    → Spell image_bytes graph_bytes image graph → IsWellFormed (pair_profile image graph) image graph → status ≡ 0
 
 -- such a pair is run under a script of its form, whose harts the image may have, and the status is that of the end of
 -- its run
@@ -30,5 +30,5 @@ RunIsComplete content words status =
     (image_bytes graph_bytes script_bytes input : List ℕ) (image : Contents) (graph : GraphParts) (script : ScriptParts)
     → AreHeld content (run_names words) (image_bytes ∷ graph_bytes ∷ script_bytes ∷ input ∷ [])
     → Spell image_bytes graph_bytes image graph → script_given (text_named words.script script_bytes) ≡ Ok script
-    → MayRun (image_profile image) script.harts → IsWellFormed (image_profile image) image graph
+    → MayRun (image_profile image) script.harts → IsWellFormed (pair_profile image graph) image graph
     → (report : RunReport) × IsSafeRun image graph script input words.limit report × (status ≡ end_status report.end)

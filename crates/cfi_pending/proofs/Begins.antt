@@ -1,13 +1,12 @@
 -- At its first word what a start has is what the unit law asks.
-use Rattle.std.proofs.Common.{◌≡◌, ◌+◌, ◌^◌, ◌<◌, ◌≤◌, ℕ, Bool, true, false, List, [], ◌∷◌, length, refl, sym, subst, ap, ◌∙◌, arith}
+use Rattle.std.proofs.Common.{◌≡◌, ◌^◌, ◌<◌, ℕ, Bool, true, false, List, [], ◌∷◌, length, refl, ap, arith}
 use Rattle.rv_word.specs.MemoryMap.{Profile}
 use Rattle.rv_word.specs.Memory.{Memory}
 use Rattle.rv_instr.specs.Registers.{Registers}
-use Rattle.rv_code.specs.State.{Hart, Shared}
+use Rattle.rv_code.specs.State.{Hart}
 use Rattle.cfi_unit.specs.declared.mask.Mask.{Mask}
 use Rattle.cfi_unit.specs.declared.mask.Mask.TheVariants.{Shifts, Short, Long}
 use Rattle.cfi_unit.specs.declared.place.Place.TheVariants.{Body as body}
-use Rattle.cfi_unit.specs.declared.unit.SystemOp.TheVariants as S
 use Rattle.cfi_unit.specs.declared.unit.Unit as U
 use Rattle.cfi_unit.specs.declared.unit.Unit.TheVariants as V
 use Rattle.cfi_unit.specs.InPlace.{InMask, InUnit, only, branch_test, guarded_load, guarded_other, shifts_addi, short_and, long_addi, stores_mask, enter_slli, leaf_jump}
@@ -15,7 +14,7 @@ use Rattle.cfi_unit.specs.Shadow.{slot}
 use Rattle.cfi_unit.specs.Templates.{Asks, MaskAsks}
 use Rattle.cfi_unit.specs.UnitWords.{Fits, STORE_MASK}
 use Rattle.cfi_unit.proofs.Changed.{place_begins}
-use Rattle.cfi_pending.specs.StartLaw.{AreSites, AtStart, BodyBegins, InBody, stands_in}
+use Rattle.cfi_pending.specs.StartLaw.{AreSites, BodyBegins, stands_in}
 use Rattle.cfi_pending.specs.Starts.{Start, StandsBy, fresh, may_stand, saved}
 use Rattle.cfi_pending.proofs.StartSteps.{stacked_of}
 

@@ -1,13 +1,11 @@
 -- From a fresh start.
-use Rattle.std.proofs.Common.{◌≡◌, ◌+◌, ◌*◌, ◌/◌, ◌%◌, ◌^◌, ◌<◌, ◌≤◌, ℕ, true, List, [], ◌∷◌, length, inl, inr, refl, sym, subst, ap, ◌∙◌, arith}
-use Rattle.std.specs.Prelude.{◌⊎◌}
+use Rattle.std.proofs.Common.{◌≡◌, ◌%◌, ◌^◌, ◌<◌, ℕ, true, List, ◌∷◌, length, inl, inr, refl, sym, subst, ap, ◌∙◌, arith}
 use Rattle.rv_instr.specs.Registers.{Registers}
 use Rattle.cfi_unit.specs.declared.unit.SystemOp.TheVariants as S
 use Rattle.cfi_unit.specs.declared.unit.Unit as U
 use Rattle.cfi_unit.specs.declared.unit.Unit.TheVariants as V
 use Rattle.cfi_unit.specs.Flow.{flow_of}
 use Rattle.cfi_unit.specs.Leads.{FlowLeads, Legal, linked_to}
-use Rattle.cfi_unit.specs.Prologue.{OPENING}
 use Rattle.cfi_unit.specs.UnitLaw.{ReturnsTo}
 use Rattle.cfi_unit.specs.UnitWords.{after_unit}
 use Rattle.cfi_pending.specs.Laws.{StaysBy}

@@ -1,16 +1,15 @@
 -- Where units meet what their kinds ask, each leads to starts of the kind that it is to lead to.
-use Rattle.std.proofs.Common.{◌≡◌, ◌+◌, ◌<◌, ◌≤◌, ◌==◌, ℕ, Bool, true, false, not, ◌&&◌, ◌||◌, List, [], ◌∷◌, Option, Some, None, inl, inr, refl, sym, subst, ap, ◌∙◌, arith, nat_le, nat_lt}
-use Rattle.std.specs.Prelude.{◌⊎◌, is_some, if◌then◌else◌}
-use Rattle.std.specs.List.{find, list_any}
+use Rattle.std.proofs.Common.{◌≡◌, ◌+◌, ◌==◌, ℕ, Bool, true, false, not, ◌&&◌, ◌||◌, List, [], ◌∷◌, Option, Some, None, inl, inr, refl, sym, subst, ap, ◌∙◌, arith, nat_lt}
+use Rattle.std.specs.Prelude.{is_some}
+use Rattle.std.specs.List.{list_any}
 use Rattle.std.proofs.lemmas.Bool.{and_from, and_parts, cases_Bool, eqb-true, le-leb, or_cases}
 use Rattle.rv_word.proofs.Cases.{cases_Option}
 use Rattle.cfi_unit.specs.declared.unit.SystemOp.TheVariants as S
 use Rattle.cfi_unit.specs.declared.unit.Unit as U
 use Rattle.cfi_unit.specs.declared.unit.Unit.TheVariants as V
-use Rattle.cfi_unit.specs.Flow as F
 use Rattle.cfi_unit.specs.Flow.{flow_of}
 use Rattle.cfi_unit.specs.UnitWords.{after_unit}
-use Rattle.cfi_pending.specs.Kinds.{IsOfItsKind, Leaf, begins_at, goes_on, in_leaf, is_enter, is_fresh, is_gate, is_gate_there, is_right_behind, is_right_target, leaf_of, may_be_called, may_be_reached, saves, stands_by, start_at, start_if}
+use Rattle.cfi_pending.specs.Kinds.{IsOfItsKind, Leaf, begins_at, goes_on, in_leaf, is_enter, is_fresh, is_gate, is_right_behind, leaf_of, may_be_called, may_be_reached, saves, stands_by, start_at, start_if}
 use Rattle.cfi_pending.specs.KindLaws.{KindsAgree, LeadsTo, MayStandThere, SitesAreSaved}
 use Rattle.cfi_pending.specs.Starts.{Start, fresh, may_stand, next_start, saved}
 
@@ -83,7 +82,7 @@ begun_found (x ∷ leaves) t e = elim (cases_Bool (in_leaf t x)) [
   ])
 ]
 
-is_false : (b : Bool) → not b ≡ true → b ≡ false
+pub is_false : (b : Bool) → not b ≡ true → b ≡ false
 is_false false e = refl
 is_false true e = absurd cc
 
@@ -100,10 +99,10 @@ module _ (unit_at : ℕ → Option U.Unit) (leaves : List Leaf) where
   in_fresh : (v : ℕ) → is_some (leaf_of leaves v) ≡ true → is_fresh unit_at leaves v ≡ true
   in_fresh v e = rw e refl
 
-  enter_fresh : (v : ℕ) → is_enter (unit_at v) ≡ true → is_fresh unit_at leaves v ≡ true
+  pub enter_fresh : (v : ℕ) → is_enter (unit_at v) ≡ true → is_fresh unit_at leaves v ≡ true
   enter_fresh v e = or_right (is_some (leaf_of leaves v)) _ (rw e refl)
 
-  called_fresh : (t : ℕ) → may_be_called unit_at leaves t ≡ true → is_fresh unit_at leaves t ≡ true
+  pub called_fresh : (t : ℕ) → may_be_called unit_at leaves t ≡ true → is_fresh unit_at leaves t ≡ true
   called_fresh t e = elim (or_cases (is_enter (unit_at t)) (list_any (begins_at t) leaves) e) [
     | inl enters ↦ enter_fresh t enters
     | inr begins ↦ in_fresh t (begun_found leaves t begins)

@@ -7,10 +7,10 @@ use Rattle.cfi_pending.proofs.Fresh.{from_fresh}
 use Rattle.cfi_pending.proofs.Saved.{from_saved}
 
 pub pending_law_of : (legal : Legal) → PendingLawOf legal
-pending_law_of legal unit at saved pending before stacked r left next may to stands leads has keeps =
-    from_saved legal at pending before stacked r left next stands unit may leads has
-pending_law_of legal unit at fresh [] before stacked r left next may to stands leads has keeps = absurd stands
-pending_law_of legal unit at fresh (site ∷ rest) before stacked r left next may to stands leads has keeps =
+pending_law_of legal unit at saved pending before stacked r left next may to stands few leads has keeps =
+    from_saved legal at pending before stacked r left next stands few unit may leads has
+pending_law_of legal unit at fresh [] before stacked r left next may to stands few leads has keeps = absurd stands
+pending_law_of legal unit at fresh (site ∷ rest) before stacked r left next may to stands few leads has keeps =
     from_fresh legal at site rest before stacked r left next stands.0 stands.1 (keeps refl) unit may to leads
 
 pub pending_law : PendingLaw

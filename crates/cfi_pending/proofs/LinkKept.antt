@@ -26,7 +26,6 @@ use Rattle.cfi_unit.specs.InPlace.{InUnit}
 use Rattle.cfi_unit.specs.Leaving.{is_this, result_register, write_register}
 use Rattle.cfi_unit.specs.Members.{member_instr}
 use Rattle.cfi_unit.specs.Stand.{Stand}
-use Rattle.cfi_unit.specs.Templates.{is_lean}
 use Rattle.cfi_unit.specs.UnitLaw.{UnitMayStand}
 use Rattle.cfi_unit.specs.UnitWords.{instrs_of, mask_instrs}
 use Rattle.cfi_unit.proofs.Context.{at_word}

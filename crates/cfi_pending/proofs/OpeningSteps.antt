@@ -1,15 +1,14 @@
 -- The opening's words, one after another.
-use Rattle.std.proofs.Common.{◌≡◌, ◌+◌, ◌*◌, ◌^◌, ◌<◌, ℕ, Bool, true, false, List, [], ◌∷◌, ◌++◌, length, inl, inr, refl, sym, subst, ap, ◌∙◌, arith}
+use Rattle.std.proofs.Common.{◌≡◌, ◌+◌, ◌^◌, ◌<◌, ℕ, Bool, true, false, List, [], ◌∷◌, length, inl, inr, refl, ◌∙◌, arith}
 use Rattle.std.specs.Prelude.{◌⊎◌}
-use Rattle.rv_word.specs.MemoryMap.{SHADOW_START, Profile, part_of}
+use Rattle.rv_word.specs.MemoryMap.{Profile}
 use Rattle.rv_word.specs.Memory.{Memory}
 use Rattle.rv_code.specs.State.{After, Hart, Shared}
 use Rattle.rv_code.specs.Step.{step}
-use Rattle.rv_code.specs.declared.turn.Turn.TheVariants.{Ran}
 use Rattle.cfi_unit.specs.declared.place.Place.TheVariants.{Body as body}
 use Rattle.cfi_unit.specs.declared.unit.Unit.TheVariants as V
 use Rattle.cfi_unit.specs.Context.{Context}
-use Rattle.cfi_unit.specs.InPlace.{InWord, only}
+use Rattle.cfi_unit.specs.InPlace.{only}
 use Rattle.cfi_unit.specs.Prologue.{OPENING}
 use Rattle.cfi_unit.specs.Shadow.{IsPart, slot}
 use Rattle.cfi_unit.specs.Stand.{Stand}

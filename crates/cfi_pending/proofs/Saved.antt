@@ -1,6 +1,7 @@
 -- From a saved start.
-use Rattle.std.proofs.Common.{◌≡◌, ◌<◌, ℕ, true, List, [], ◌∷◌, inl, inr, refl, sym, subst, ap, ◌∙◌, arith}
+use Rattle.std.proofs.Common.{◌≡◌, ◌<◌, ◌≤◌, ℕ, true, List, ◌∷◌, length, inl, inr, refl, sym, subst, ◌∙◌, arith}
 use Rattle.std.specs.Prelude.{◌⊎◌}
+use Rattle.cfi_unit.specs.Shadow.{MOST_PENDING}
 use Rattle.rv_instr.specs.Registers.{Registers}
 use Rattle.cfi_unit.specs.declared.unit.Unit as U
 use Rattle.cfi_unit.specs.declared.unit.Unit.TheVariants as V
@@ -14,7 +15,10 @@ use Rattle.cfi_pending.specs.Laws.{StaysBy}
 use Rattle.cfi_pending.specs.PendingLeads.{PendingLeads}
 use Rattle.cfi_pending.specs.Starts.{StandsBy, may_stand, next_start, fresh, saved}
 
-module _ (legal : Legal) (at : ℕ) (pending before stacked : List ℕ) (r left : Registers) (next : ℕ) (all : before ≡ pending) where
+module _ (legal : Legal) (at : ℕ) (pending before stacked : List ℕ) (r left : Registers) (next : ℕ) (all : before ≡ pending) (few : length before ≤ MOST_PENDING) where
+  room : length pending ≤ MOST_PENDING
+  room = subst (λ (ps : List ℕ). length ps ≤ MOST_PENDING) all few
+
   -- a unit with which they stay all on the shadow stack
   stays : (unit : U.Unit) → next_start saved unit ≡ saved →
       (FlowLeads legal (flow_of unit) (after_unit unit at) pending r stacked next → PendingLeads legal unit (after_unit unit at) pending r stacked next) →
@@ -48,7 +52,7 @@ module _ (legal : Legal) (at : ℕ) (pending before stacked : List ℕ) (r left 
   from_saved (V.LinkCall target) may leads has =
       record {
         newer = after_unit (V.LinkCall target) at ∷ pending;
-        leads = (refl, leads.1);
+        leads = (room, refl, leads.1);
         stands = linked has;
       }
     where
@@ -58,7 +62,7 @@ module _ (legal : Legal) (at : ℕ) (pending before stacked : List ℕ) (r left 
   from_saved (V.LeanIcall rs1 imm label) may (inl (legal_there, made)) has =
       record {
         newer = after_unit (V.LeanIcall rs1 imm label) at ∷ pending;
-        leads = inl (legal_there, (refl, made.1));
+        leads = inl (legal_there, (room, refl, made.1));
         stands = linked has;
       }
     where

@@ -1,5 +1,5 @@
 -- The unit law with all pending sites, from the law of what stands on the shadow stack.
-use Rattle.std.proofs.Common.{◌≡◌, ◌^◌, ◌<◌, ◌≤◌, ℕ, Bool, true, false, List, [], ◌∷◌, length, inl, inr, refl, sym, subst, ap, ◌∙◌}
+use Rattle.std.proofs.Common.{◌≡◌, ◌^◌, ◌<◌, ℕ, Bool, true, false, List, [], ◌∷◌, length, inl, inr, sym, subst, ◌∙◌}
 use Rattle.std.specs.Prelude.{◌⊎◌}
 use Rattle.std.proofs.lemmas.Bool.{cases_Bool}
 use Rattle.rv_word.specs.MemoryMap.{Profile}
@@ -12,7 +12,6 @@ use Rattle.cfi_unit.specs.declared.place.Place.TheVariants.{Body as body}
 use Rattle.cfi_unit.specs.declared.unit.Unit as U
 use Rattle.cfi_unit.specs.declared.unit.Unit.TheVariants as V
 use Rattle.cfi_unit.specs.Context.{Context}
-use Rattle.cfi_unit.specs.InPlace.{InUnit}
 use Rattle.cfi_unit.specs.Leads.{by_label}
 use Rattle.cfi_unit.specs.MaskLaw.{writes_mask}
 use Rattle.cfi_unit.specs.Prologue.{OPENING}
@@ -23,7 +22,7 @@ use Rattle.cfi_unit.specs.UnitLaw.{Outcome, ReturnsTo, UnitMayStand, ends, leave
 use Rattle.cfi_unit.specs.UnitWords.{Fits, STORE_MASK, instrs_of}
 use Rattle.cfi_unit.proofs.MaskKept.{mask_stays}
 use Rattle.cfi_unit.proofs.UnitSteps.{unit_law}
-use Rattle.cfi_pending.specs.Laws.{KeepsLink, StaysBy}
+use Rattle.cfi_pending.specs.Laws.{StaysBy}
 use Rattle.cfi_pending.specs.StartLaw.{AreSites, AtStart, Halted, InBody, StartLaw, StartOutcome, stands_in}
 use Rattle.cfi_pending.specs.StartLaw as outcome
 use Rattle.cfi_pending.specs.Starts.{Start, StandsBy, fresh, may_stand, next_start, saved}
@@ -95,7 +94,7 @@ module _ (masked : Bool) (p : Profile) (part : ℕ) (image base : Memory) (unit 
       outcome.stays ran below (record { stacked = i.stacked; stands = i.stands; few = i.few; word = word; context = c; link = link; mask = mask })
   from_outcome (leaves newer ran c back leads) =
       left newer ran c back
-      (pending_law_of (by_label image) unit at start pending i.stacked newer r after.hart.regs after.hart.pc may (first_of pending are) i.stands leads (left_with back) link)
+      (pending_law_of (by_label image) unit at start pending i.stacked newer r after.hart.regs after.hart.pc may (first_of pending are) i.stands i.few leads (left_with back) link)
   from_outcome (ends e kept) = outcome.ends i.stacked e kept
 
 pub start_law : StartLaw

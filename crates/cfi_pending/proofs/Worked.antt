@@ -23,7 +23,7 @@ site = 0x40000054
 
 module _ (legal : Legal) (r : Registers) where
   called : PendingLeads legal (V.LinkCall 0x40000074) site (closing ∷ []) r (site ∷ closing ∷ []) 0x40000074
-  called = (refl, refl)
+  called = (omega arith, refl, refl)
 
   saves : PendingLeads legal V.Enter 0x40000088 (site ∷ closing ∷ []) r (site ∷ closing ∷ []) 0x40000088
   saves = inl (omega arith, (refl, refl))

@@ -5,7 +5,7 @@ use Rattle.cfi_unit.specs.declared.unit.Unit as U
 use Rattle.cfi_unit.specs.Flow as F
 use Rattle.cfi_unit.specs.Flow.{Exit, flow_of}
 use Rattle.cfi_unit.specs.UnitWords.{after_unit}
-use Rattle.cfi_pending.specs.Kinds.{IsOfItsKind, Leaf, goes_on, start_at}
+use Rattle.cfi_pending.specs.Kinds.{IsOfItsKind, Leaf, start_at}
 use Rattle.cfi_pending.specs.Starts.{may_stand, next_start, saved}
 
 abbrev pub MayStandThere : Type 0

@@ -1,5 +1,5 @@
 -- What a unit does to the shadow stack and to x1 is what it does to the pending sites.
-use Rattle.std.specs.Prelude.{◌≡◌, ℕ, ◌<◌, ◌⊎◌, true, List}
+use Rattle.std.specs.Prelude.{◌≡◌, ℕ, ◌<◌, ◌≤◌, ◌⊎◌, true, List, length}
 use Rattle.rv_word.specs.Memory.{Memory}
 use Rattle.rv_instr.specs.Registers.{Registers}
 use Rattle.cfi_unit.specs.declared.unit.Unit as U
@@ -7,6 +7,7 @@ use Rattle.cfi_unit.specs.Flow.{flow_of}
 use Rattle.cfi_unit.specs.Leads.{FlowLeads, Legal, by_label}
 use Rattle.cfi_unit.specs.declared.place.Place.TheVariants.{Body as body}
 use Rattle.cfi_unit.specs.Prologue.{OPENING}
+use Rattle.cfi_unit.specs.Shadow.{MOST_PENDING}
 use Rattle.cfi_unit.specs.Templates.{LeftWith}
 use Rattle.cfi_unit.specs.UnitLaw.{ReturnsTo}
 use Rattle.cfi_unit.specs.UnitWords.{after_unit}
@@ -27,7 +28,7 @@ pub record StaysBy (legal : Legal) (unit : U.Unit) (at : ℕ) (start : Start) (p
 abbrev pub PendingLawOf : Legal → Type 0
 PendingLawOf legal =
     (unit : U.Unit) (at : ℕ) (start : Start) (pending before stacked : List ℕ) (r left : Registers) (next : ℕ) →
-    may_stand start unit ≡ true → ReturnsTo pending → StandsBy start r pending before →
+    may_stand start unit ≡ true → ReturnsTo pending → StandsBy start r pending before → length before ≤ MOST_PENDING →
     FlowLeads legal (flow_of unit) (after_unit unit at) before r stacked next →
     LeftWith (body unit) at left ⊎ (next < OPENING) → KeepsLink start r left →
     StaysBy legal unit at start pending r left stacked next

@@ -4,39 +4,22 @@ use Rattle.std.specs.Prelude.{◌≡◌, ℕ, ◌+◌, ◌*◌, ◌^◌, ◌<◌
 use Rattle.rv_word.specs.MemoryMap.{SHADOW_START, Profile, part_of}
 use Rattle.rv_word.specs.Memory.{Memory}
 use Rattle.rv_instr.specs.declared.instr.Instr.{Instr}
-use Rattle.rv_instr.specs.declared.instr.Instr.TheVariants.{Upper, Immediate, Shift, Register}
-use Rattle.rv_instr.specs.declared.instr.UpperOp.TheVariants.{Lui}
-use Rattle.rv_instr.specs.declared.instr.ImmediateOp.TheVariants.{Addi}
-use Rattle.rv_instr.specs.declared.instr.ShiftOp.TheVariants.{Slli}
-use Rattle.rv_instr.specs.declared.instr.RegisterOp.TheVariants.{Add, Sub}
 use Rattle.rv_code.specs.State.{Hart, Shared, After}
 use Rattle.rv_code.specs.Step.{step}
 use Rattle.rv_code.specs.declared.turn.Turn.TheVariants.{Ran}
 use Rattle.cfi_unit.specs.declared.unit.Unit.TheVariants as V
 use Rattle.cfi_unit.specs.Context.{Context}
-use Rattle.cfi_unit.specs.Prologue.{OPENING}
+use Rattle.cfi_unit.specs.Prologue.{OPENING, lean_lone_set_up, lean_own_set_up}
 use Rattle.cfi_unit.specs.Shadow.{IsPart, slot}
 use Rattle.cfi_unit.specs.Stand.{Stand}
 use Rattle.cfi_unit.specs.UnitWords.{Fits, STORE_MASK, instrs_of}
 use Rattle.cfi_pending.specs.StartLaw.{AtStart, Halted}
 use Rattle.cfi_pending.specs.Starts.{fresh}
 
--- x2 is 2 ^ 28, x4 the mask of stores, and x3 the first slot of the shadow stack
-abbrev pub mask_set_up : List Instr
-mask_set_up = Upper Lui 4 0x10000 ∷ Immediate Addi 4 4 0xfff ∷ []
-
-abbrev pub lone_set_up : List Instr
-lone_set_up = Upper Lui 2 0x10000 ∷ mask_set_up ++ Upper Lui 3 0x60000 ∷ Immediate Addi 3 3 8 ∷ []
-
--- of one of several harts, whose number is in x10: x2 is less 2 ^ 20 for each hart before it, and x3 the first slot of its own part
-abbrev pub own_set_up : List Instr
-own_set_up =
-    Upper Lui 2 0x10000 ∷ mask_set_up ++ Shift Slli 31 10 20 ∷ Register Sub 2 2 31 ∷ Upper Lui 3 0x60000 ∷ Shift Slli 31 10 16
-    ∷ Register Add 3 3 31 ∷ Immediate Addi 3 3 8 ∷ []
-
+-- of a lone hart, and of one of several, whose number is in x10
 abbrev pub set_up : Bool → List Instr
-set_up true = own_set_up
-set_up false = lone_set_up
+set_up true = lean_own_set_up
+set_up false = lean_lone_set_up
 
 -- where the call of the entry stands, and its site, the closing
 abbrev pub call_at : Bool → ℕ

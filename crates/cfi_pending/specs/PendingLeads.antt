@@ -9,9 +9,9 @@ use Rattle.cfi_unit.specs.Leads.{Decides, ExitLeads, Goes, Legal, destination}
 use Rattle.cfi_unit.specs.Shadow.{MOST_PENDING}
 use Rattle.cfi_unit.specs.UnitWords.{BAD_TARGET, DEEP}
 
--- a call goes to its target, its site the newest
+-- a call goes to its target, its site the newest: the others stand on the shadow stack
 abbrev pub Links : ℕ → List ℕ → List ℕ → ℕ → ℕ → Type 0
-Links site pending after next target = (after ≡ site ∷ pending) × (next ≡ target)
+Links site pending after next target = (length pending ≤ MOST_PENDING) × (after ≡ site ∷ pending) × (next ≡ target)
 
 -- the newest site is saved, or the run halts where the shadow stack is full of the others
 abbrev pub Saves : ℕ → List ℕ → List ℕ → ℕ → Type 0

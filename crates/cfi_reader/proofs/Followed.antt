@@ -13,11 +13,10 @@ use Rattle.cfi_unit.specs.Shapes.{SHAPES, Shape, shape}
 use Rattle.cfi_unit.specs.ShapeOf.{shape_of}
 use Rattle.cfi_unit.specs.Opens.{Among, Made, Opens, Small}
 use Rattle.cfi_reader.specs.Left.{Reads, Tries, after, go_else, goes_on, is_alone, none_ended, same, without}
-use Rattle.cfi_reader.specs.Nodes.{else_to, goes_to, is_asked, is_row_of, rest_of, same_shapes}
+use Rattle.cfi_reader.specs.Nodes.{Row, else_to, goes_to, is_asked, is_row_of, rest_of, same_shapes}
 use Rattle.cfi_reader.specs.Kept.{Keeps, count_by, entry_by, is_longer, label_after, open_entry}
 use Rattle.cfi_reader.specs.Reading.{IsReading, Leads, is_stuck}
 use Rattle.cfi_reader.specs.Trying.{Ended, IsTrying}
-use Rattle.cfi_reader.specs.declared.node.Row.{Row}
 use Rattle.cfi_reader.specs.declared.node.Else.TheVariants as L
 use Rattle.cfi_reader.specs.declared.node.Next.TheVariants as N
 use Rattle.cfi_reader.specs.declared.reader.Reader.{Reader}

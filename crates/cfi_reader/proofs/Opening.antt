@@ -27,7 +27,7 @@ use Rattle.cfi_unit.proofs.Counts.{some_word}
 use Rattle.cfi_reader.specs.Left.{Reads, is_alone}
 use Rattle.cfi_reader.specs.Nodes.{rest_of}
 use Rattle.cfi_reader.specs.Kept.{Keeps, count_on, label_by, numbers_by, told_by}
-use Rattle.cfi_reader.specs.Entries.{entry_of}
+use Rattle.cfi_reader.specs.Entries.{entry_of, plain_entry, writes_link}
 use Rattle.cfi_reader.specs.Reading.{AtLeast, Opened}
 use Rattle.cfi_reader.specs.PlainWord.{IsPlainWord}
 use Rattle.cfi_reader.specs.declared.entry.Entry.{Entry}
@@ -116,6 +116,8 @@ first_entry D.Stop i = E.Stop
 first_entry D.Ecall i = E.Ecall
 first_entry D.LinkCall (Jal rd imm) = E.LinkCall imm
 first_entry D.LeafReturn i = E.LeafReturn
+first_entry D.Ebreak i = E.Break
+first_entry D.Plain i = plain_entry (writes_link i)
 first_entry _ i = E.Other
 
 -- a unit of this kind may have one word, and is one whatever follows
@@ -147,7 +149,8 @@ single_told : (u : U.Unit) (calls : List ℕ) (i : Instr) (word at : ℕ) → Fi
 unfolding words_of
 single_told (V.Gate label) calls i word at f e is l =
     ap (first_entry D.Gate) (sym (instr_is [] word i (gate label) is (lit< tt, f) e))
-single_told (V.Plain instr) calls i word at f e is l = refl
+single_told (V.Plain instr) calls i word at f e is l =
+    ap (first_entry D.Plain) (sym (instr_is [] word i instr is f.0 e))
 single_told (V.Branch op rs1 rs2 target) calls i word at f e is l = absurd (cc)
 single_told (V.Near op rs1 rs2 target) calls i word at f e is l =
     elim (cases_Bool (near_offset at target == skip_offset)) [
@@ -203,14 +206,14 @@ module _ (calls : List ℕ) (word at : ℕ) (small : word < 2 ^ 32) where
         λ rest. alone_precedes m.unit at rest m.fits (single_alone ((shape_of m.unit at).end) one),
       )
 
--- a plain word is a unit
+-- a plain word that does not write x1 is a unit
 pub plain_opens : (calls : List ℕ) (word at : ℕ) → word < 2 ^ 32 → IsPlainWord word → Opened calls word at (Done E.Other)
 unfolding words_of
 plain_opens calls word at small p = (
   record {
     unit = V.Plain p.instr;
     fits = (decoded-in_range word p.instr small p.is, p.plain);
-    entry_is = refl;
+    entry_is = ap plain_entry (sym p.no_link);
     words_are = ap (λ (w : ℕ). w ∷ []) (sym (code_of-decoded word p.instr small p.is));
   },
   λ rest. refl,

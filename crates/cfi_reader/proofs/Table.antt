@@ -11,8 +11,7 @@ use Rattle.cfi_unit.specs.declared.target_word.TargetWord.{TargetWord}
 use Rattle.cfi_unit.specs.declared.target_word.TargetWord.TheVariants.{First, Second, Third}
 use Rattle.cfi_unit.specs.Shapes.{Shape, shape}
 use Rattle.cfi_reader.specs.Left.{after, lets, same, tells, without}
-use Rattle.cfi_reader.specs.Nodes.{else_to, goes_to, is_later, is_row_of, rest_of, same_end, same_mask, same_shapes, same_word, same_words, says_of}
-use Rattle.cfi_reader.specs.declared.node.Row.{Row}
+use Rattle.cfi_reader.specs.Nodes.{Row, else_to, goes_to, is_later, is_row_of, rest_of, same_end, same_mask, same_shapes, same_word, same_words, says_of}
 use Rattle.cfi_reader.specs.declared.node.Else.TheVariants as L
 use Rattle.cfi_reader.specs.declared.node.Next.TheVariants as N
 use Rattle.cfi_reader.proofs.Steps.{same_is}

@@ -14,6 +14,7 @@ use Rattle.cfi_unit.specs.Patterns.{is_addi, is_and}
 use Rattle.cfi_unit.specs.Reach.{led_to}
 use Rattle.cfi_unit.specs.UnitWords.{BAD_TARGET, MINUS_EIGHT, is_lui, skip_offset}
 use Rattle.cfi_reader.specs.Kept.{count_on}
+use Rattle.cfi_reader.specs.Entries.{plain_entry}
 use Rattle.cfi_reader.specs.declared.entry.Entry.TheVariants as E
 use Rattle.cfi_reader.specs.declared.first.First.{First}
 use Rattle.cfi_reader.specs.declared.first.First.TheVariants.{More, Done}
@@ -27,7 +28,7 @@ stuck = at_node 0
 
 -- an instruction that writes a register: a unit of its own unless units keep the register for themselves
 abbrev pub plain_step : ℕ → First
-plain_step rd = if is_reserved rd then stuck else Done E.Other
+plain_step rd = if is_reserved rd then stuck else Done (plain_entry (rd == 1))
 
 abbrev pub upper_step : UpperOp → ℕ → ℕ → First
 upper_step op rd imm = if is_lui op && (rd == 0) then Done (E.Gate imm) else plain_step rd
@@ -87,4 +88,4 @@ first_step calls (ShiftWord op rd rs1 amount) at = plain_step rd
 first_step calls (Register op rd rs1 rs2) at = if opens_stores op rd rs2 then at_node 99 else plain_step rd
 first_step calls (Fence word) at = Done E.Other
 first_step calls Ecall at = Done E.Ecall
-first_step calls Ebreak at = Done E.Other
+first_step calls Ebreak at = Done E.Break

@@ -102,6 +102,7 @@ entry_by calls D.Enter numbers label last = E.Enter
 entry_by calls D.LeanIjump numbers label last = E.LeanIjump label
 entry_by calls D.LeanIcall numbers label last = E.LeanIcall label
 entry_by calls (D.Full mask) numbers label last = stores_entry mask
+entry_by calls D.Return numbers label last = E.Return
 entry_by calls _ numbers label last = E.Other
 
 -- and of one that ends before a word that might have gone on with it

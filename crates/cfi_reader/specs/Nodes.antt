@@ -1,5 +1,6 @@
 -- The nodes of the reader: what is left at each of the units that may begin with the words that are read.
-use Rattle.std.specs.Prelude.{ℕ, zero, suc, ◌-◌, ◌/◌, ◌%◌, ◌==◌, ◌&&◌, ◌||◌, Bool, true, false, not, nat_lt, List, [], ◌∷◌, ◌++◌, map, drop, replicate, if◌then◌else◌}
+use Rattle.std.specs.Prelude.{ℕ, zero, suc, ◌-◌, ◌/◌, ◌%◌, ◌==◌, ◌&&◌, ◌||◌, Bool, true, false, not, nat_le, nat_lt, List, [], ◌∷◌, ◌++◌, map, drop, replicate, if◌then◌else◌}
+use Rattle.rv_code.specs.Encode.{code_of}
 use Rattle.cfi_unit.specs.declared.pattern.Pattern.{Pattern}
 use Rattle.cfi_unit.specs.declared.pattern.Pattern.TheVariants as P
 use Rattle.cfi_unit.specs.declared.pattern.End.{End}
@@ -8,15 +9,29 @@ use Rattle.cfi_unit.specs.declared.mask.Mask.{Mask}
 use Rattle.cfi_unit.specs.declared.mask.Mask.TheVariants.{Shifts, Short, Long}
 use Rattle.cfi_unit.specs.declared.target_word.TargetWord.{TargetWord}
 use Rattle.cfi_unit.specs.declared.target_word.TargetWord.TheVariants.{First, Second, Third}
-use Rattle.cfi_unit.specs.UnitWords.{BAD_RETURN, BAD_TARGET, DEEP}
+use Rattle.cfi_unit.specs.Patterns.{matches}
+use Rattle.cfi_unit.specs.UnitWords.{BAD_RETURN, BAD_TARGET, DEEP, jump}
 use Rattle.cfi_unit.specs.Shapes.{SHAPES, Shape, all_stores, call, each_guarded, enter, guarded, icall, ijump, lean_icall, lean_ijump, return, shape}
 use Rattle.cfi_reader.specs.Kept.{is_longer}
 use Rattle.cfi_reader.specs.Left.{after, is_alone, lets, same, tells, without}
-use Rattle.cfi_reader.specs.declared.node.Row.{Row}
 use Rattle.cfi_reader.specs.declared.node.Next.{Next}
 use Rattle.cfi_reader.specs.declared.node.Next.TheVariants as N
 use Rattle.cfi_reader.specs.declared.node.Else.{Else}
 use Rattle.cfi_reader.specs.declared.node.Else.TheVariants as L
+
+-- a row of the table: what a word is asked for, where it leads if it is so, and where if it is not
+pub record Row : Type 0 where
+  pub pattern : Pattern
+  pub yes : Next
+  pub no : Else
+
+-- the row that three parts are
+abbrev pub row_in : Pattern × Next × Else → Row
+row_in row = record { pattern = row.0; yes = row.1; no = row.2 }
+
+-- that of none
+abbrev pub no_row : Pattern × Next × Else
+no_row = (P.Is 0, N.More 0, L.Stuck)
 
 -- behind so many words
 abbrev pub behind : ℕ → Shape → Shape
@@ -175,3 +190,12 @@ says_of node rests row =
 -- a row says what its node's shapes do
 abbrev pub is_row_of : ℕ → Row → Bool
 is_row_of node row = says_of node (rest_of node) row
+
+-- a word is as a code says: one below 2 ^ 32 is the word, 2 ^ 32 says nothing, 2 ^ 33 a store behind a mask, and 2 ^ 32 with the
+-- address of a handler more a jump to it
+abbrev pub is_coded : ℕ → ℕ → ℕ → Bool
+is_coded code word here =
+    if code == word then true
+    else if nat_le code 0x100000000 then false
+    else if code == 0x200000000 then matches P.Member word here
+    else word == code_of (jump here (code - 0x100000000))

@@ -37,8 +37,16 @@ pub enum Entry {
     LeanIcall(Immediate<20>),
     /// A return to the site in x1.
     LeafReturn,
+    /// Stores behind a mask by shifts.
+    Stores,
     /// Stores behind a mask by x4.
     LeanStores,
-    /// Any other unit.
+    /// A return.
+    Return,
+    /// An ebreak.
+    Break,
+    /// A plain unit whose instruction writes x1.
+    WritesLink,
+    /// Any other plain unit.
     Other,
 }

@@ -97,7 +97,8 @@ fn first_instr(calls: &Numbers, instr: Instr, here: u64) -> First
             }
         }
         Instr::Ecall => First::Done(Entry::Ecall),
-        Instr::Fence(_) | Instr::Ebreak => First::Done(Entry::Other),
+        Instr::Fence(_) => First::Done(Entry::Other),
+        Instr::Ebreak => First::Done(Entry::Break),
         Instr::Jalr(rd, rs1, imm) => {
             if is_leaf_return(rd, rs1, imm) {
                 First::Done(Entry::LeafReturn)
@@ -115,6 +116,8 @@ fn plain(rd: Reg) -> First
 {
     if rd.is_reserved() {
         at_node(0)
+    } else if rd.number() == 1 {
+        First::Done(Entry::WritesLink)
     } else {
         First::Done(Entry::Other)
     }

@@ -63,6 +63,7 @@ pub(crate) fn entry_by(
         End::LeanIjump => Entry::LeanIjump(label),
         End::LeanIcall => Entry::LeanIcall(label),
         End::Full(mask) => stores_entry(mask),
+        End::Return => Entry::Return,
         _ => Entry::Other,
     }
 }
@@ -109,7 +110,7 @@ fn stores_entry(mask: Mask) -> Entry
     ensures { result ≡ stores_entry mask }
 {
     match mask {
-        Mask::Shifts => Entry::Other,
+        Mask::Shifts => Entry::Stores,
         Mask::Short | Mask::Long => Entry::LeanStores,
     }
 }

@@ -40,7 +40,7 @@ pub(crate) fn matches(pattern: Pattern, word: u32, here: u64) -> bool
 }
 
 /// The word of `jal x0` from an address to another.
-fn jump_code(here: u64, to: u64) -> u32
+pub(crate) fn jump_code(here: u64, to: u64) -> u32
     ensures { result ≡ code_of (jump here to) }
 {
     encode(jump_between(here, to))
@@ -86,7 +86,7 @@ fn is_label(word: u32) -> bool
 }
 
 /// Whether it is a store behind a mask.
-fn is_member(word: u32) -> bool
+pub(crate) fn is_member(word: u32) -> bool
     ensures { (here : ℕ) → result ≡ matches P.Member word here }
 {
     let Some(instr) = decode(word) else {

@@ -1,5 +1,5 @@
 ghost use Rattle.std.specs.Prelude.{◌≡◌, ◌+◌, ◌*◌, ◌<◌, true, get_or};
-ghost use Rattle.cfi_reader.specs.PlainWord.{IsPlainWord, is_named};
+ghost use Rattle.cfi_reader.specs.PlainWord.{IsPlainWord, is_ordinary};
 
 /// What is asked of a funct7: `SPREAD * funct7 + ASKED` has it in bits 6 to 0, a one in bit 7, a one in bit 8
 /// where it is even, and a one in bit 15 where it is above 20h.
@@ -42,11 +42,11 @@ const UNSET: [u32; 128] = [
     NONE, NONE, NONE, NONE, NONE, NONE, NONE, NONE,
 ];
 
-/// The bits of the registers that programs may not name, or that hold nothing: x0, x3, x4, x30 and x31.
-const UNNAMED: u32 = 0xc000_0019;
+/// The bits of the registers that programs may not name, of x0, which holds nothing, and of x1.
+const SPECIAL: u32 = 0xc000_001b;
 
-/// Whether a word is surely a plain unit: an instruction that computes or loads a register, which is
-/// neither x0 nor one that units keep for themselves. It decodes nothing.
+/// Whether a word is surely a plain unit that does not write x1: an instruction that computes or loads a
+/// register, which is neither x0 nor x1 nor one that units keep for themselves. It decodes nothing.
 pub fn is_plain_word(word: u32) -> bool
     ensures { result ≡ true → IsPlainWord word }
 {
@@ -55,7 +55,7 @@ pub fn is_plain_word(word: u32) -> bool
         && (word >> 6) & 1 == 0
         && unset((word >> 2) & 0xf, (word >> 12) & 7) & asked == 0
     {
-        is_named((word >> 7) & 0x1f)
+        is_ordinary((word >> 7) & 0x1f)
     } else {
         false
     }
@@ -70,10 +70,10 @@ fn unset(row: u32, column: u32) -> u32
     UNSET[(8 * row + column) as usize]
 }
 
-/// Whether programs may name the register, and it is not x0.
-fn is_named(number: u32) -> bool
+/// Whether programs may name the register, and it is neither x0 nor x1.
+fn is_ordinary(number: u32) -> bool
     requires { number < 32 }
-    ensures { result ≡ is_named number }
+    ensures { result ≡ is_ordinary number }
 {
-    (UNNAMED >> number) & 1 == 0
+    (SPECIAL >> number) & 1 == 0
 }

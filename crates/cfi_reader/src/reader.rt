@@ -64,13 +64,14 @@ impl Reader {
         self.node == 0
     }
 
-    /// Reads one word more, if it is the only one with which the unit goes on; otherwise nothing changes.
+    /// Reads one word more, which stands at an address, if it is the only one with which the unit goes on, or one of its stores;
+    /// otherwise nothing changes.
     #[inline(always)]
-    pub fn pass(&mut self, word: u32) -> bool
-        ensures on { result ≡ true → (calls : List ℕ) (here : ℕ) → length calls ≤ MOST_NUMBERS → InCode here 1 → LeadsOn calls self.old word here (S.More self.new) }
+    pub fn pass(&mut self, word: u32, here: u64) -> bool
+        ensures on { result ≡ true → (calls : List ℕ) → length calls ≤ MOST_NUMBERS → InCode here 1 → LeadsOn calls self.old word here (S.More self.new) }
         ensures same { result ≡ false → self.new ≡ self.old }
     {
-        match led_by(self.node, word) {
+        match led_by(self.node, word, here) {
             Some(node) => {
                 self.node = node;
                 true
@@ -105,10 +106,10 @@ pub fn next(calls: &Numbers, reader: Reader, word: u32, here: u64) -> Step
     let mut node = reader.node;
     'asked: loop {
         let row = row_at(node);
-        if matches(row.pattern, word, here) {
-            let numbers = count_by(calls, row.pattern, word, reader.numbers);
-            let label = label_after(row.pattern, word, reader.label);
-            return match row.yes {
+        if matches(row.0, word, here) {
+            let numbers = count_by(calls, row.0, word, reader.numbers);
+            let label = label_after(row.0, word, reader.label);
+            return match row.1 {
                 Next::More(node) => Step::More(Reader {
                     node,
                     numbers,
@@ -117,7 +118,7 @@ pub fn next(calls: &Numbers, reader: Reader, word: u32, here: u64) -> Step
                 Next::Done(end) => Step::Done(entry_by(calls, end, numbers, label, word)),
             };
         }
-        match row.no {
+        match row.2 {
             Else::Try(other) => node = other,
             Else::Ended(end) => return Step::Before(open_entry(end)),
             Else::Stuck => return Step::More(Reader { node: 0, ..reader }),
@@ -130,7 +131,7 @@ fn ended(node: u8) -> Option<End>
     requires { node ≢ 1 }
     ensures { Ended (rest_of node) result }
 {
-    match row_at(node).no {
+    match row_at(node).2 {
         Else::Try(other) => ended(other),
         Else::Ended(end) => Some(end),
         Else::Stuck => None,

@@ -21,7 +21,7 @@ use Rattle.cfi_unit.specs.declared.unit.Unit.TheVariants as V
 use Rattle.cfi_unit.specs.declared.target_word.TargetWord.TheVariants.{First, Second}
 use Rattle.cfi_unit.specs.Recognise.{read_each, recognised}
 use Rattle.cfi_unit.specs.UnitWords.{words_of}
-use Rattle.cfi_rules.specs.Lines.{class_with, line_at, targets_for}
+use Rattle.cfi_rules.specs.Lines.{class_with, leaves_in, line_at, targets_for}
 use Rattle.cfi_rules.specs.Placed.{AllAhead, AllFit, code_from, lines_from, placed_code, placed_lines}
 use Rattle.cfi_rules.specs.Rules.{fails, is_of_version}
 use Rattle.cfi_rules.specs.Sound.{IsSound}
@@ -87,8 +87,8 @@ apart_ahead =
     (refl, (refl, (refl, (refl, (refl, (refl, (refl, (refl, (refl, (refl, (refl, (refl, (refl, (refl, (refl, (refl, (refl, (refl, (refl, (refl, (refl, (refl, (refl, tt)))))))))))))))))))))))
 
 apart_sound : IsSound version_1 TwoLabels 0x40000040 apart_units apart_classes
-unfolding all_from class_with targets_for unit_in
-apart_sound = sound_by TwoLabels apart_units apart_classes apart_fit apart_ahead refl refl refl refl refl refl
+unfolding all_from class_with targets_for unit_in leaves_in
+apart_sound = sound_by TwoLabels apart_units apart_classes refl refl apart_fit apart_ahead refl refl refl refl refl refl
 
 -- a jump's check of the first word is none of version 2, one of the second none of version 1
 first_under_2 : is_of_version TwoLabels (V.Ijump First 5 0 2) ≡ false

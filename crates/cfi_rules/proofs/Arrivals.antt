@@ -6,7 +6,7 @@ use Rattle.std.proofs.lemmas.Bool.{and_parts, false≢true}
 use Rattle.std.proofs.lemmas.Option.{same_Some}
 use Rattle.rv_word.specs.Image.{Contents}
 use Rattle.rv_word.specs.MemoryMap.{Profile, SHADOW_START, part_of, version_1, version_2}
-use Rattle.rv_word.proofs.Versions.{laid_out}
+use Rattle.rv_word.proofs.Profiles.{laid_out}
 use Rattle.rv_word.specs.Memory.{loaded, placed, write}
 use Rattle.rv_instr.specs.Registers.{Registers}
 use Rattle.rv_code.specs.Decode.{decoded}
@@ -24,16 +24,16 @@ use Rattle.cfi_unit.specs.Context.{IsCodeOf, SameOutside}
 use Rattle.cfi_unit.specs.EventLaw.{Adds, adds_none, adds_one}
 use Rattle.cfi_unit.specs.declared.target_word.TargetWord.TheVariants as T
 use Rattle.cfi_unit.specs.declared.place.Place.{Place}
-use Rattle.cfi_unit.specs.declared.place.Place.TheVariants.{Handler as handler, Opening as opening, Body as body}
+use Rattle.cfi_unit.specs.declared.place.Place.TheVariants.{Handler as handler, Opening as opening, Closing as closing, Body as body}
 use Rattle.cfi_unit.specs.Prologue.{OPENING}
-use Rattle.cfi_unit.specs.Leads as L
 use Rattle.cfi_unit.specs.Recognise.{read_each, recognised}
 use Rattle.cfi_unit.specs.Shadow.{slot, Holds}
 use Rattle.cfi_unit.specs.UnitWords.{BAD_TARGET, words_of}
-use Rattle.cfi_rules.specs.Along.{Walk, Arrives, ShadowStands, OnRan, IsSafe}
-use Rattle.cfi_rules.specs.Lines.{class_with, targets_for}
+use Rattle.cfi_pending.specs.PendingLeads.{GoesBack}
+use Rattle.cfi_rules.specs.Along.{Walk, Arrives, PlaceLeads, ShadowStands, OnRan, IsSafe, start_in}
+use Rattle.cfi_rules.specs.Lines.{class_with, leaves_in, targets_for}
 use Rattle.cfi_rules.specs.Split.{code_words, starts, is_start, unit_at, place_at}
-use Rattle.cfi_rules.specs.Unsafe.{astray_call, astray_call_graph, halted_jump, halted_jump_graph, WrongTransfersAreUnsafe, high_pointer, lost_site, opening_graph, WrongShadowsAreUnsafe, one_pointer, one_pointer_graph, SharedPartsAreUnsafe, calling_opening, storing_opening, WrongDeedsAreUnsafe}
+use Rattle.cfi_rules.specs.Unsafe.{bare_return, bare_return_graph, BareReturnIsUnsafe, astray_call, astray_call_graph, halted_jump, halted_jump_graph, WrongTransfersAreUnsafe, high_pointer, lost_site, opening_graph, WrongShadowsAreUnsafe, one_pointer, one_pointer_graph, SharedPartsAreUnsafe, calling_opening, storing_opening, WrongDeedsAreUnsafe}
 use Rattle.cfi_rules.specs.Walk.{by_class}
 use Rattle.cfi_rules.proofs.OneHart.{AloneAlong, AreDataChanges, one_may_run, safe_along_alone}
 use Rattle.cfi_rules.proofs.Unsafe.{calm_is_data}
@@ -66,11 +66,11 @@ calm_and zero rest low = low
 calm_and (suc k) rest low = (tt, calm_and k rest low)
 
 module _ (p : Profile) (part : ℕ) (image : Contents) (graph : GraphParts) where
-  abbrev Along : Option Walk → Hart → Shared → List (List ByteChange) → Type 0
+  abbrev pub Along : Option Walk → Hart → Shared → List (List ByteChange) → Type 0
   Along before h s changes = AloneAlong p part image (code_words image.code) graph.lines before h s changes
 
   -- some undisturbed steps run, and nothing starts where they begin
-  unfoldable quiet : ℕ → Hart → Shared → Bool
+  unfoldable pub quiet : ℕ → Hart → Shared → Bool
   quiet zero h s = true
   quiet (suc k) h s =
       not (is_some (place_at p (code_words image.code) h.pc))
@@ -92,27 +92,27 @@ module _ (p : Profile) (part : ℕ) (image : Contents) (graph : GraphParts) wher
       stays k w after.hart after.shared rest more.1 (subst (λ v. Along (Some v) after.hart after.shared (calm k ++ rest)) back on)
 
   -- what holds where the walk arrives
-  record Arrival (before : Option Walk) (place : Place) (h : Hart) (s : Shared) (rest : List (List ByteChange)) : Type 0 where
-    w : Walk
-    at : w.at ≡ h.pc
-    regs : w.regs ≡ h.regs
-    arrives : Arrives p (place_at p (code_words image.code)) graph.lines before h.pc w.pending
-    shadow : ShadowStands part place h.pc h s.memory w.pending
-    on : OnRan (step p h s).turn (Along (Some w) (step p h s).hart (step p h s).shared rest) (IsCodeOf (loaded image) (step p h s).shared.memory)
+  pub record Arrival (before : Option Walk) (place : Place) (h : Hart) (s : Shared) (rest : List (List ByteChange)) : Type 0 where
+    pub w : Walk
+    pub at : w.at ≡ h.pc
+    pub regs : w.regs ≡ h.regs
+    pub arrives : Arrives p (place_at p (code_words image.code)) graph.lines before h.pc w.pending
+    pub shadow : ShadowStands p part (start_in (place_at p (code_words image.code)) graph.lines h.pc) place h s.memory w.pending
+    pub on : OnRan (step p h s).turn (Along (Some w) (step p h s).hart (step p h s).shared rest) (IsCodeOf (loaded image) (step p h s).shared.memory)
 
-  arrival : (before : Option Walk) (place : Place) (h : Hart) (s : Shared) (rest : List (List ByteChange)) → place_at p (code_words image.code) h.pc ≡ Some place →
+  pub arrival : (before : Option Walk) (place : Place) (h : Hart) (s : Shared) (rest : List (List ByteChange)) → place_at p (code_words image.code) h.pc ≡ Some place →
       Along before h s ([] ∷ rest) → Arrival before place h s rest
   arrival before place h s rest is r =
       let goes = rw is at r.1 in
       record { w = r.0; at = goes.0; regs = goes.1; arrives = goes.2; shadow = goes.3; on = r.3 }
 
   -- from something that starts a run comes to the next thing, after `k` more steps
-  record Leads (k : ℕ) (h : Hart) (s : Shared) (next : Place) : Type 0 where
-    runs : (step p h s).turn ≡ Ran
-    still : quiet k (step p h s).hart (step p h s).shared ≡ true
-    there : place_at p (code_words image.code) (after_calm p (suc k) h s).hart.pc ≡ Some next
+  pub record Leads (k : ℕ) (h : Hart) (s : Shared) (next : Place) : Type 0 where
+    pub runs : (step p h s).turn ≡ Ran
+    pub still : quiet k (step p h s).hart (step p h s).shared ≡ true
+    pub there : place_at p (code_words image.code) (after_calm p (suc k) h s).hart.pc ≡ Some next
 
-  next_arrival : (before : Option Walk) (place next : Place) (k : ℕ) (h : Hart) (s : Shared) (rest : List (List ByteChange)) →
+  pub next_arrival : (before : Option Walk) (place next : Place) (k : ℕ) (h : Hart) (s : Shared) (rest : List (List ByteChange)) →
       (a : Arrival before place h s (calm k ++ ([] ∷ rest))) → Leads k h s next →
       Arrival (Some a.w) next (after_calm p (suc k) h s).hart (after_calm p (suc k) h s).shared rest
   unfolding after_calm
@@ -149,12 +149,12 @@ module _ (p : Profile) (part : ℕ) (image : Contents) (graph : GraphParts) wher
       }
 
   -- where the walk that arrived was led from
-  went : (w : Walk) (from next : Place) (h : Hart) (s : Shared) (rest : List (List ByteChange)) → place_at p (code_words image.code) w.at ≡ Some from →
-      (a : Arrival (Some w) next h s rest) → L.Leads p (by_class graph.lines) from w.at w.pending w.regs a.w.pending h.pc
+  pub went : (w : Walk) (from next : Place) (h : Hart) (s : Shared) (rest : List (List ByteChange)) → place_at p (code_words image.code) w.at ≡ Some from →
+      (a : Arrival (Some w) next h s rest) → PlaceLeads p (by_class graph.lines) from w.at w.pending w.regs a.w.pending h.pc
   went w from next h s rest is a =
       let (place, there, leads) = a.arrives in
       let same : place ≡ from = cc in
-      subst (λ (q : Place). L.Leads p (by_class graph.lines) q w.at w.pending w.regs a.w.pending h.pc) same leads
+      subst (λ (q : Place). PlaceLeads p (by_class graph.lines) q w.at w.pending w.regs a.w.pending h.pc) same leads
 
 -- the first thing that the opening of a lone hart calls: its site alone is pending
 module _ (image : Contents) (graph : GraphParts) where
@@ -170,7 +170,7 @@ module _ (image : Contents) (graph : GraphParts) where
       Leads version_1 SHADOW_START image graph 9 (start_hart 0) start unit → AreDataChanges rest → IsSafe version_1 image graph →
       First unit (after_calm version_1 10 (start_hart 0) start).hart (after_calm version_1 10 (start_hart 0) start).shared rest
   first entry unit rest opens leads low safe =
-      let run = safe_along_alone version_1 image graph [] 1 0 ([] ∷ (calm 9 ++ ([] ∷ rest))) safe (one_may_run version_1 (laid_out version_1 (inl refl))) (lit< tt) (tt, calm_and 9 ([] ∷ rest) (tt, low)) in
+      let run = safe_along_alone version_1 image graph [] 1 0 ([] ∷ (calm 9 ++ ([] ∷ rest))) safe (one_may_run version_1 (laid_out version_1 (inl (inl refl)))) (lit< tt) (tt, calm_and 9 ([] ∷ rest) (tt, low)) in
       let a = arrival version_1 SHADOW_START image graph None (opening entry) (start_hart 0) start (calm 9 ++ ([] ∷ rest)) opens run in
       let b = next_arrival version_1 SHADOW_START image graph None (opening entry) unit 9 (start_hart 0) start rest a leads in
       let at : place_at version_1 (code_words image.code) a.w.at ≡ Some (opening entry) = ap (place_at version_1 (code_words image.code)) a.at ∙ opens in
@@ -185,24 +185,43 @@ module _ (image : Contents) (graph : GraphParts) where
       }
 
 pointer_unsafe : IsSafe version_1 high_pointer opening_graph → ⊥
-unfolding loaded placed decoded code_of step write last_exit code_words read_each recognised words_of starts is_start unit_at place_at after_calm quiet is_ran
+unfolding loaded placed decoded code_of step write last_exit code_words read_each recognised words_of starts is_start unit_at place_at after_calm quiet is_ran leaves_in
 pointer_unsafe safe =
     let f = first high_pointer opening_graph 0x40000040 (body V.Stop) [] refl (record { runs = refl; still = refl; there = refl }) tt safe in
-    let x3 : 0x60000018 ≡ slot SHADOW_START (length f.arrived.w.pending) = f.arrived.shadow.0 in
-    let one = ap length f.pending in
+    let stack = f.arrived.shadow.0 in
+    let x3 : 0x60000018 ≡ slot SHADOW_START (length stack.stacked) = stack.pointer in
+    let one = ap length (stack.stands ∙ f.pending) in
     omega arith
 
 slot_unsafe : IsSafe version_1 lost_site opening_graph → ⊥
-unfolding loaded placed decoded code_of step write last_exit code_words read_each recognised words_of starts is_start unit_at place_at after_calm quiet is_ran
+unfolding loaded placed decoded code_of step write last_exit code_words read_each recognised words_of starts is_start unit_at place_at after_calm quiet is_ran leaves_in
 slot_unsafe safe =
     let f = first lost_site opening_graph 0x40000040 (body V.Stop) [] refl (record { runs = refl; still = refl; there = refl }) tt safe in
     let held : Holds SHADOW_START (after_calm version_1 10 (start_hart 0) (start_shared lost_site [])).shared.memory (version_1.closing ∷ []) =
-    subst (λ ps. Holds SHADOW_START (after_calm version_1 10 (start_hart 0) (start_shared lost_site [])).shared.memory ps) f.pending f.arrived.shadow.1 in
+    subst (λ ps. Holds SHADOW_START (after_calm version_1 10 (start_hart 0) (start_shared lost_site [])).shared.memory ps) (f.arrived.shadow.0.stands ∙ f.pending)
+    f.arrived.shadow.0.holds in
     let site : 0 ≡ version_1.closing = held.0 in
     omega arith
 
 pub wrong_shadows_unsafe : WrongShadowsAreUnsafe
 wrong_shadows_unsafe = record { pointer = pointer_unsafe; slot = slot_unsafe }
+
+-- a bare return goes to the site of the opening, which the shadow stack still holds there
+pub bare_return_unsafe : BareReturnIsUnsafe
+unfolding loaded placed decoded code_of step write last_exit code_words read_each recognised words_of starts is_start unit_at place_at after_calm quiet is_ran
+bare_return_unsafe safe =
+    let unit : Place = body V.LeafReturn in
+    let f = first bare_return bare_return_graph 0x40000040 unit ([] ∷ []) refl (record { runs = refl; still = refl; there = refl }) (tt, tt) safe in
+    let a = next_arrival version_1 SHADOW_START bare_return bare_return_graph (Some f.opened) unit closing 0 _ _ [] f.arrived (record { runs = refl; still = refl; there = refl }) in
+    let at : place_at version_1 (code_words bare_return.code) f.arrived.w.at ≡ Some unit = ap (place_at version_1 (code_words bare_return.code)) f.arrived.at in
+    let back : GoesBack f.arrived.w.pending a.w.pending version_1.closing =
+    went version_1 SHADOW_START bare_return bare_return_graph f.arrived.w unit closing _ _ [] at a in
+    let none : GoesBack (version_1.closing ∷ []) a.w.pending version_1.closing =
+    subst (λ (ps : List ℕ). GoesBack ps a.w.pending version_1.closing) f.pending back in
+    let stack = a.shadow.0 in
+    let x3 : 0x60000010 ≡ slot SHADOW_START (length stack.stacked) = stack.pointer in
+    let empty = ap length (stack.stands ∙ none.0) in
+    omega arith
 
 astray_unsafe : IsSafe version_1 astray_call astray_call_graph → ⊥
 unfolding loaded placed decoded code_of step write last_exit code_words read_each recognised words_of starts is_start unit_at place_at after_calm quiet is_ran class_with targets_for
@@ -211,8 +230,8 @@ astray_unsafe safe =
     let f = first astray_call astray_call_graph 0x40000040 call (calm 16 ++ ([] ∷ [])) refl (record { runs = refl; still = refl; there = refl }) (calm_is_data 17) safe in
     let a = next_arrival version_1 SHADOW_START astray_call astray_call_graph (Some f.opened) call (body (V.Gate 1)) 16 _ _ [] f.arrived (record { runs = refl; still = refl; there = refl }) in
     let at : place_at version_1 (code_words astray_call.code) f.arrived.w.at ≡ Some call = ap (place_at version_1 (code_words astray_call.code)) f.arrived.at in
-    let there : L.Leads version_1 (by_class astray_call_graph.lines) call f.arrived.w.at f.arrived.w.pending (after_calm version_1 10 (start_hart 0) (start_shared astray_call [])).hart.regs a.w.pending 0x40000090 =
-    subst (λ (r : Registers). L.Leads version_1 (by_class astray_call_graph.lines) call f.arrived.w.at f.arrived.w.pending r a.w.pending 0x40000090) f.arrived.regs
+    let there : PlaceLeads version_1 (by_class astray_call_graph.lines) call f.arrived.w.at f.arrived.w.pending (after_calm version_1 10 (start_hart 0) (start_shared astray_call [])).hart.regs a.w.pending 0x40000090 =
+    subst (λ (r : Registers). PlaceLeads version_1 (by_class astray_call_graph.lines) call f.arrived.w.at f.arrived.w.pending r a.w.pending 0x40000090) f.arrived.regs
     (went version_1 SHADOW_START astray_call astray_call_graph f.arrived.w call (body (V.Gate 1)) _ _ [] at a) in
     elim there [
       | inl called ↦ false≢true called.0
@@ -226,8 +245,8 @@ halted_unsafe safe =
     let f = first halted_jump halted_jump_graph 0x40000040 jump (calm 10 ++ ([] ∷ [])) refl (record { runs = refl; still = refl; there = refl }) (calm_is_data 11) safe in
     let a = next_arrival version_1 SHADOW_START halted_jump halted_jump_graph (Some f.opened) jump handler 10 _ _ [] f.arrived (record { runs = refl; still = refl; there = refl }) in
     let at : place_at version_1 (code_words halted_jump.code) f.arrived.w.at ≡ Some jump = ap (place_at version_1 (code_words halted_jump.code)) f.arrived.at in
-    let there : L.Leads version_1 (by_class halted_jump_graph.lines) jump f.arrived.w.at f.arrived.w.pending (after_calm version_1 10 (start_hart 0) (start_shared halted_jump [])).hart.regs a.w.pending BAD_TARGET =
-    subst (λ (r : Registers). L.Leads version_1 (by_class halted_jump_graph.lines) jump f.arrived.w.at f.arrived.w.pending r a.w.pending BAD_TARGET) f.arrived.regs
+    let there : PlaceLeads version_1 (by_class halted_jump_graph.lines) jump f.arrived.w.at f.arrived.w.pending (after_calm version_1 10 (start_hart 0) (start_shared halted_jump [])).hart.regs a.w.pending BAD_TARGET =
+    subst (λ (r : Registers). PlaceLeads version_1 (by_class halted_jump_graph.lines) jump f.arrived.w.at f.arrived.w.pending r a.w.pending BAD_TARGET) f.arrived.regs
     (went version_1 SHADOW_START halted_jump halted_jump_graph f.arrived.w jump handler _ _ [] at a) in
     elim there [
       | inl went ↦ let v : BAD_TARGET ≡ 0x40000074 = went.1.1 in absurd (omega arith)
@@ -251,7 +270,7 @@ does_there : (image : Contents) (k : ℕ) → place_at version_2 (code_words ima
     (after_calm version_2 (suc k) (start_hart 0) (start_shared image [])).shared
 does_there image k is runs still nothing safe =
     does version_2 (part_of 0) image one_pointer_graph None (opening version_2.units_from) k (start_hart 0) (start_shared image []) is runs still nothing
-    (safe_along_alone version_2 image one_pointer_graph [] 1 0 ([] ∷ (calm k ++ ([] ∷ []))) safe (one_may_run version_2 (laid_out version_2 (inr refl))) (lit< tt)
+    (safe_along_alone version_2 image one_pointer_graph [] 1 0 ([] ∷ (calm k ++ ([] ∷ []))) safe (one_may_run version_2 (laid_out version_2 (inl (inr refl)))) (lit< tt)
     (tt, calm_and k ([] ∷ []) (tt, tt)))
 
 write_unsafe : IsSafe version_2 storing_opening one_pointer_graph → ⊥
@@ -274,7 +293,7 @@ wrong_deeds_unsafe = record { write = write_unsafe; call = call_unsafe }
 
 -- hart 1 comes to the first unit with the shadow pointer of hart 0
 one_pointer_unsafe : IsSafe version_2 one_pointer one_pointer_graph → ⊥
-unfolding loaded placed decoded code_of step write last_exit code_words read_each recognised words_of starts is_start unit_at place_at after_calm quiet is_ran
+unfolding loaded placed decoded code_of step write last_exit code_words read_each recognised words_of starts is_start unit_at place_at after_calm quiet is_ran leaves_in
 one_pointer_unsafe safe =
     let start = start_shared one_pointer [] in
     let low : AreDataChanges ([] ∷ (calm 13 ++ ([] ∷ []))) = (tt, calm_and 13 ([] ∷ []) (tt, tt)) in
@@ -282,7 +301,7 @@ one_pointer_unsafe safe =
     let a = arrival version_2 (part_of 1) one_pointer one_pointer_graph None (opening version_2.units_from) (start_hart 1) start (calm 13 ++ ([] ∷ [])) refl run in
     let b = next_arrival version_2 (part_of 1) one_pointer one_pointer_graph None (opening version_2.units_from) (body V.Stop) 13 (start_hart 1) start [] a
     (record { runs = refl; still = refl; there = refl }) in
-    let x3 : 0x60000010 ≡ slot (part_of 1) (length b.w.pending) = b.shadow.0 in
+    let x3 : 0x60000010 ≡ slot (part_of 1) (length b.shadow.0.stacked) = b.shadow.0.pointer in
     omega arith
 
 pub shared_parts_unsafe : SharedPartsAreUnsafe

@@ -16,10 +16,10 @@ use Rattle.cfi_unit.specs.declared.unit.Unit as U
 use Rattle.cfi_unit.specs.declared.unit.Unit.TheVariants as V
 use Rattle.cfi_unit.specs.declared.unit.SystemOp.TheVariants as S
 use Rattle.cfi_unit.specs.declared.place.Place.TheVariants.{Body as body}
-use Rattle.cfi_unit.specs.Leads.{Leads}
 use Rattle.cfi_unit.specs.Recognise.{read_each, recognised}
 use Rattle.cfi_unit.specs.UnitWords.{BAD_TARGET, words_of}
-use Rattle.cfi_rules.specs.Lines.{class_with, line_at, targets_for}
+use Rattle.cfi_rules.specs.Along.{PlaceLeads}
+use Rattle.cfi_rules.specs.Lines.{class_with, leaves_in, line_at, targets_for}
 use Rattle.cfi_rules.specs.Placed.{AllAhead, AllFit, code_from, lines_from, placed_lines}
 use Rattle.cfi_rules.specs.Rules.{admits}
 use Rattle.cfi_rules.specs.Sound.{IsSound}
@@ -57,8 +57,8 @@ unfolding AllAhead code_from words_of decoded code_of
 guarded_ahead = (refl, (refl, (refl, tt)))
 
 guarded_sound : IsSound version_1 OneLabel 0x40000040 guarded listed
-unfolding all_from class_with targets_for unit_in
-guarded_sound = sound_by OneLabel guarded listed guarded_fit guarded_ahead refl refl refl refl refl refl
+unfolding all_from class_with targets_for unit_in leaves_in
+guarded_sound = sound_by OneLabel guarded listed refl refl guarded_fit guarded_ahead refl refl refl refl refl refl
 
 -- without a list a bare call stands, and with one a guarded one with just its numbers in their order
 bare_alone : admits OneLabel None (V.System S.Ecall) ≡ true
@@ -68,27 +68,27 @@ break_stands : admits OneLabel (Some (64 ∷ [])) (V.System S.Ebreak) ≡ true
 break_stands = refl
 
 bare_under_a_list : fails_of OneLabel R.Unit (calling (V.System S.Ecall)) listed 0x40000044 ≡ true
-unfolding decoded code_of code_from lines_from read_each recognised words_of starts is_start unit_at
+unfolding decoded code_of code_from lines_from read_each recognised words_of starts is_start unit_at leaves_in
 bare_under_a_list = refl
 
 guarded_without : fails_of OneLabel R.Unit guarded [] 0x40000044 ≡ true
-unfolding decoded code_of code_from lines_from read_each recognised words_of starts is_start unit_at
+unfolding decoded code_of code_from lines_from read_each recognised words_of starts is_start unit_at leaves_in
 guarded_without = refl
 
 guarded_with : fails_of OneLabel R.Unit guarded listed 0x40000044 ≡ false
-unfolding decoded code_of code_from lines_from read_each recognised words_of starts is_start unit_at
+unfolding decoded code_of code_from lines_from read_each recognised words_of starts is_start unit_at leaves_in
 guarded_with = refl
 
 other_order : fails_of OneLabel R.Unit (calling (V.Guarded (93 ∷ 64 ∷ []))) listed 0x40000044 ≡ true
-unfolding decoded code_of code_from lines_from read_each recognised words_of starts is_start unit_at
+unfolding decoded code_of code_from lines_from read_each recognised words_of starts is_start unit_at leaves_in
 other_order = refl
 
 fewer_numbers : fails_of OneLabel R.Unit (calling (V.Guarded (64 ∷ []))) listed 0x40000044 ≡ true
-unfolding decoded code_of code_from lines_from read_each recognised words_of starts is_start unit_at
+unfolding decoded code_of code_from lines_from read_each recognised words_of starts is_start unit_at leaves_in
 fewer_numbers = refl
 
 more_numbers : fails_of OneLabel R.Unit (calling (V.Guarded (64 ∷ 93 ∷ 94 ∷ []))) listed 0x40000044 ≡ true
-unfolding decoded code_of code_from lines_from read_each recognised words_of starts is_start unit_at
+unfolding decoded code_of code_from lines_from read_each recognised words_of starts is_start unit_at leaves_in
 more_numbers = refl
 
 -- a list behind another line is none
@@ -97,7 +97,7 @@ late_list = refl
 
 -- the closing calls as it is, and stands at no unit
 closing_stands : fails_of OneLabel R.Unit guarded listed 0x40000038 ≡ false
-unfolding decoded code_of code_from lines_from read_each recognised words_of starts is_start unit_at
+unfolding decoded code_of code_from lines_from read_each recognised words_of starts is_start unit_at leaves_in
 closing_stands = refl
 
 -- the line of the list has no address
@@ -107,7 +107,7 @@ no_address = refl
 
 -- with a number of the list the walk goes on behind the unit, with any other to the handler
 abbrev Leads_64 : List ℕ → ℕ → Type 0
-Leads_64 numbers v = Leads version_1 (by_class []) (body (V.Guarded numbers)) 0x40000044 [] (λ k. 64) [] v
+Leads_64 numbers v = PlaceLeads version_1 (by_class []) (body (V.Guarded numbers)) 0x40000044 [] (λ k. 64) [] v
 
 goes_on : Leads_64 (63 ∷ 64 ∷ []) 0x4000005c
 goes_on = inl (refl, (refl, refl))

@@ -3,7 +3,7 @@ use Rattle.std.proofs.Common.{◌≡◌, ℕ, zero, suc, ◌+◌, ◌*◌, ◌^�
 use Rattle.std.specs.Prelude.{map, slice_get}
 use Rattle.std.specs.List.{AllByRecursion}
 use Rattle.std.proofs.lemmas.Nat.{mod_below}
-use Rattle.rv_word.specs.MemoryMap.{IsProfile, Profile}
+use Rattle.rv_word.specs.MemoryMap.{IsProfile, Profile, lean_version_1, lean_version_2, version_1, version_2}
 use Rattle.rv_word.specs.Numbers.{IsNumber, MOST_NUMBERS}
 use Rattle.rv_instr.specs.InRange.{IsInstr}
 use Rattle.rv_instr.specs.declared.instr.Instr.{Instr}
@@ -17,7 +17,7 @@ use Rattle.cfi_unit.specs.declared.unit.SystemOp.TheVariants as S
 use Rattle.cfi_unit.specs.declared.members.Member.{Member}
 use Rattle.cfi_unit.specs.Guarded.{guards}
 use Rattle.cfi_unit.specs.Members.{IsMember, member_instr}
-use Rattle.cfi_unit.specs.Prologue.{call_at, closing_instrs, lone_set_up, opening_instrs, own_set_up, prologue_instrs, set_up}
+use Rattle.cfi_unit.specs.Prologue.{call_at, closing_instrs, lean_lone_set_up, lean_own_set_up, lone_set_up, opening_instrs, own_set_up, prologue_instrs}
 use Rattle.cfi_unit.specs.UnitWords.{BAD_TARGET, Fits, instrs_of, jump, jump_offset, push, check, mask_made, past}
 use Rattle.cfi_unit.proofs.Jumps.{is_jump_instr}
 
@@ -163,13 +163,52 @@ own_instrs = (
   ),
 )
 
-set_up_instrs : (p : Profile) → IsProfile p → AreInstrs (set_up p)
-set_up_instrs p (inl e) = subst (λ (q : Profile). AreInstrs (set_up q)) (sym e) lone_instrs
-set_up_instrs p (inr e) = subst (λ (q : Profile). AreInstrs (set_up q)) (sym e) own_instrs
+lean_lone_instrs : AreInstrs lean_lone_set_up
+lean_lone_instrs = (
+  (lit< tt, lit< tt),
+  ((lit< tt, lit< tt), ((lit< tt, lit< tt, lit< tt), ((lit< tt, lit< tt), ((lit< tt, lit< tt, lit< tt), tt)))),
+)
+
+lean_own_instrs : AreInstrs lean_own_set_up
+lean_own_instrs = (
+  (lit< tt, lit< tt),
+  (
+    (lit< tt, lit< tt),
+    (
+      (lit< tt, lit< tt, lit< tt),
+      (
+        (lit< tt, lit< tt, lit< tt),
+        (
+          (lit< tt, lit< tt, lit< tt),
+          (
+            (lit< tt, lit< tt),
+            ((lit< tt, lit< tt, lit< tt), ((lit< tt, lit< tt, lit< tt), ((lit< tt, lit< tt, lit< tt), tt))),
+          ),
+        ),
+      ),
+    ),
+  ),
+)
+
+-- the opening, by both versions
+called : (entry at : ℕ) (ready : List Instr) → AreInstrs ready → AreInstrs (ready ++ instrs_of (V.Call entry) at)
+called entry at ready all = append_instrs ready (instrs_of (V.Call entry) at) all (call_instrs at entry)
+
+linked : (entry at : ℕ) (ready : List Instr) → AreInstrs ready → AreInstrs (ready ++ instrs_of (V.LinkCall entry) at)
+linked entry at ready all = append_instrs ready (instrs_of (V.LinkCall entry) at) all (is_jump_instr 1 _ _ (lit< tt), tt)
+
+opening_in_range : (p : Profile) → IsProfile p → (entry : ℕ) → AreInstrs (opening_instrs p entry)
+opening_in_range p (inl (inl e)) entry =
+    subst (λ (q : Profile). AreInstrs (opening_instrs q entry)) (sym e) (called entry (call_at version_1) lone_set_up lone_instrs)
+opening_in_range p (inl (inr e)) entry =
+    subst (λ (q : Profile). AreInstrs (opening_instrs q entry)) (sym e) (called entry (call_at version_2) own_set_up own_instrs)
+opening_in_range p (inr (inl e)) entry =
+    subst (λ (q : Profile). AreInstrs (opening_instrs q entry)) (sym e) (linked entry lean_version_1.opening_call lean_lone_set_up lean_lone_instrs)
+opening_in_range p (inr (inr e)) entry =
+    subst (λ (q : Profile). AreInstrs (opening_instrs q entry)) (sym e) (linked entry lean_version_2.opening_call lean_own_set_up lean_own_instrs)
 
 pub prologue_in_range : (p : Profile) → IsProfile p → (entry : ℕ) → AreInstrs (prologue_instrs p entry)
 prologue_in_range p is entry =
     append_instrs ((Ebreak ∷ Ebreak ∷ Ebreak ∷ []) ++ opening_instrs p entry) closing_instrs
-    (append_instrs (Ebreak ∷ Ebreak ∷ Ebreak ∷ []) (opening_instrs p entry) (tt, (tt, (tt, tt)))
-    (append_instrs (set_up p) (instrs_of (V.Call entry) (call_at p)) (set_up_instrs p is) (call_instrs (call_at p) entry)))
+    (append_instrs (Ebreak ∷ Ebreak ∷ Ebreak ∷ []) (opening_instrs p entry) (tt, (tt, (tt, tt))) (opening_in_range p is entry))
     ((lit< tt, lit< tt, lit< tt), (tt, tt))

@@ -1,12 +1,14 @@
 -- What stands at each place does stand, and a word with a class's label stands only at the class's
 -- targets.
-use Rattle.std.proofs.Common.{◌≡◌, ℕ, true, ◌+◌, ◌-◌, ◌*◌, ◌%◌, ◌^◌, ◌≤◌, ◌<◌, ◌⊎◌, inl, inr, List, [], length, refl, sym, ap, subst, ◌∙◌, Some, arith}
+use Rattle.std.proofs.Common.{◌≡◌, ℕ, true, ◌+◌, ◌-◌, ◌*◌, ◌/◌, ◌%◌, ◌^◌, ◌≤◌, ◌<◌, ◌⊎◌, inl, inr, List, [], length, refl, sym, ap, subst, ◌∙◌, Some, arith}
 use Rattle.std.specs.Prelude.{nat_le}
 use Rattle.std.proofs.lemmas.Bool.{and_parts, cases_lt}
+use Rattle.std.proofs.lemmas.Option.{slice_get_cases}
 use Rattle.rv_word.specs.Image.{Contents}
-use Rattle.rv_word.specs.MemoryMap.{CODE_START, IsProfile, Profile}
-use Rattle.rv_word.proofs.Versions.{laid_out}
+use Rattle.rv_word.specs.MemoryMap.{CODE_START, IsFullProfile, IsProfile, Profile}
+use Rattle.rv_word.proofs.Profiles.{full_low, laid_out}
 use Rattle.rv_word.specs.Memory.{loaded, read}
+use Rattle.rv_code.specs.Decode.{decoded}
 use Rattle.cfi_graph.specs.declared.line.SiteKind.{SiteKind}
 use Rattle.cfi_graph.specs.Graph.{GraphParts}
 use Rattle.cfi_unit.specs.declared.target_word.TargetWord.{TargetWord}
@@ -16,12 +18,14 @@ use Rattle.cfi_unit.specs.Leads.{HasLabel}
 use Rattle.cfi_unit.specs.declared.place.Place.{Place}
 use Rattle.cfi_unit.specs.declared.place.Place.TheVariants.{Handler as handler, Opening as opening, Closing as closing, Body as body}
 use Rattle.cfi_unit.specs.Place.{place_instrs, place_size}
-use Rattle.cfi_unit.specs.Prologue.{OPENING, call_at, handler_instrs}
+use Rattle.cfi_unit.specs.Prologue.{OPENING, call_at, handler_instrs, opening_instrs}
 use Rattle.cfi_unit.specs.Stand.{Stand}
-use Rattle.cfi_unit.specs.UnitLaw.{ReturnsTo, MayStand}
-use Rattle.cfi_unit.specs.UnitWords.{BAD_TARGET, BAD_RETURN, DEEP, Fits, Reaches, past}
-use Rattle.cfi_unit.proofs.Gates.{label_is_gate}
+use Rattle.cfi_unit.specs.UnitLaw.{MayStand}
+use Rattle.cfi_unit.specs.UnitWords.{BAD_TARGET, BAD_RETURN, DEEP, Fits, Reaches, gate, past}
+use Rattle.cfi_unit.proofs.Gates.{gate_word, label_is_gate}
+use Rattle.cfi_unit.proofs.Parts.{opening_length}
 use Rattle.cfi_unit.proofs.PrologueUnits.{PrologueStands, prologue_stands}
+use Rattle.cfi_unit.proofs.Sought.{nowhere, opening_lacks}
 use Rattle.cfi_rules.specs.Lines.{holds_of, is_among, is_word_of, targets_for}
 use Rattle.cfi_rules.specs.Rules.{IsWellFormed}
 use Rattle.cfi_rules.specs.Split.{code_words, unit_at}
@@ -31,19 +35,21 @@ use Rattle.cfi_rules.proofs.Bytes.{loaded_past, length-code_words}
 use Rattle.cfi_rules.proofs.Find.{unit_around}
 use Rattle.cfi_rules.proofs.Places.{PlaceFacts, prologue, is_whole, handler_is}
 use Rattle.cfi_rules.proofs.RuleFacts.{gate_listed}
+use Rattle.cfi_rules.proofs.Served.{read_by}
 use Rattle.cfi_rules.proofs.Standing.{unit_stands}
 
--- the opening's call reaches the handler of full shadow stacks, and what it reaches from its jump
-deep_reached : (p : Profile) → IsProfile p → Reaches (call_at p + 8) DEEP
+-- where callers save sites, the opening's call reaches the handler of full shadow stacks, and what it reaches from its jump
+deep_reached : (p : Profile) → IsFullProfile p → Reaches (call_at p + 8) DEEP
 deep_reached p (inl e) = subst (λ (q : Profile). Reaches (call_at q + 8) DEEP) (sym e) refl
 deep_reached p (inr e) = subst (λ (q : Profile). Reaches (call_at q + 8) DEEP) (sym e) refl
 
 -- where the opening's jump reaches the entry, its call as a unit may stand
-pub call_fits : (p : Profile) → IsProfile p → (entry : ℕ) → Reaches p.opening_call entry → Fits (V.Call entry) (call_at p)
-call_fits p profile entry reaches =
-    let laid = laid_out p profile in
+pub call_fits : (p : Profile) → IsFullProfile p → (entry : ℕ) → Reaches p.opening_call entry → Fits (V.Call entry) (call_at p)
+call_fits p full entry reaches =
+    let laid = laid_out p (inl full) in
+    let low = full_low p full in
     let jump : call_at p + 28 ≡ p.opening_call = omega arith in
-    (deep_reached p profile, subst (λ (a : ℕ). Reaches a entry) (sym jump) reaches)
+    (deep_reached p full, subst (λ (a : ℕ). Reaches a entry) (sym jump) reaches)
 
 -- the word of an address that a check reads, and the address that it is the word of
 word_round : (which : TargetWord) (v : ℕ) → v % 4 ≡ 0 → (v + past which) % 4 ≡ 0
@@ -78,18 +84,9 @@ module _ (p : Profile) (profile : IsProfile p) (image : Contents) (graph : Graph
   place_stands closing a facts = subst (λ (x : ℕ). Stand (loaded image) x (place_instrs p closing x)) (sym facts) the_prologue.closing
   place_stands (body unit) a facts = unit_stands p (laid_out p profile) image bytes a unit facts
 
-  -- and may stand there; the opening has nothing pending
-  abbrev pub IsFirstCall : Place → List ℕ → Type 0
-  IsFirstCall handler pending = Unit {0}
-  IsFirstCall (opening entry) pending = pending ≡ []
-  IsFirstCall closing pending = Unit {0}
-  IsFirstCall (body unit) pending = ReturnsTo pending
-
-  pub may_stand : (place : Place) (a : ℕ) (pending : List ℕ) → PlaceFacts p profile image graph bytes formed place a → IsFirstCall place pending → MayStand p place a pending
-  may_stand handler a pending facts first = tt
-  may_stand (opening entry) a pending facts first = (profile, facts.0, first, call_fits p profile entry facts.1.reaches)
-  may_stand closing a pending facts first = tt
-  may_stand (body unit) a pending facts first = (facts.begins.fits, first)
+  -- and may stand there; the opening, where callers save sites, has nothing pending
+  pub full_may_stand : IsFullProfile p → (entry at : ℕ) → PlaceFacts p profile image graph bytes formed (opening entry) at → MayStand p (opening entry) at []
+  full_may_stand full entry at facts = (full, facts.0, refl, call_fits p full entry facts.1.reaches)
 
   -- the word of `lui x0,label` stands at an address from the start of code on
   record IsLabelAt (label v : ℕ) : Type 0 where
@@ -98,25 +95,40 @@ module _ (p : Profile) (profile : IsProfile p) (image : Contents) (graph : Graph
     word : read 4 (loaded image) v ≡ label * 4096 + 55
 
   -- no word of what stands before the first unit bears a label
-  before_units : (place : Place) (a label v : ℕ) → PlaceFacts p profile image graph bytes formed place a → IsFirstCall place [] → label < 2 ^ 20 → IsLabelAt label v →
+  in_place : (place : Place) (a label v : ℕ) → PlaceFacts p profile image graph bytes formed place a → MayStand p place a [] → label < 2 ^ 20 → IsLabelAt label v →
       a ≤ v → v < a + place_size p place → (place ≡ body (V.Gate label)) × (v ≡ a)
-  before_units place a label v facts first low has from to =
-      label_is_gate p (loaded image) [] place a label v (may_stand place a [] facts first) (place_stands place a facts) low has.round has.word from to
+  in_place place a label v facts may low has from to =
+      label_is_gate p (loaded image) [] place a label v may (place_stands place a facts) low has.round has.word from to
+
+  in_opening : (label v : ℕ) → label < 2 ^ 20 → IsLabelAt label v → OPENING ≤ v → v < p.closing → ⊥
+  in_opening label v low has from to =
+      let entry = (prologue p profile image graph bytes formed).0 in
+      let whole = opening_length p profile entry in
+      let round = has.round in
+      let here : v ≡ OPENING + 4 * ((v - OPENING) / 4) = omega arith in
+      let gate_here : decoded (read 4 (loaded image) (OPENING + 4 * ((v - OPENING) / 4))) ≡ Some (gate label) =
+      gate_word _ label low (ap (read 4 (loaded image)) (sym here) ∙ has.word) in
+      elim (slice_get_cases (opening_instrs p entry) ((v - OPENING) / 4)).1 [
+        | inl found ↦
+            let word = the_prologue.opening.words ((v - OPENING) / 4) found.0 found.2 in
+            let same : found.0 ≡ gate label = cc in
+            nowhere true (opening_instrs p entry) ((v - OPENING) / 4) (gate label) refl (opening_lacks true p profile entry) (found.2 ∙ ap Some same)
+        | inr past ↦ let beyond = past.0 in absurd (omega arith)
+      ]
 
   not_before : (label v : ℕ) → label < 2 ^ 20 → IsLabelAt label v → v < p.units_from → ⊥
   not_before label v low has below =
       let layout = laid_out p profile in
       let code = has.low in
       elim (cases_lt v BAD_RETURN) [
-        | inl a ↦ let e = (before_units handler BAD_TARGET label v refl tt low has (omega arith) (omega arith)).0 in cc
+        | inl a ↦ let e = (in_place handler BAD_TARGET label v refl tt low has (omega arith) (omega arith)).0 in cc
         | inr a ↦ elim (cases_lt v DEEP) [
-          | inl b ↦ let e = (before_units handler BAD_RETURN label v refl tt low has (omega arith) (omega arith)).0 in cc
+          | inl b ↦ let e = (in_place handler BAD_RETURN label v refl tt low has (omega arith) (omega arith)).0 in cc
           | inr b ↦ elim (cases_lt v OPENING) [
-            | inl c ↦ let e = (before_units handler DEEP label v refl tt low has (omega arith) (omega arith)).0 in cc
+            | inl c ↦ let e = (in_place handler DEEP label v refl tt low has (omega arith) (omega arith)).0 in cc
             | inr c ↦ elim (cases_lt v p.closing) [
-              | inl d ↦
-                  let e = (before_units (opening (prologue p profile image graph bytes formed).0) OPENING label v (refl, (prologue p profile image graph bytes formed).1) refl low has (omega arith) (omega arith)).0 in cc
-              | inr d ↦ let e = (before_units closing p.closing label v refl tt low has (omega arith) (omega arith)).0 in cc
+              | inl d ↦ in_opening label v low has (omega arith) d
+              | inr d ↦ let e = (in_place closing p.closing label v refl tt low has (omega arith) (omega arith)).0 in cc
             ]
           ]
         ]
@@ -136,7 +148,7 @@ module _ (p : Profile) (profile : IsProfile p) (image : Contents) (graph : Graph
           | inr from ↦
               let around = unit_around p (laid_out p profile) (code_words image.code) (is_whole p profile image graph bytes formed) v from inside in
               let unit = around.1 in let s = around.0 in let place = around.2 in
-              let found = before_units (body unit) s label v place.here tt low has place.from place.below in
+              let found = in_place (body unit) s label v place.here (place.here.begins.fits, tt) low has place.from place.below in
               let gate : unit ≡ V.Gate label = let same = found.0 in cc in
               ap (unit_at p (code_words image.code)) found.1 ∙ place.here.is ∙ ap Some gate
         ]
@@ -147,9 +159,9 @@ module _ (p : Profile) (profile : IsProfile p) (image : Contents) (graph : Graph
       ]
 
   -- an address whose word that a transfer's check reads bears its label is a target of the class
-  pub label_in_class : (kind : SiteKind) (which : TargetWord) (label v : ℕ) (ts : List ℕ) → label < 2 ^ 20 → targets_for graph.lines kind which label ≡ Some ts →
-      HasLabel (loaded image) which label v → InClass graph.lines kind which label v
-  label_in_class kind which label v ts low class has =
+  pub label_in_class : (kind : SiteKind) (which : TargetWord) (label v : ℕ) (ts : List ℕ) → which ≡ read_by graph.version kind → label < 2 ^ 20 →
+      targets_for graph.lines kind which label ≡ Some ts → HasLabel (loaded image) which label v → InClass graph.lines kind which label v
+  label_in_class kind which label v ts reads low class has =
       let code = has.low in
       let is = gate_there label (v + past which) low (record { round = word_round which v has.round; low = omega arith; word = has.word }) in
-      ap (λ o. holds_of o (is_among v)) class ∙ word_among which v ts (gate_listed p image graph formed kind which (v + past which) label ts is class)
+      ap (λ o. holds_of o (is_among v)) class ∙ word_among which v ts (gate_listed p image graph formed kind which (v + past which) label ts reads is class)

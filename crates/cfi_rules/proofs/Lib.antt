@@ -10,6 +10,8 @@ pub mod LineOrder
 pub mod Served
 pub mod RuleFacts
 pub mod Labels
+pub mod StartKinds
+pub mod LeanOpening
 pub mod Leading
 pub mod Moves
 pub mod OnRan
@@ -19,6 +21,7 @@ pub mod UnitIn
 pub mod CodeSplit
 pub mod PlacedSplit
 pub mod Reading
+pub mod Steps
 pub mod Safety
 pub mod Ahead
 pub mod PlacedLines
@@ -28,9 +31,11 @@ pub mod PlacedGraph
 pub mod PlacedRows
 pub mod ApartRows
 pub mod CallRows
+pub mod LeanRows
 pub mod Walks
 pub mod Trails
 pub mod OneHart
 pub mod Unsafe
 pub mod Arrivals
+pub mod LeanArrivals
 pub mod Unlisted

@@ -1,6 +1,6 @@
 -- Lines whose keys rise: a key stands at one place, and the line with a key is found by it.
 use Rattle.std.proofs.Common.{◌≡◌, ◌≢◌, ◌<◌, ℕ, zero, suc, ◌==◌, true, false, List, [], ◌∷◌, map, Some, None, refl, sym, ap, ◌∙◌, arith, inl, inr}
-use Rattle.std.specs.Prelude.{slice_get, option_and_then, nat_le, nat_lt, ◌&&◌, if◌then◌else◌}
+use Rattle.std.specs.Prelude.{slice_get, option_and_then, nat_le, nat_lt, if◌then◌else◌}
 use Rattle.std.proofs.lemmas.Bool.{and_from, and_parts, cases_Bool, cases_order, leb-true, ltb-true, ltb-false, eqb-true, eq-eqb, false≢true}
 use Rattle.std.proofs.lemmas.Option.{same_Some}
 use Rattle.cfi_graph.specs.declared.line.GraphLine.{GraphLine}

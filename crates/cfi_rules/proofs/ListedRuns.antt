@@ -1,8 +1,7 @@
 -- A well-formed pair with a list of system calls makes no others: it is safe, so each step's events are
 -- those of the unit that it is in, and that is admitted with the list.
-use Rattle.std.proofs.Common.{◌≡◌, ℕ, ◌+◌, inl, inr, true, false, List, [], ◌∷◌, sym, ap, subst, ◌∙◌, Some, None}
-use Rattle.std.specs.Prelude.{not}
-use Rattle.std.proofs.lemmas.Bool.{and_parts, or_parts}
+use Rattle.std.proofs.Common.{◌≡◌, ℕ, ◌+◌, inl, inr, true, List, [], ◌∷◌, sym, ap, subst, ◌∙◌, Some, None}
+use Rattle.std.proofs.lemmas.Bool.{and_parts}
 use Rattle.rv_word.specs.Image.{Contents}
 use Rattle.rv_word.specs.MemoryMap.{IsProfile, Profile}
 use Rattle.rv_word.specs.Memory.{loaded}
@@ -22,13 +21,11 @@ use Rattle.cfi_unit.specs.declared.place.Place.{Place}
 use Rattle.cfi_unit.specs.declared.place.Place.TheVariants.{Handler as handler, Opening as opening, Closing as closing, Body as body}
 use Rattle.cfi_rules.specs.Along.{RunsAlong, Walks, with_walk}
 use Rattle.cfi_rules.specs.Laws.{AreBytes}
-use Rattle.cfi_rules.specs.Lines.{holds_of}
 use Rattle.cfi_rules.specs.Listed.{AddsListed, IsListedCall, ListedAlong, WellFormedIsListed}
-use Rattle.cfi_rules.specs.Rules.{IsWellFormed, act_may_call, admitted_in, is_of_version, may_call}
+use Rattle.cfi_rules.specs.Rules.{IsWellFormed, act_may_call, is_of_version, may_call}
 use Rattle.cfi_rules.specs.Split.{code_words, place_at, unit_at}
-use Rattle.cfi_rules.specs.declared.reject.Rule.TheVariants as R
 use Rattle.cfi_rules.proofs.Places.{PlaceFacts, place_facts}
-use Rattle.cfi_rules.proofs.RuleFacts.{not_false}
+use Rattle.cfi_rules.proofs.RuleFacts.{unit_admitted}
 use Rattle.cfi_rules.proofs.OnRan.{on_ran}
 use Rattle.cfi_rules.proofs.Safety.{well_formed_along}
 
@@ -45,9 +42,8 @@ module _ (p : Profile) (profile : IsProfile p) (image : Contents) (graph : Graph
   -- each unit is admitted with the list
   pub admitted : (a : ℕ) (unit : U.Unit) → unit_at p (code_words image.code) a ≡ Some unit → may_call (Some calls) unit ≡ true
   admitted a unit is =
-      let rule = (or_parts _ (holds_of (unit_at p (code_words image.code) a) (λ (u : U.Unit). not (admitted_in graph u))) (formed.rules R.Unit a)).1 in
-      let here : not (admitted_in graph unit) ≡ false = sym (ap (λ o. holds_of o (λ (u : U.Unit). not (admitted_in graph u))) is) ∙ rule in
-      let may : may_call (calls_in graph.lines) unit ≡ true = (and_parts (is_of_version graph.version unit) (may_call (calls_in graph.lines) unit) (not_false (admitted_in graph unit) here)).1 in
+      let may : may_call (calls_in graph.lines) unit ≡ true =
+      (and_parts (is_of_version graph.version unit) (may_call (calls_in graph.lines) unit) (unit_admitted p image graph formed a unit is)).1 in
       sym (ap (λ o. may_call o unit) list_is) ∙ may
 
   listed_call : (place : Place) (at : ℕ) (h : Hart) (e : Event) → PlaceFacts p profile image graph bytes formed place at → e.number ≡ h.regs 17 → MayCall place at h →

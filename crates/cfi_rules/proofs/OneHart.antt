@@ -6,7 +6,7 @@ use Rattle.std.proofs.lemmas.Bool.{eq-eqb}
 use Rattle.rv_word.specs.Image.{Contents}
 use Rattle.rv_word.specs.MemoryMap.{MayRun, Profile, part_of}
 use Rattle.rv_word.specs.Memory.{loaded}
-use Rattle.rv_word.proofs.Versions.{LaidOut}
+use Rattle.rv_word.proofs.Profiles.{LaidOut}
 use Rattle.rv_code.specs.Run.{ByteChange, HartStep, IsDataChange, alone, disturbed, disturbed_step, if_ran}
 use Rattle.rv_code.specs.State.{Hart, Harts, Shared, start_hart, start_shared, with_hart}
 use Rattle.rv_code.specs.Step.{step}

@@ -4,8 +4,8 @@ use Rattle.std.specs.Prelude.{slice_get, slice_index, ◌==◌, not, option_map}
 use Rattle.std.proofs.lemmas.Bool.{cases_eq, eq-eqb, eqb-true, le-leb, ne_eqb}
 use Rattle.std.proofs.lemmas.Option.{get_or_from_slice_get, slice_get-map, slice_get_within}
 use Rattle.rv_word.specs.Image.{Contents}
-use Rattle.rv_word.specs.MemoryMap.{CODE_START, IsProfile, Profile, version_1, version_2}
-use Rattle.rv_word.proofs.Versions.{LaidOut, laid_out}
+use Rattle.rv_word.specs.MemoryMap.{CODE_START, IsProfile, Profile, lean_version_1, lean_version_2, version_1, version_2}
+use Rattle.rv_word.proofs.Profiles.{LaidOut, laid_out}
 use Rattle.rv_word.specs.Memory.{read, loaded}
 use Rattle.rv_instr.specs.declared.instr.Instr.{Instr}
 use Rattle.rv_instr.specs.declared.instr.Instr.TheVariants.{Jal}
@@ -59,9 +59,27 @@ prologue_is_2 = record {
       but_one (take 17 (prologue_instrs version_2 0)) (Jal 1 (jump_offset version_2.opening_call 0)) (Jal 1 (jump_offset version_2.opening_call entry)) closing_instrs k other;
 }
 
+prologue_is_lean_1 : PrologueIs lean_version_1
+prologue_is_lean_1 = record {
+  size = λ entry. refl;
+  call = λ entry. refl;
+  others = λ entry k other.
+      but_one (take 8 (prologue_instrs lean_version_1 0)) (Jal 1 (jump_offset lean_version_1.opening_call 0)) (Jal 1 (jump_offset lean_version_1.opening_call entry)) closing_instrs k other;
+}
+
+prologue_is_lean_2 : PrologueIs lean_version_2
+prologue_is_lean_2 = record {
+  size = λ entry. refl;
+  call = λ entry. refl;
+  others = λ entry k other.
+      but_one (take 12 (prologue_instrs lean_version_2 0)) (Jal 1 (jump_offset lean_version_2.opening_call 0)) (Jal 1 (jump_offset lean_version_2.opening_call entry)) closing_instrs k other;
+}
+
 pub prologue_is : (p : Profile) → IsProfile p → PrologueIs p
-prologue_is p (inl e) = subst (λ (q : Profile). PrologueIs q) (sym e) prologue_is_1
-prologue_is p (inr e) = subst (λ (q : Profile). PrologueIs q) (sym e) prologue_is_2
+prologue_is p (inl (inl e)) = subst (λ (q : Profile). PrologueIs q) (sym e) prologue_is_1
+prologue_is p (inl (inr e)) = subst (λ (q : Profile). PrologueIs q) (sym e) prologue_is_2
+prologue_is p (inr (inl e)) = subst (λ (q : Profile). PrologueIs q) (sym e) prologue_is_lean_1
+prologue_is p (inr (inr e)) = subst (λ (q : Profile). PrologueIs q) (sym e) prologue_is_lean_2
 
 pub word_at : (p : Profile) → PrologueIs p → (entry k : ℕ) (i : Instr) → (k ≡ call_word p → ⊥) → slice_get (prologue_instrs p entry) k ≡ Some i →
     slice_index (prologue_words p) k ≡ code_of i

@@ -1,18 +1,20 @@
 -- The lines of placed units: which stands at an address, and that none of them is a class's or the list of
 -- system calls.
-use Rattle.std.proofs.Common.{◌≡◌, ℕ, Bool, suc, ◌+◌, ◌*◌, ◌==◌, inl, inr, true, false, List, [], ◌∷◌, ◌++◌, refl, sym, ap, subst, ◌∙◌, Some, None, arith}
+use Rattle.std.proofs.Common.{◌≡◌, ℕ, suc, ◌+◌, ◌*◌, ◌==◌, inl, inr, true, false, List, [], ◌∷◌, ◌++◌, refl, sym, ap, subst, ◌∙◌, Some, None, arith}
 use Rattle.std.specs.Prelude.{Option, IsTrue, ◌&&◌, option_and_then, slice_get, not, if◌then◌else◌}
 use Rattle.std.specs.List.{list_all, list_any}
 use Rattle.std.proofs.lemmas.Bool.{and_parts, cases_Bool, cases_eq, eq-eqb, ne_eqb, or_from}
+use Rattle.rv_word.specs.declared.version.GraphVersion.{GraphVersion}
+use Rattle.rv_word.specs.MemoryMap.{Profile}
 use Rattle.cfi_graph.specs.declared.line.GraphLine.{GraphLine}
 use Rattle.cfi_graph.specs.declared.line.GraphLine.TheVariants.{Calls, Leaf, Class, Site, Edge, Call}
 use Rattle.cfi_graph.specs.Graph.{ClassLine, calls_in, class_in}
 use Rattle.cfi_unit.specs.declared.unit.Unit as U
 use Rattle.cfi_unit.specs.declared.place.Place.TheVariants.{Body as body}
 use Rattle.cfi_unit.specs.UnitWords.{word_count}
-use Rattle.cfi_rules.specs.Lines.{class_with, holds_of, is_among, line_at, or_class, read_of, stands_at}
+use Rattle.cfi_rules.specs.Lines.{class_with, holds_of, is_among, leaves_in, line_at, or_class, read_of, stands_at}
 use Rattle.cfi_rules.specs.Placed.{is_head, line_by, line_of, lines_from, with_line}
-use Rattle.cfi_rules.specs.Rules.{call_of, edge_of, is_borne, lacks_gate, site_of}
+use Rattle.cfi_rules.specs.Rules.{Signs, call_of, edge_of, is_borne, lacks_end, lacks_gate, site_of}
 use Rattle.cfi_rules.specs.declared.asks.Asks.{Asks}
 use Rattle.cfi_rules.specs.Split.{unit_in}
 use Rattle.cfi_unit.proofs.Counts.{some_word}
@@ -100,36 +102,73 @@ unfolding class_with
 class_before [] rest l none = none
 class_before (line ∷ heads) rest l none = ap (or_class l (class_in line)) (class_before heads rest l none)
 
-lacks_with : (at a : ℕ) (starts : ℕ → Bool) (gate : ℕ → Option ℕ) (edge call : Option ℕ) (site : Option Asks) (rest : List GraphLine) →
-    list_any (lacks_gate starts gate a) (with_line (line_by at edge call site) rest) ≡ list_any (lacks_gate starts gate a) rest
-lacks_with at a starts gate (Some target) call site rest = refl
-lacks_with at a starts gate None (Some target) site rest = refl
-lacks_with at a starts gate None None (Some asked) rest = refl
-lacks_with at a starts gate None None None rest = refl
+-- nor leaves'
+no_leaves_with : (at : ℕ) (edge call : Option ℕ) (site : Option Asks) (rest : List GraphLine) →
+    leaves_in (with_line (line_by at edge call site) rest) ≡ leaves_in rest
+unfolding leaves_in
+no_leaves_with at (Some target) call site rest = refl
+no_leaves_with at None (Some target) site rest = refl
+no_leaves_with at None None (Some asked) rest = refl
+no_leaves_with at None None None rest = refl
 
-pub none_lacks : (us : List U.Unit) (at a : ℕ) (starts : ℕ → Bool) (gate : ℕ → Option ℕ) → list_any (lacks_gate starts gate a) (lines_from at us) ≡ false
-unfolding lines_from
-none_lacks [] at a starts gate = refl
-none_lacks (u ∷ us) at a starts gate =
-    lacks_with at a starts gate (edge_of (body u)) (call_of (body u)) (site_of (body u)) (lines_from (at + 4 * word_count u) us) ∙ none_lacks us (at + 4 * word_count u) a starts gate
+pub no_leaves : (us : List U.Unit) (at : ℕ) → leaves_in (lines_from at us) ≡ []
+unfolding leaves_in lines_from
+no_leaves [] at = refl
+no_leaves (u ∷ us) at =
+    no_leaves_with at (edge_of (body u)) (call_of (body u)) (site_of (body u)) (lines_from (at + 4 * word_count u) us) ∙ no_leaves us (at + 4 * word_count u)
 
--- a line whose class's target bears the label lacks no gate
-has_gate : (starts : ℕ → Bool) (gate : ℕ → Option ℕ) (a : ℕ) (o : Option ClassLine) →
-    ((class : ClassLine) → o ≡ Some class → is_among a class.targets ≡ true → is_borne starts gate (read_of class.sort) a class.label ≡ true) →
-    holds_of o (λ (class : ClassLine). is_among a class.targets && not (is_borne starts gate (read_of class.sort) a class.label)) ≡ false
-has_gate starts gate a None stand = refl
-has_gate starts gate a (Some class) stand =
-    elim (cases_Bool (is_among a class.targets)) [
-      | inl among ↦ ap (λ b. b && not (is_borne starts gate (read_of class.sort) a class.label)) among ∙ ap not (stand class refl among)
-      | inr apart ↦ ap (λ b. b && not (is_borne starts gate (read_of class.sort) a class.label)) apart
-    ]
+pub leaves_before : (heads rest : List GraphLine) → leaves_in heads ≡ [] → leaves_in rest ≡ [] → leaves_in (heads ++ rest) ≡ []
+unfolding leaves_in
+leaves_before [] rest none later = later
+leaves_before (Leaf from to ∷ heads) rest none later = absurd (cc)
+leaves_before (Calls numbers ∷ heads) rest none later = leaves_before heads rest none later
+leaves_before (Class sort label targets ∷ heads) rest none later = leaves_before heads rest none later
+leaves_before (Site address kind label ∷ heads) rest none later = leaves_before heads rest none later
+leaves_before (Edge from to ∷ heads) rest none later = leaves_before heads rest none later
+leaves_before (Call from to ∷ heads) rest none later = leaves_before heads rest none later
 
--- classes whose targets have their gates lack none
-pub gates_stand : (heads rest : List GraphLine) (a : ℕ) (starts : ℕ → Bool) (gate : ℕ → Option ℕ) →
-    ((k : ℕ) (class : ClassLine) → option_and_then class_in (slice_get heads k) ≡ Some class → is_among a class.targets ≡ true → is_borne starts gate (read_of class.sort) a class.label ≡ true) →
-    list_any (lacks_gate starts gate a) rest ≡ false → list_any (lacks_gate starts gate a) (heads ++ rest) ≡ false
-gates_stand [] rest a starts gate stand none = none
-gates_stand (line ∷ heads) rest a starts gate stand none =
-    or_from (lacks_gate starts gate a line) (list_any (lacks_gate starts gate a) (heads ++ rest))
-    (has_gate starts gate a (class_in line) (λ class is among. stand 0 class is among))
-    (gates_stand heads rest a starts gate (λ k class is among. stand (suc k) class is among) none)
+-- where there are no leaves none lacks an end
+pub ends_stand : (p : Profile) (words : List ℕ) (a : ℕ) (lines : List GraphLine) → leaves_in lines ≡ [] → list_any (lacks_end p words a) lines ≡ false
+unfolding leaves_in
+ends_stand p words a [] none = refl
+ends_stand p words a (Leaf from to ∷ lines) none = absurd (cc)
+ends_stand p words a (Calls numbers ∷ lines) none = ends_stand p words a lines none
+ends_stand p words a (Class sort label targets ∷ lines) none = ends_stand p words a lines none
+ends_stand p words a (Site address kind label ∷ lines) none = ends_stand p words a lines none
+ends_stand p words a (Edge from to ∷ lines) none = ends_stand p words a lines none
+ends_stand p words a (Call from to ∷ lines) none = ends_stand p words a lines none
+
+module _ (version : GraphVersion) (signs : Signs) where
+  lacks_with : (at a : ℕ) (edge call : Option ℕ) (site : Option Asks) (rest : List GraphLine) →
+      list_any (lacks_gate version signs a) (with_line (line_by at edge call site) rest) ≡ list_any (lacks_gate version signs a) rest
+  lacks_with at a (Some target) call site rest = refl
+  lacks_with at a None (Some target) site rest = refl
+  lacks_with at a None None (Some asked) rest = refl
+  lacks_with at a None None None rest = refl
+
+  pub none_lacks : (us : List U.Unit) (at a : ℕ) → list_any (lacks_gate version signs a) (lines_from at us) ≡ false
+  unfolding lines_from
+  none_lacks [] at a = refl
+  none_lacks (u ∷ us) at a =
+      lacks_with at a (edge_of (body u)) (call_of (body u)) (site_of (body u)) (lines_from (at + 4 * word_count u) us) ∙ none_lacks us (at + 4 * word_count u) a
+
+  -- a line whose class's target bears the label lacks no gate
+  has_gate : (a : ℕ) (o : Option ClassLine) →
+      ((class : ClassLine) → o ≡ Some class → is_among a class.targets ≡ true → is_borne signs (read_of version class.sort) a class.label ≡ true) →
+      holds_of o (λ (class : ClassLine). is_among a class.targets && not (is_borne signs (read_of version class.sort) a class.label)) ≡ false
+  has_gate a None stand = refl
+  has_gate a (Some class) stand =
+      elim (cases_Bool (is_among a class.targets)) [
+        | inl among ↦ ap (λ b. b && not (is_borne signs (read_of version class.sort) a class.label)) among ∙ ap not (stand class refl among)
+        | inr apart ↦ ap (λ b. b && not (is_borne signs (read_of version class.sort) a class.label)) apart
+      ]
+
+  -- classes whose targets have their gates lack none
+  pub gates_stand : (heads rest : List GraphLine) (a : ℕ) →
+      ((k : ℕ) (class : ClassLine) → option_and_then class_in (slice_get heads k) ≡ Some class → is_among a class.targets ≡ true → is_borne signs (read_of version class.sort) a class.label ≡ true) →
+      list_any (lacks_gate version signs a) rest ≡ false → list_any (lacks_gate version signs a) (heads ++ rest) ≡ false
+  gates_stand [] rest a stand none = none
+  gates_stand (line ∷ heads) rest a stand none =
+      or_from (lacks_gate version signs a line) (list_any (lacks_gate version signs a) (heads ++ rest))
+      (has_gate a (class_in line) (λ class is among. stand 0 class is among))
+      (gates_stand heads rest a (λ k class is among. stand (suc k) class is among) none)

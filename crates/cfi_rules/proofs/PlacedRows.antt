@@ -20,7 +20,7 @@ use Rattle.rv_code.specs.Encode.{code_of}
 use Rattle.cfi_graph.specs.declared.line.GraphLine.{GraphLine}
 use Rattle.cfi_graph.specs.declared.line.Sort.TheVariants as sorts
 use Rattle.cfi_graph.specs.declared.line.GraphLine.TheVariants.{Class, Site, Edge, Call}
-use Rattle.cfi_graph.specs.Graph.{ClassLine, calls_in, class_in}
+use Rattle.cfi_graph.specs.Graph.{ClassLine, GraphParts, calls_in, class_in, has_leaves}
 use Rattle.cfi_graph.specs.declared.line.SiteKind.TheVariants as K
 use Rattle.cfi_unit.specs.declared.mask.Mask.TheVariants.{Shifts}
 use Rattle.cfi_unit.specs.declared.unit.Unit as U
@@ -33,9 +33,9 @@ use Rattle.cfi_unit.specs.Members.{AreMembers, IsMember}
 use Rattle.cfi_unit.specs.declared.members.Member.{Member}
 use Rattle.cfi_unit.specs.UnitWords.{after_unit, words_of}
 use Rattle.cfi_rules.specs.declared.asks.Asks.{Asks}
-use Rattle.cfi_rules.specs.Lines.{class_with, holds_of, is_among, is_beside, is_word_of, read_of, targets_for}
+use Rattle.cfi_rules.specs.Lines.{class_with, holds_of, is_among, is_beside, is_word_of, leaves_in, read_of, targets_for}
 use Rattle.cfi_rules.specs.Placed.{AllAhead, AllFit, code_from, is_head, lines_from, placed_code, placed_lines}
-use Rattle.cfi_rules.specs.Rules.{admits, gate_of, is_astray, is_borne, is_label, site_of}
+use Rattle.cfi_rules.specs.Rules.{Signs, admits, gate_of, is_astray, is_borne, is_label, site_of}
 use Rattle.cfi_rules.specs.Sound.{Bears, IsSound, StartsIn, target_of}
 use Rattle.cfi_rules.specs.Split.{unit_in}
 use Rattle.cfi_rules.proofs.RuleFacts.{gate_is, not_false}
@@ -188,33 +188,44 @@ abbrev pub is_served : List GraphLine → Option Asks → Bool
 is_served classes None = true
 is_served classes (Some asked) = is_some (targets_for classes asked.kind asked.which asked.label)
 
-abbrev pub is_right : List GraphLine → ℕ → U.Unit → Bool
-is_right classes a u = not (is_astray classes a u) && (is_served classes (site_of (body u)) && not (is_some (target_of u)))
+abbrev heads_of : GraphVersion → List GraphLine → GraphParts
+heads_of version heads = record { version = version; code = 0; lines = heads }
 
-right_parts : (classes : List GraphLine) (a : ℕ) (u : U.Unit) → is_right classes a u ≡ true →
-    (not (is_astray classes a u) ≡ true) × (is_served classes (site_of (body u)) ≡ true) × (not (is_some (target_of u)) ≡ true)
-right_parts classes a u right =
-    let parts = and_parts (not (is_astray classes a u)) (is_served classes (site_of (body u)) && not (is_some (target_of u))) right in
-    let others = and_parts (is_served classes (site_of (body u))) (not (is_some (target_of u))) parts.1 in
+abbrev pub is_right : GraphVersion → List GraphLine → ℕ → U.Unit → Bool
+is_right version heads a u = not (is_astray (heads_of version heads) a u) && (is_served heads (site_of (body u)) && not (is_some (target_of u)))
+
+right_parts : (version : GraphVersion) (heads : List GraphLine) (a : ℕ) (u : U.Unit) → is_right version heads a u ≡ true →
+    (not (is_astray (heads_of version heads) a u) ≡ true) × (is_served heads (site_of (body u)) ≡ true) × (not (is_some (target_of u)) ≡ true)
+right_parts version heads a u right =
+    let parts = and_parts (not (is_astray (heads_of version heads) a u)) (is_served heads (site_of (body u)) && not (is_some (target_of u))) right in
+    let others = and_parts (is_served heads (site_of (body u))) (not (is_some (target_of u))) parts.1 in
     (parts.0, others.0, others.1)
 
-listed : (classes : List GraphLine) (l a : ℕ) (class : ClassLine) → not (is_astray classes a (V.Gate l)) ≡ true → class_with classes l ≡ Some class →
-    is_word_of (read_of class.sort) a class.targets ≡ true
-listed classes l a class right e =
-    not_false (is_word_of (read_of class.sort) a class.targets)
-    (not_true (is_beside class a) (sym (ap (λ o. not (holds_of o (λ (c : ClassLine). is_beside c a))) e) ∙ right))
+listed : (version : GraphVersion) (heads : List GraphLine) (l a : ℕ) (class : ClassLine) → not (is_astray (heads_of version heads) a (V.Gate l)) ≡ true →
+    class_with heads l ≡ Some class → is_word_of (read_of version class.sort) a class.targets ≡ true
+listed version heads l a class right e =
+    not_false (is_word_of (read_of version class.sort) a class.targets)
+    (not_true (is_beside version class a) (sym (ap (λ o. not (holds_of o (λ (c : ClassLine). is_beside version c a))) e) ∙ right))
   where
     not_true : (b : Bool) → not b ≡ true → b ≡ false
     not_true true same = absurd (cc)
     not_true false same = refl
 
 -- each target of a class bears its label, and a unit starts there
-abbrev pub borne_in : List U.Unit → TargetWord → ℕ → ℕ → Bool
-borne_in us which a label = is_borne (λ b. is_some (unit_in us 0x40000040 b)) (λ b. option_and_then gate_of (unit_in us 0x40000040 b)) which a label
+abbrev signs_of : List U.Unit → Signs
+signs_of us = record {
+  starts = λ b. is_some (unit_in us 0x40000040 b);
+  gate = λ b. option_and_then gate_of (unit_in us 0x40000040 b);
+  fresh = λ b. false;
+  enters = λ b. false;
+}
 
-abbrev pub all_borne : List U.Unit → Option ClassLine → Bool
-all_borne us None = true
-all_borne us (Some class) = list_all (λ a. borne_in us (read_of class.sort) a class.label) class.targets
+abbrev pub borne_in : List U.Unit → TargetWord → ℕ → ℕ → Bool
+borne_in us which a label = is_borne (signs_of us) which a label
+
+abbrev pub all_borne : GraphVersion → List U.Unit → Option ClassLine → Bool
+all_borne version us None = true
+all_borne version us (Some class) = list_all (λ a. borne_in us (read_of version class.sort) a class.label) class.targets
 
 each_among : (test : ℕ → Bool) (ts : List ℕ) (a : ℕ) → list_all test ts ≡ true → is_among a ts ≡ true → test a ≡ true
 each_among test [] a all among = absurd (cc)
@@ -225,30 +236,34 @@ each_among test (t ∷ ts) a all among =
       | inr later ↦ each_among test ts a parts.1 later
     ]
 
-each_class : (us : List U.Unit) (classes : List GraphLine) (k : ℕ) (class : ClassLine) → list_all (λ line. all_borne us (class_in line)) classes ≡ true →
-    option_and_then class_in (slice_get classes k) ≡ Some class → all_borne us (Some class) ≡ true
-each_class us [] k class all e = absurd (cc)
-each_class us (line ∷ classes) zero class all e =
-    ap (all_borne us) (sym e) ∙ (and_parts (all_borne us (class_in line)) (list_all (λ other. all_borne us (class_in other)) classes) all).0
-each_class us (line ∷ classes) (suc k) class all e =
-    each_class us classes k class (and_parts (all_borne us (class_in line)) (list_all (λ other. all_borne us (class_in other)) classes) all).1 e
+each_class : (version : GraphVersion) (us : List U.Unit) (classes : List GraphLine) (k : ℕ) (class : ClassLine) → list_all (λ line. all_borne version us (class_in line)) classes ≡ true →
+    option_and_then class_in (slice_get classes k) ≡ Some class → all_borne version us (Some class) ≡ true
+each_class version us [] k class all e = absurd (cc)
+each_class version us (line ∷ classes) zero class all e =
+    ap (all_borne version us) (sym e) ∙ (and_parts (all_borne version us (class_in line)) (list_all (λ other. all_borne version us (class_in other)) classes) all).0
+each_class version us (line ∷ classes) (suc k) class all e =
+    each_class version us classes k class (and_parts (all_borne version us (class_in line)) (list_all (λ other. all_borne version us (class_in other)) classes) all).1 e
 
 bears : (us : List U.Unit) (which : TargetWord) (a label : ℕ) → borne_in us which a label ≡ true → Bears version_1 us which a label
-bears us First a label borne = gate_is (unit_in us 0x40000040 a) label borne
+bears us First a label borne =
+    gate_is (unit_in us 0x40000040 a) label (and_parts (is_label (option_and_then gate_of (unit_in us 0x40000040 a)) label) true borne).0
 bears us Second a label borne =
     let parts = and_parts (is_some (unit_in us 0x40000040 a)) (is_label (option_and_then gate_of (unit_in us 0x40000040 (a + 4))) label) borne in
     (parts.0, gate_is (unit_in us 0x40000040 (a + 4)) label parts.1)
 bears us Third a label borne =
-    let parts = and_parts (is_some (unit_in us 0x40000040 a)) (is_label (option_and_then gate_of (unit_in us 0x40000040 (a + 8))) label) borne in
-    (parts.0, gate_is (unit_in us 0x40000040 (a + 8)) label parts.1)
+    absurd (false≢true (and_parts (is_label (option_and_then gate_of (unit_in us 0x40000040 (a + 8))) label) false borne).1)
 
 -- so units of which these tests hold are sound
-pub sound_by : (version : GraphVersion) (us : List U.Unit) (heads : List GraphLine) → AllFit 0x40000040 us → AllAhead 0x40000040 us → StartsIn version_1 us 0x40000040 →
-    all_from (λ a. admits version (calls_in heads)) 0x40000040 us ≡ true → all_from (is_right heads) 0x40000040 us ≡ true → list_all is_head heads ≡ true →
-    list_all (λ line. all_borne us (class_in line)) heads ≡ true → last_or None us ≡ Some V.Stop → IsSound version_1 version 0x40000040 us heads
-sound_by version us heads fit ahead begun admitted right are_heads borne ends =
-    let right_there = λ (a : ℕ) (u : U.Unit) (here : unit_in us 0x40000040 a ≡ Some u). right_parts heads a u (each_in (is_right heads) us 0x40000040 a u right here) in
+pub sound_by : (version : GraphVersion) (us : List U.Unit) (heads : List GraphLine) → has_leaves version ≡ false → leaves_in heads ≡ [] →
+    AllFit 0x40000040 us → AllAhead 0x40000040 us → StartsIn version_1 us 0x40000040 →
+    all_from (λ a. admits version (calls_in heads)) 0x40000040 us ≡ true → all_from (is_right version heads) 0x40000040 us ≡ true → list_all is_head heads ≡ true →
+    list_all (λ line. all_borne version us (class_in line)) heads ≡ true → last_or None us ≡ Some V.Stop → IsSound version_1 version 0x40000040 us heads
+sound_by version us heads full none fit ahead begun admitted right are_heads borne ends =
+    let right_there = λ (a : ℕ) (u : U.Unit) (here : unit_in us 0x40000040 a ≡ Some u). right_parts version heads a u (each_in (is_right version heads) us 0x40000040 a u right here) in
     record {
+      full = inl refl;
+      version_full = full;
+      no_leaves = none;
       fit = fit;
       ahead = ahead;
       admitted = λ a u here. each_in (λ b. admits version (calls_in heads)) us 0x40000040 a u admitted here;
@@ -257,12 +272,12 @@ sound_by version us heads fit ahead begun admitted right are_heads borne ends =
       targets = λ a t u here leads. absurd (false≢true (ap (λ o. not (is_some o)) (sym leads) ∙ (right_there a u here).2));
       heads_are = are_heads;
       labels = λ a u asked here is. ap (is_served heads) (sym is) ∙ (right_there a u here).1;
-      gates = λ k a class is among. bears us (read_of class.sort) a class.label
-          (each_among (λ b. borne_in us (read_of class.sort) b class.label) class.targets a (each_class us heads k class borne is) among);
-      astray = λ l a class here is. listed heads l a class (right_there a (V.Gate l) here).0 is;
+      gates = λ k a class is among. bears us (read_of version class.sort) a class.label
+          (each_among (λ b. borne_in us (read_of version class.sort) b class.label) class.targets a (each_class version us heads k class borne is) among);
+      astray = λ l a class here is. listed version heads l a class (right_there a (V.Gate l) here).0 is;
       ends = ends;
     }
 
 p_sound : IsSound version_1 OneLabel 0x40000040 p_units p_classes
-unfolding all_from class_with targets_for unit_in
-p_sound = sound_by OneLabel p_units p_classes p_fit p_ahead refl refl refl refl refl refl
+unfolding all_from class_with targets_for unit_in leaves_in
+p_sound = sound_by OneLabel p_units p_classes refl refl p_fit p_ahead refl refl refl refl refl refl

@@ -5,7 +5,7 @@ use Rattle.std.proofs.lemmas.Bool.{cases_eq, eqb-true, eq-eqb, ne_eqb, ltb-false
 use Rattle.std.proofs.lemmas.List.Elements.{All-drop}
 use Rattle.rv_word.specs.Image.{Contents}
 use Rattle.rv_word.specs.MemoryMap.{CODE_START, IsProfile, Profile}
-use Rattle.rv_word.proofs.Versions.{LaidOut, laid_out}
+use Rattle.rv_word.proofs.Profiles.{LaidOut, laid_out}
 use Rattle.rv_word.proofs.Cases.{cases_Option, chosen}
 use Rattle.cfi_graph.specs.Graph.{GraphParts}
 use Rattle.cfi_unit.specs.declared.unit.Unit as U
@@ -17,7 +17,7 @@ use Rattle.cfi_unit.specs.UnitWords.{BAD_TARGET, BAD_RETURN, DEEP}
 use Rattle.cfi_unit.specs.Recognise.{recognised}
 use Rattle.cfi_rules.specs.Split.{code_words, unit_words, unit_starts, is_start, unit_at, entry_of, is_handler, place_at}
 use Rattle.cfi_rules.specs.Lines.{holds_of}
-use Rattle.cfi_rules.specs.Rules.{IsWellFormed, admitted_in}
+use Rattle.cfi_rules.specs.Rules.{IsWellFormed, may_stand_at}
 use Rattle.cfi_rules.specs.declared.reject.Rule.TheVariants as R
 use Rattle.cfi_rules.specs.Laws.{AreBytes}
 use Rattle.cfi_rules.proofs.Bytes.{are_words}
@@ -43,7 +43,7 @@ module _ (p : Profile) (profile : IsProfile p) (image : Contents) (graph : Graph
       let marks = length (unit_starts p the_words) in
       let rule : (p.units_from + 4 * marks == p.units_from + 4 * marks) && nat_lt marks (length (unit_words p the_words)) ≡ false =
       (or_parts ((p.units_from + 4 * marks == p.units_from + 4 * marks) && nat_lt marks (length (unit_words p the_words)))
-      (holds_of (unit_at p the_words (p.units_from + 4 * marks)) (λ (u : U.Unit). not (admitted_in graph u))) (formed.rules R.Unit (p.units_from + 4 * marks))).0 in
+      (holds_of (unit_at p the_words (p.units_from + 4 * marks)) (λ (u : U.Unit). not (may_stand_at graph (p.units_from + 4 * marks) u))) (formed.rules R.Unit (p.units_from + 4 * marks))).0 in
       let enough : length (unit_words p the_words) ≤ marks =
       ltb-false marks (length (unit_words p the_words)) (rw (eq-eqb (p.units_from + 4 * marks) (p.units_from + 4 * marks) refl) at rule) in
       let most : marks ≤ length (unit_words p the_words) = marks_room (length (unit_words p the_words)) (unit_words p the_words) p.units_from (omega arith) (All-drop (λ x. x < 2 ^ 32) ((p.units_from - CODE_START) / 4) the_words words) in

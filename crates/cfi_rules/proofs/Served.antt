@@ -2,6 +2,7 @@
 use Rattle.std.proofs.Common.{◌≡◌, ℕ, true, inl, inr, List, refl, sym, ap, ◌∙◌, Option, Some, None}
 use Rattle.std.specs.Prelude.{is_some, option_and_then}
 use Rattle.std.proofs.lemmas.Option.{none-some, same_Some}
+use Rattle.rv_word.specs.declared.version.GraphVersion.{GraphVersion}
 use Rattle.rv_word.proofs.Cases.{cases_Option, guarded}
 use Rattle.cfi_graph.specs.declared.line.GraphLine.{GraphLine}
 use Rattle.cfi_graph.specs.declared.line.SiteKind.{SiteKind}
@@ -11,7 +12,7 @@ use Rattle.cfi_graph.specs.declared.line.Sort.TheVariants.{Both, Calls, Jumps}
 use Rattle.cfi_graph.specs.Graph.{ClassLine}
 use Rattle.cfi_unit.specs.declared.target_word.TargetWord.{TargetWord}
 use Rattle.cfi_unit.specs.declared.target_word.TargetWord.TheVariants.{First, Second, Third}
-use Rattle.cfi_rules.specs.Lines.{class_with, if_serves, read_of, serves, targets_for}
+use Rattle.cfi_rules.specs.Lines.{call_word, class_with, if_serves, jump_word, read_of, serves, targets_for}
 
 -- the class that gives a transfer its targets
 pub record Served (lines : List GraphLine) (kind : SiteKind) (which : TargetWord) (l : ℕ) (ts : List ℕ) : Type 0 where
@@ -38,16 +39,18 @@ some_class lines kind which l e = by (class_with lines l) e
     by None some = some
     by (Some class) some = refl
 
+-- which word of its destination the check of a computed transfer of this kind reads, in code whose graph has this version
+abbrev pub read_by : GraphVersion → SiteKind → TargetWord
+read_by version K.Call = call_word version
+read_by version K.Jump = jump_word version
+
 -- the check of a transfer that a class serves reads the word that bears the class's label
-pub reads_it : (sort : Sort) (kind : SiteKind) (which : TargetWord) → serves sort kind which ≡ true → read_of sort ≡ which
-reads_it Both kind First e = refl
-reads_it Both kind Second e = absurd (cc)
-reads_it Both kind Third e = absurd (cc)
-reads_it Calls K.Call First e = refl
-reads_it Calls K.Call Second e = absurd (cc)
-reads_it Calls K.Call Third e = absurd (cc)
-reads_it Calls K.Jump which e = absurd (cc)
-reads_it Jumps K.Jump Second e = refl
-reads_it Jumps K.Jump First e = absurd (cc)
-reads_it Jumps K.Jump Third e = absurd (cc)
-reads_it Jumps K.Call which e = absurd (cc)
+pub reads_it : (version : GraphVersion) (sort : Sort) (kind : SiteKind) (which : TargetWord) → which ≡ read_by version kind → serves sort kind which ≡ true →
+    read_of version sort ≡ which
+reads_it version Both kind First read e = refl
+reads_it version Both kind Second read e = absurd (cc)
+reads_it version Both kind Third read e = absurd (cc)
+reads_it version Calls K.Call which read e = sym read
+reads_it version Calls K.Jump which read e = absurd (cc)
+reads_it version Jumps K.Jump which read e = sym read
+reads_it version Jumps K.Call which read e = absurd (cc)

@@ -5,7 +5,7 @@ use Rattle.std.proofs.lemmas.List.{length-map}
 use Rattle.std.proofs.lemmas.Option.{slice_get-map}
 use Rattle.rv_word.specs.Image.{Contents}
 use Rattle.rv_word.specs.MemoryMap.{CODE_START, Profile}
-use Rattle.rv_word.proofs.Versions.{LaidOut}
+use Rattle.rv_word.proofs.Profiles.{LaidOut}
 use Rattle.rv_word.specs.Memory.{read, loaded}
 use Rattle.rv_instr.specs.InRange.{IsInstr}
 use Rattle.rv_instr.specs.declared.instr.Instr.{Instr}

@@ -40,8 +40,10 @@ length-code_from u us at =
 
 -- the prologue reaches to the first unit
 pub prologue_counted : (p : Profile) → IsProfile p → (entry : ℕ) → CODE_START + 4 * length (map code_of (prologue_instrs p entry)) ≡ p.units_from
-prologue_counted p (inl e) entry = subst (λ (q : Profile). CODE_START + 4 * length (map code_of (prologue_instrs q entry)) ≡ q.units_from) (sym e) refl
-prologue_counted p (inr e) entry = subst (λ (q : Profile). CODE_START + 4 * length (map code_of (prologue_instrs q entry)) ≡ q.units_from) (sym e) refl
+prologue_counted p (inl (inl e)) entry = subst (λ (q : Profile). CODE_START + 4 * length (map code_of (prologue_instrs q entry)) ≡ q.units_from) (sym e) refl
+prologue_counted p (inl (inr e)) entry = subst (λ (q : Profile). CODE_START + 4 * length (map code_of (prologue_instrs q entry)) ≡ q.units_from) (sym e) refl
+prologue_counted p (inr (inl e)) entry = subst (λ (q : Profile). CODE_START + 4 * length (map code_of (prologue_instrs q entry)) ≡ q.units_from) (sym e) refl
+prologue_counted p (inr (inr e)) entry = subst (λ (q : Profile). CODE_START + 4 * length (map code_of (prologue_instrs q entry)) ≡ q.units_from) (sym e) refl
 
 both_counted : (front back : List ℕ) (from : ℕ) → CODE_START + 4 * length front ≡ from → CODE_START + 4 * length (front ++ back) ≡ from + 4 * length back
 both_counted front back from e = let whole = length-append front back in omega (arith, e, whole)

@@ -8,7 +8,7 @@ use Rattle.rv_word.specs.Image.{Contents}
 use Rattle.rv_word.specs.MemoryMap.{MayRun, Profile, version_1, version_2}
 use Rattle.rv_word.specs.Memory.{loaded, placed, write}
 use Rattle.rv_word.specs.Numbers.{is_listed}
-use Rattle.rv_word.proofs.Versions.{laid_out}
+use Rattle.rv_word.proofs.Profiles.{laid_out}
 use Rattle.rv_code.specs.Decode.{decoded}
 use Rattle.rv_code.specs.Encode.{code_of}
 use Rattle.rv_code.specs.Run.{ByteChange, disturbed_step}
@@ -94,7 +94,7 @@ listed_there p image harts hart k may below run listed =
     (later p (63 ∷ []) k (start_hart hart) start ([] ∷ []) run (listed_alone p (63 ∷ []) hart (calm k ++ ([] ∷ [])) start_hart start along)).0
 
 one : MayRun version_1 1
-one = one_may_run version_1 (laid_out version_1 (inl refl))
+one = one_may_run version_1 (laid_out version_1 (inl (inl refl)))
 
 call_unlisted : IsListed version_1 bare_call (63 ∷ []) → ⊥
 unfolding loaded placed decoded code_of step write last_exit after_calm is_ran all_run first_number

@@ -1,11 +1,11 @@
 -- The small pairs with a fault are not safe: their undisturbed runs leave what stands where the walk is,
 -- or stop where they may not.
-use Rattle.std.proofs.Common.{◌≡◌, ℕ, zero, suc, ◌+◌, ◌≤◌, true, inl, List, [], ◌∷◌, refl, ap, subst, Some, arith, lit≤}
+use Rattle.std.proofs.Common.{◌≡◌, ℕ, zero, suc, ◌+◌, ◌≤◌, inl, List, [], ◌∷◌, refl, ap, subst, Some, arith, lit≤}
 use Rattle.std.specs.Prelude.{slice_get}
 use Rattle.std.specs.List.{AllByRecursion}
 use Rattle.rv_word.specs.Image.{Contents}
 use Rattle.rv_word.specs.MemoryMap.{version_1}
-use Rattle.rv_word.proofs.Versions.{laid_out}
+use Rattle.rv_word.proofs.Profiles.{laid_out}
 use Rattle.rv_word.specs.Memory.{loaded, placed, write}
 use Rattle.rv_code.specs.Decode.{decoded}
 use Rattle.rv_code.specs.Encode.{code_of}
@@ -23,9 +23,7 @@ use Rattle.cfi_unit.specs.UnitWords.{words_of}
 use Rattle.cfi_rules.specs.Along.{IsSafe, MayEnd}
 use Rattle.cfi_rules.specs.Split.{code_words, starts, is_start, unit_at, place_at}
 use Rattle.cfi_rules.specs.Trails.{Begin, trail_alone, trail_of, IsInPlace}
-use Rattle.cfi_unit.specs.Templates.{is_full}
-use Rattle.cfi_rules.proofs.Reading.{safe_full}
-use Rattle.cfi_rules.specs.Unsafe.{middle, middle_graph, bare_return, bare_return_graph, bare_store, bare_store_graph, moved_pointer, moved_pointer_graph, exiting_handler, loading_handler, storing_handler, illegal_handler, handler_graph, breaking_closing, breaking_closing_graph, MiddleIsUnsafe, BareReturnIsUnsafe, BareStoreIsUnsafe, MovedPointerIsUnsafe, WrongStopsAreUnsafe}
+use Rattle.cfi_rules.specs.Unsafe.{middle, middle_graph, bare_store, bare_store_graph, moved_pointer, moved_pointer_graph, exiting_handler, loading_handler, storing_handler, illegal_handler, handler_graph, breaking_closing, breaking_closing_graph, MiddleIsUnsafe, BareStoreIsUnsafe, MovedPointerIsUnsafe, WrongStopsAreUnsafe}
 use Rattle.cfi_rules.proofs.OneHart.{AreDataChanges, safe_stays_alone}
 
 pub calm_is_data : (n : ℕ) → AreDataChanges (calm n)
@@ -44,7 +42,7 @@ calm_trail image n = trail_alone version_1 (code_words image.code) 0 (start_hart
 begins_in_place : (image : Contents) (graph : GraphParts) (n k : ℕ) (b : Begin) →
     slice_get (calm_trail image n) k ≡ Some b → IsSafe version_1 image graph → IsInPlace version_1 (code_words image.code) b
 begins_in_place image graph n k b here safe =
-    each (IsInPlace version_1 (code_words image.code)) (calm_trail image n) k b (safe_stays_alone version_1 (laid_out version_1 (inl refl)) image graph [] (calm n) safe (calm_is_data n)) here
+    each (IsInPlace version_1 (code_words image.code)) (calm_trail image n) k b (safe_stays_alone version_1 (laid_out version_1 (inl (inl refl))) image graph [] (calm n) safe (calm_is_data n)) here
 
 -- an instruction past what stands at the newest address of the walk refutes safety
 refuted : (image : Contents) (graph : GraphParts) (n k : ℕ) (b : Begin) (place : Place) →
@@ -71,13 +69,6 @@ pub middle_unsafe : MiddleIsUnsafe
 unfolding loaded placed decoded code_of step write last_exit code_words read_each recognised words_of starts is_start unit_at place_at trail_of
 middle_unsafe =
     refuted middle middle_graph 12 11 (record { newest = 0x40000040; pc = 0x40000048; turn = Ran }) (body (V.Jump 0x40000048)) refl refl (lit≤ tt)
-
--- a bare return is a unit of code whose callees save sites alone
-pub bare_return_unsafe : BareReturnIsUnsafe
-unfolding code_of decoded code_words read_each recognised words_of starts is_start unit_at place_at
-bare_return_unsafe safe =
-    let full : is_full V.LeafReturn ≡ true = safe_full version_1 bare_return bare_return_graph safe 0x40000040 V.LeafReturn refl in
-    absurd (cc)
 
 pub bare_store_unsafe : BareStoreIsUnsafe
 unfolding loaded placed decoded code_of step write last_exit code_words read_each recognised words_of starts is_start unit_at place_at trail_of

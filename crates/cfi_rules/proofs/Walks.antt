@@ -1,5 +1,5 @@
 -- The walk of each hart in a run along a graph is a list of steps of the graph walk.
-use Rattle.std.proofs.Common.{◌≡◌, ℕ, true, inl, inr, List, [], ◌∷◌, refl, sym, ap, subst, ◌∙◌, Option, Some, None}
+use Rattle.std.proofs.Common.{◌≡◌, ℕ, inl, inr, List, [], ◌∷◌, refl, sym, ap, subst, ◌∙◌, Option, Some, None}
 use Rattle.std.proofs.lemmas.Bool.{cases_eq, eq-eqb, ne_eqb}
 use Rattle.rv_word.specs.Image.{Contents}
 use Rattle.rv_word.specs.MemoryMap.{Profile}
@@ -11,29 +11,18 @@ use Rattle.rv_code.specs.declared.turn.Turn.{Turn}
 use Rattle.rv_code.specs.declared.turn.Turn.TheVariants.{Ran, Exit, Break, LoadFault, StoreFault, FetchFault, Illegal}
 use Rattle.cfi_graph.specs.declared.line.GraphLine.{GraphLine}
 use Rattle.cfi_unit.specs.Context.{IsCodeOf}
-use Rattle.cfi_unit.specs.declared.place.Place.{Place}
-use Rattle.cfi_unit.specs.declared.place.Place.TheVariants.{Handler as handler, Opening as opening, Closing as closing, Body as body}
-use Rattle.cfi_unit.specs.declared.unit.Unit as U
 use Rattle.cfi_unit.specs.Prologue.{OPENING}
-use Rattle.cfi_unit.specs.Templates.{is_full}
 use Rattle.cfi_rules.specs.Along.{Walk, Walks, Arrives, OnRan, RunsAlong, with_walk}
 use Rattle.cfi_rules.specs.Laws.{SafeWalksGraph}
 use Rattle.cfi_rules.specs.Split.{code_words, place_at}
 use Rattle.cfi_rules.specs.Walks.{WalkState, walk_of, AreSteps, IsGraphWalk}
-use Rattle.cfi_rules.proofs.Leading.{IsFullPlace, leads_goes}
-use Rattle.cfi_rules.proofs.Reading.{safe_as_recognised, safe_full}
+use Rattle.cfi_rules.proofs.Leading.{leads_goes}
+use Rattle.cfi_rules.proofs.Reading.{safe_as_recognised}
 
 abbrev state : ℕ → List ℕ → WalkState
 state at pending = record { at = at; pending = pending }
 
-module _ (p : Profile) (image : Contents) (words : List ℕ) (lines : List GraphLine)
-    (full : (a : ℕ) (u : U.Unit) → place_at p words a ≡ Some (body u) → is_full u ≡ true) where
-  full_place : (place : Place) (a : ℕ) → place_at p words a ≡ Some place → IsFullPlace place
-  full_place handler a is = tt
-  full_place (opening entry) a is = tt
-  full_place closing a is = tt
-  full_place (body unit) a is = full a unit is
-
+module _ (p : Profile) (image : Contents) (words : List ℕ) (lines : List GraphLine) where
   abbrev Runs : Walks → Harts → Shared → List HartStep → Type 0
   Runs walks harts s steps = RunsAlong p image (place_at p words) lines walks harts s steps
 
@@ -92,7 +81,7 @@ module _ (p : Profile) (image : Contents) (words : List ℕ) (lines : List Graph
                   subst (λ (b : Option Walk). Arrives p (place_at p words) lines b h.pc r.0.pending) before goes.2 in
                   rw (eq-eqb t.hart k same, some) (
                     state h.pc r.0.pending,
-                    (arrives.0, arrives.1, refl, leads_goes lines p arrives.0 w.at w.pending w.regs r.0.pending h.pc (full_place arrives.0 w.at arrives.1) arrives.2),
+                    (arrives.0, arrives.1, refl, leads_goes lines p arrives.0 w.at w.pending w.regs r.0.pending h.pc arrives.2),
                     subst (λ (a : ℕ). AreSteps p words lines (state a r.0.pending) (if_ran after.turn later)) goes.0 more,
                   )
             ]
@@ -135,4 +124,4 @@ module _ (p : Profile) (image : Contents) (words : List ℕ) (lines : List Graph
 
 pub safe_walks : SafeWalksGraph
 safe_walks p image graph count harts s steps k safe may start low =
-    first_steps p image (code_words image.code) graph.lines (safe_full p image graph safe) k steps (λ j. None) harts s refl (safe_as_recognised p image graph safe count may harts s start steps low)
+    first_steps p image (code_words image.code) graph.lines k steps (λ j. None) harts s refl (safe_as_recognised p image graph safe count may harts s start steps low)

@@ -1,6 +1,6 @@
 -- A run along a graph, and safety. The walk of a hart is the list of the pcs of its begun instructions
 -- at which something starts: the opening, the closing, a handler or a unit.
-use Rattle.std.specs.Prelude.{◌≡◌, ℕ, ◌<◌, ◌==◌, List, [], ◌∷◌, length, Option, Some, None, if◌then◌else◌}
+use Rattle.std.specs.Prelude.{◌≡◌, ℕ, Bool, true, false, ◌<◌, ◌==◌, List, [], ◌∷◌, length, Option, Some, None, if◌then◌else◌}
 use Rattle.std.specs.List.{AllByRecursion}
 use Rattle.rv_word.specs.MemoryMap.{START, MayRun, Profile, part_of}
 use Rattle.rv_word.specs.Image.{Contents}
@@ -23,8 +23,13 @@ use Rattle.cfi_unit.specs.Context.{IsCodeOf, SameOutside}
 use Rattle.cfi_unit.specs.EventLaw.{Adds}
 use Rattle.cfi_unit.specs.Flow as F
 use Rattle.cfi_unit.specs.Flow.{Act, flow_of}
-use Rattle.cfi_unit.specs.Leads.{Leads}
+use Rattle.cfi_unit.specs.Leads.{Calls, Legal}
 use Rattle.cfi_unit.specs.Shadow.{slot, Holds}
+use Rattle.cfi_unit.specs.UnitWords.{STORE_MASK, after_unit}
+use Rattle.cfi_pending.specs.Kinds.{start_at}
+use Rattle.cfi_pending.specs.PendingLeads.{Links, PendingLeads}
+use Rattle.cfi_pending.specs.Starts.{Start, StandsBy, saved}
+use Rattle.cfi_rules.specs.Lines.{leaves_in}
 use Rattle.cfi_rules.specs.Reading.{AreUnitsOf, place_in}
 use Rattle.cfi_rules.specs.Split.{code_words}
 use Rattle.cfi_rules.specs.Walk.{by_class}
@@ -35,20 +40,57 @@ pub record Walk : Type 0 where
   pub pending : List ℕ
   pub regs : Registers
 
--- the shadow stack, where a unit or the closing starts: x3 points past the newest slot, and each slot
--- holds its site; where a unit starts a site is pending
-abbrev pub ShadowStands : ℕ → Place → ℕ → Hart → Memory → List ℕ → Type 0
-ShadowStands part handler at h m pending = Unit {0}
-ShadowStands part (opening entry) at h m pending = Unit {0}
-ShadowStands part closing at h m pending = (h.regs 3 ≡ slot part (length pending)) × Holds part m pending
-ShadowStands part (body unit) at h m pending = (h.regs 3 ≡ slot part (length pending)) × Holds part m pending × (0 < length pending)
+-- where callees save sites, x4 holds the mask of stores
+abbrev pub MaskStands : Bool → Registers → Type 0
+MaskStands false r = Unit {0}
+MaskStands true r = r 4 ≡ STORE_MASK
+
+-- the shadow stack: of the pending sites it holds those that stand there at a start of this kind, each in its slot, and x3 points past
+-- the newest of them; at a fresh start x1 holds the newest pending site
+pub record StackStands (part : ℕ) (start : Start) (h : Hart) (m : Memory) (pending : List ℕ) : Type 0 where
+  pub stacked : List ℕ
+  pub stands : StandsBy start h.regs pending stacked
+  pub pointer : h.regs 3 ≡ slot part (length stacked)
+  pub holds : Holds part m stacked
+
+-- where callers save sites each start is saved
+abbrev pub start_under : Bool → Start → Start
+start_under false start = saved
+start_under true start = start
+
+-- so it stands where a unit or the closing starts; where a unit starts a site is pending
+abbrev pub ShadowStands : Profile → ℕ → Start → Place → Hart → Memory → List ℕ → Type 0
+ShadowStands p part start handler h m pending = Unit {0}
+ShadowStands p part start (opening entry) h m pending = Unit {0}
+ShadowStands p part start closing h m pending = StackStands part saved h m pending × MaskStands p.callee_saves h.regs
+ShadowStands p part start (body unit) h m pending =
+    StackStands part (start_under p.callee_saves start) h m pending × MaskStands p.callee_saves h.regs × (0 < length pending)
+
+-- where what stands at an address leads, with all pending sites: handlers and the closing end the run, the opening calls the entry
+abbrev pub OpeningLeads : Bool → ℕ → ℕ → List ℕ → List ℕ → ℕ → Type 0
+OpeningLeads false site entry pending after next = Calls site pending after next entry
+OpeningLeads true site entry pending after next = Links site pending after next entry
+
+abbrev pub PlaceLeads : Profile → Legal → Place → ℕ → List ℕ → Registers → List ℕ → ℕ → Type 0
+PlaceLeads p legal handler at pending r after next = ⊥
+PlaceLeads p legal (opening entry) at pending r after next = OpeningLeads p.callee_saves p.closing entry pending after next
+PlaceLeads p legal closing at pending r after next = ⊥
+PlaceLeads p legal (body unit) at pending r after next = PendingLeads legal unit (after_unit unit at) pending r after next
 
 -- the walk arrives where something starts: where the place before leads, with the class's targets for computed
 -- destinations, or at the opening with nothing pending
 abbrev pub Arrives : Profile → (ℕ → Option Place) → List GraphLine → Option Walk → ℕ → List ℕ → Type 0
 Arrives p places lines None v pending = (v ≡ OPENING) × (pending ≡ [])
 Arrives p places lines (Some w) v pending =
-    (place : Place) × (places w.at ≡ Some place) × Leads p (by_class lines) place w.at w.pending w.regs pending v
+    (place : Place) × (places w.at ≡ Some place) × PlaceLeads p (by_class lines) place w.at w.pending w.regs pending v
+
+-- the kind of the start at an address, by what stands there and the leaves
+abbrev pub unit_of : Option Place → Option U.Unit
+unit_of (Some (body unit)) = Some unit
+unit_of other = None
+
+abbrev pub start_in : (ℕ → Option Place) → List GraphLine → ℕ → Start
+start_in places lines a = start_at (λ b. unit_of (places b)) (leaves_in lines) a
 
 -- before a step at a pc: where something starts there the walk goes on to it, else it stays
 abbrev pub GoesOn : Profile → ℕ → (ℕ → Option Place) → List GraphLine → Option Walk → Option Place → Hart → Memory → Walk → Type 0
@@ -56,7 +98,7 @@ GoesOn p part places lines before None h m w = before ≡ Some w
 GoesOn p part places lines before (Some place) h m w =
     (w.at ≡ h.pc) × (w.regs ≡ h.regs)
     × Arrives p places lines before h.pc w.pending
-    × ShadowStands part place h.pc h m w.pending
+    × ShadowStands p part (start_in places lines h.pc) place h m w.pending
 
 -- the stops that may come at each place: an exit only at the closing and at an `ecall`, guarded or not, a
 -- break only at a handler and at an `ebreak`, a fault only at a plain instruction, and no other stop

@@ -1,7 +1,9 @@
 -- What a graph says of an address and of a label.
 use Rattle.std.specs.Prelude.{ℕ, ◌-◌, ◌==◌, ◌&&◌, ◌||◌, nat_le, not, Bool, true, false, List, [], ◌∷◌, Option, Some, None, option_and_then, find, if◌then◌else◌}
+use Rattle.rv_word.specs.declared.version.GraphVersion.{GraphVersion}
+use Rattle.rv_word.specs.declared.version.GraphVersion.TheVariants.{OneLabel, TwoLabels, CalleeSaves}
 use Rattle.cfi_graph.specs.declared.line.GraphLine.{GraphLine}
-use Rattle.cfi_graph.specs.declared.line.GraphLine.TheVariants.{Site, Edge, Call}
+use Rattle.cfi_graph.specs.declared.line.GraphLine.TheVariants.{Leaf, Site, Edge, Call}
 use Rattle.cfi_graph.specs.declared.line.SiteKind.{SiteKind}
 use Rattle.cfi_graph.specs.declared.line.SiteKind.TheVariants as K
 use Rattle.cfi_graph.specs.declared.line.Sort.{Sort}
@@ -11,6 +13,7 @@ use Rattle.cfi_graph.specs.declared.line.Key.TheVariants.{Head, Range, Label, Ad
 use Rattle.cfi_graph.specs.Graph.{ClassLine, class_in, key_of}
 use Rattle.cfi_unit.specs.declared.target_word.TargetWord.{TargetWord}
 use Rattle.cfi_unit.specs.declared.target_word.TargetWord.TheVariants.{First, Second, Third}
+use Rattle.cfi_pending.specs.Kinds as kinds
 
 -- a test of a value that is there
 abbrev pub holds_of : {A : Type 0} → Option A → (A → Bool) → Bool
@@ -43,16 +46,29 @@ abbrev pub is_among : ℕ → List ℕ → Bool
 is_among a [] = false
 is_among a (x ∷ xs) = (x == a) || is_among a xs
 
--- which word of each of its targets bears a class's label
-abbrev pub read_of : Sort → TargetWord
-read_of Both = First
-read_of Calls = First
-read_of Jumps = Second
+-- which word of its destination the check of a computed call reads, and of a computed jump, in code whose graph has
+-- this version: so that word of each of its targets bears a class's label
+abbrev pub call_word : GraphVersion → TargetWord
+call_word OneLabel = First
+call_word TwoLabels = First
+call_word CalleeSaves = Third
+
+abbrev pub jump_word : GraphVersion → TargetWord
+jump_word OneLabel = First
+jump_word TwoLabels = Second
+jump_word CalleeSaves = First
+
+abbrev pub read_of : GraphVersion → Sort → TargetWord
+read_of version Both = First
+read_of version Calls = call_word version
+read_of version Jumps = jump_word version
 
 -- a class serves computed transfers of this kind whose checks read this word
 abbrev pub serves : Sort → SiteKind → TargetWord → Bool
 serves Both kind First = true
 serves Calls K.Call First = true
+serves Calls K.Call Third = true
+serves Jumps K.Jump First = true
 serves Jumps K.Jump Second = true
 serves sort kind which = false
 
@@ -70,8 +86,8 @@ is_word_of Second a targets = nat_le 4 a && is_among (a - 4) targets
 is_word_of Third a targets = nat_le 8 a && is_among (a - 8) targets
 
 -- at an address stands no word of a target that is to bear the class's label
-abbrev pub is_beside : ClassLine → ℕ → Bool
-is_beside class a = not (is_word_of (read_of class.sort) a class.targets)
+abbrev pub is_beside : GraphVersion → ClassLine → ℕ → Bool
+is_beside version class a = not (is_word_of (read_of version class.sort) a class.targets)
 
 -- two keys are the same
 abbrev pub same_key : Key → Key → Bool
@@ -91,5 +107,11 @@ unfoldable pub line_with : List GraphLine → Key → Option GraphLine
 line_with lines key = find (λ line. same_key (key_of line) key) lines
 
 -- a label is a class's, and at an address stands no word of its targets that is to bear it
-abbrev pub is_outside : List GraphLine → ℕ → ℕ → Bool
-is_outside lines label a = holds_of (class_with lines label) (λ class. is_beside class a)
+abbrev pub is_outside : GraphVersion → List GraphLine → ℕ → ℕ → Bool
+is_outside version lines label a = holds_of (class_with lines label) (λ class. is_beside version class a)
+
+-- the functions that call nothing, of which a graph tells
+unfoldable pub leaves_in : List GraphLine → List kinds.Leaf
+leaves_in [] = []
+leaves_in (Leaf from to ∷ lines) = record { from = from; to = to } ∷ leaves_in lines
+leaves_in (other ∷ lines) = leaves_in lines

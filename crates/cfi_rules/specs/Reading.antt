@@ -3,18 +3,17 @@
 use Rattle.std.specs.Prelude.{◌≡◌, ◌≢◌, ℕ, ◌+◌, ◌*◌, ◌%◌, ◌≤◌, IsTrue, List, [], ◌∷◌, length, map, take, drop, Option, Some}
 use Rattle.rv_word.specs.MemoryMap.{CODE_START, Profile}
 use Rattle.rv_code.specs.Decode.{decoded}
-use Rattle.cfi_unit.specs.declared.mask.Mask.TheVariants.{Shifts}
 use Rattle.cfi_unit.specs.declared.place.Place.{Place}
 use Rattle.cfi_unit.specs.declared.unit.Unit as U
 use Rattle.cfi_unit.specs.declared.unit.Unit.TheVariants as V
 use Rattle.cfi_unit.specs.Guarded.{AreNumbers}
 use Rattle.cfi_unit.specs.Laws.{AreWords}
 use Rattle.cfi_unit.specs.Members.{AreMembers}
-use Rattle.cfi_unit.specs.UnitWords.{BAD_TARGET, BAD_RETURN, DEEP, IsNear, Reaches, after_unit, instrs_of, is_plain, may_precede, word_count}
+use Rattle.cfi_unit.specs.UnitWords.{BAD_TARGET, BAD_RETURN, DEEP, IsNear, MaskFits, Reaches, after_unit, instrs_of, is_plain, may_precede, word_count}
 use Rattle.cfi_rules.specs.Split.{place_by, unit_in, unit_words}
 
 -- what a unit's instructions do not tell: that its jumps lead to their targets, that its one instruction may stand
--- alone, how many numbers and stores there may be. Units whose callees save sites stand in no code that is read
+-- alone, how many numbers and stores there may be
 abbrev pub IsProper : U.Unit → ℕ → Type 0
 IsProper (V.Plain instr) at = IsTrue (is_plain instr)
 IsProper (V.Branch op rs1 rs2 target) at = Reaches (at + 4) target
@@ -22,17 +21,15 @@ IsProper (V.Near op rs1 rs2 target) at = IsNear at target
 IsProper (V.Jump target) at = (target ≢ BAD_TARGET) × Reaches at target
 IsProper V.Stop at = Reaches at BAD_TARGET
 IsProper (V.Guarded numbers) at = AreNumbers numbers × Reaches (at + 8 * length numbers) BAD_TARGET
-IsProper (V.Stores Shifts rs1 imm members) at = AreMembers members
-IsProper (V.Stores mask rs1 imm members) at = ⊥
+IsProper (V.Stores mask rs1 imm members) at = AreMembers members × MaskFits mask imm
 IsProper (V.Call target) at = Reaches (at + 8) DEEP × Reaches (at + 28) target
 IsProper (V.Ijump which rs1 imm label) at = Reaches (at + 24) BAD_TARGET × Reaches (at + 44) BAD_TARGET
 IsProper (V.Icall rs1 imm label) at = Reaches (at + 24) BAD_TARGET × Reaches (at + 44) BAD_TARGET × Reaches (at + 56) DEEP
 IsProper V.Return at = Reaches (at + 12) BAD_RETURN
-IsProper (V.LinkCall target) at = ⊥
-IsProper V.Enter at = ⊥
-IsProper (V.LeanIjump rs1 imm label) at = ⊥
-IsProper (V.LeanIcall rs1 imm label) at = ⊥
-IsProper V.LeafReturn at = ⊥
+IsProper (V.LinkCall target) at = Reaches at target
+IsProper V.Enter at = Reaches (at + 8) DEEP
+IsProper (V.LeanIjump rs1 imm label) at = Reaches (at + 24) BAD_TARGET × Reaches (at + 44) BAD_TARGET
+IsProper (V.LeanIcall rs1 imm label) at = Reaches (at + 24) BAD_TARGET × Reaches (at + 44) BAD_TARGET
 IsProper other at = Unit {0}
 
 -- words from an address on begin with a unit: each decodes to its instruction, and what follows them may

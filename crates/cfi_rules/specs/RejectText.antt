@@ -5,11 +5,12 @@ use Rattle.text_lines.specs.Hex.{hex_text}
 use Rattle.cfi_rules.specs.declared.reject.Reject.{Reject}
 use Rattle.cfi_rules.specs.declared.reject.Reject.TheVariants.{Length, At}
 use Rattle.cfi_rules.specs.declared.reject.Rule.{Rule}
-use Rattle.cfi_rules.specs.declared.reject.Rule.TheVariants.{Prologue, Unit as UnitRule, Target, Unlisted, Unused, Site, Gate, Astray, End}
+use Rattle.cfi_rules.specs.declared.reject.Rule.TheVariants.{Prologue, Unit as UnitRule, Leaf, Target, Unlisted, Unused, Site, Gate, Astray, End}
 
 abbrev pub rule_text : Rule → List ℕ
 rule_text Prologue = codes "Prologue"
 rule_text UnitRule = codes "Unit"
+rule_text Leaf = codes "Leaf"
 rule_text Target = codes "Target"
 rule_text Unlisted = codes "Unlisted"
 rule_text Unused = codes "Unused"

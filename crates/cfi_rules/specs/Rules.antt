@@ -1,10 +1,9 @@
--- The ten rules of a well-formed pair of an image and a graph, and the first that fails. Each rule
+-- The eleven rules of a well-formed pair of an image and a graph, and the first that fails. Each rule
 -- but Length is a test of an address: whether the rule fails there.
 use Rattle.std.specs.Prelude.{◌≡◌, ◌≢◌, ℕ, ◌+◌, ◌-◌, ◌*◌, ◌/◌, ◌%◌, ◌<◌, ◌==◌, nat_lt, nat_le, ◌&&◌, ◌||◌, not, Bool, true, false, List, length, map, slice_get, slice_index, Option, Some, None, is_some, option_and_then, if◌then◌else◌}
 use Rattle.std.specs.List.{list_any}
 use Rattle.rv_word.specs.declared.version.GraphVersion.{GraphVersion}
-use Rattle.rv_word.specs.declared.version.GraphVersion.TheVariants.{OneLabel, TwoLabels, CalleeSaves}
-use Rattle.rv_word.specs.MemoryMap.{CODE_START, Profile, lies_within}
+use Rattle.rv_word.specs.MemoryMap.{CODE_START, Profile, lies_within, profile_under}
 use Rattle.rv_word.specs.Image.{Contents}
 use Rattle.rv_word.specs.Numbers.{are_same}
 use Rattle.rv_instr.specs.declared.instr.Instr.{Instr}
@@ -12,10 +11,10 @@ use Rattle.rv_instr.specs.declared.instr.Instr.TheVariants.{Jal}
 use Rattle.rv_code.specs.Decode.{decoded}
 use Rattle.rv_code.specs.Encode.{code_of}
 use Rattle.cfi_graph.specs.declared.line.GraphLine.{GraphLine}
-use Rattle.cfi_graph.specs.declared.line.GraphLine.TheVariants.{Site, Edge, Call}
+use Rattle.cfi_graph.specs.declared.line.GraphLine.TheVariants.{Leaf, Site, Edge, Call}
 use Rattle.cfi_graph.specs.declared.line.SiteKind.{SiteKind}
 use Rattle.cfi_graph.specs.declared.line.SiteKind.TheVariants as K
-use Rattle.cfi_graph.specs.Graph.{GraphParts, calls_in, class_in}
+use Rattle.cfi_graph.specs.Graph.{GraphParts, calls_in, class_in, has_leaves}
 use Rattle.cfi_unit.specs.declared.unit.Unit as U
 use Rattle.cfi_unit.specs.declared.unit.Unit.TheVariants as V
 use Rattle.cfi_unit.specs.declared.unit.SystemOp.TheVariants as S
@@ -26,9 +25,11 @@ use Rattle.cfi_unit.specs.declared.target_word.TargetWord.TheVariants.{First, Se
 use Rattle.cfi_unit.specs.Flow as F
 use Rattle.cfi_unit.specs.Flow.{Act, Exit, Sites, Test, flow_of}
 use Rattle.cfi_unit.specs.Prologue.{prologue_instrs}
-use Rattle.cfi_unit.specs.Templates.{is_full}
 use Rattle.cfi_unit.specs.UnitWords.{after_unit}
-use Rattle.cfi_rules.specs.Lines.{holds_of, line_at, class_with, targets_for, is_among, is_beside, read_of}
+use Rattle.cfi_pending.specs.Kinds as kinds
+use Rattle.cfi_pending.specs.Kinds.{goes_on, is_enter, is_fresh, is_right_behind, leaf_of, may_be_called, may_be_reached, stands_by}
+use Rattle.cfi_pending.specs.StartLaw.{stands_in}
+use Rattle.cfi_rules.specs.Lines.{holds_of, leaves_in, line_at, class_with, targets_for, is_among, is_beside, jump_word, read_of}
 use Rattle.cfi_rules.specs.Split.{code_words, unit_words, unit_starts, is_start, unit_at, place_at}
 use Rattle.cfi_rules.specs.declared.asks.Asks.{Asks}
 use Rattle.cfi_rules.specs.declared.reject.Reject.{Reject}
@@ -138,27 +139,22 @@ fails_prologue p words a =
     lies_within CODE_START (p.units_from - CODE_START) a 4 && (a % 4 == 0)
     && not (prologue_word_fits p ((a - CODE_START) / 4) (slice_get words ((a - CODE_START) / 4)))
 
--- which word of its destination a computed jump's check reads, in code whose graph has this version; a
--- computed call's reads the first in each
-abbrev pub jump_word : GraphVersion → TargetWord
-jump_word OneLabel = First
-jump_word TwoLabels = Second
-jump_word CalleeSaves = Second
-
 abbrev pub same_word : TargetWord → TargetWord → Bool
 same_word First First = true
 same_word Second Second = true
 same_word Third Third = true
 same_word which other = false
 
--- a check before a jump reads that word; one that puts a site on top is a call's. In such code callers save their sites
+-- a check before a jump reads that word; one that leaves a site is a call's
 abbrev pub test_is_of_version : GraphVersion → Test → Sites → Bool
 test_is_of_version version test F.pushes = true
+test_is_of_version version test F.links = true
 test_is_of_version version (F.borne which rs1 imm label) sites = same_word which (jump_word version)
 test_is_of_version version other sites = true
 
+-- under a graph of version 3 stand units whose callees save sites, and under others those whose callers do
 abbrev pub is_of_version : GraphVersion → U.Unit → Bool
-is_of_version version unit = is_full unit && test_is_of_version version (flow_of unit).test (flow_of unit).sites
+is_of_version version unit = stands_in (has_leaves version) unit && test_is_of_version version (flow_of unit).test (flow_of unit).sites
 
 -- with a list of system calls each `ecall` is guarded by just its numbers; without a list none is
 abbrev pub act_may_call : Option (List ℕ) → Test → Act → Bool
@@ -178,19 +174,44 @@ admits version calls unit = is_of_version version unit && may_call calls unit
 abbrev pub admitted_in : GraphParts → U.Unit → Bool
 admitted_in graph unit = admits graph.version (calls_in graph.lines) unit
 
--- Unit: the split ends here, before the code does, or the graph does not admit the unit here
+-- a unit may stand where the graph admits it, and in a leaf only where it leaves x1 alone and calls nothing
+abbrev pub may_stand_at : GraphParts → ℕ → U.Unit → Bool
+may_stand_at graph a unit = admitted_in graph unit && stands_by (leaf_of (leaves_in graph.lines) a) unit
+
+-- Unit: the split ends here, before the code does, or the unit here may not stand here
 abbrev pub fails_unit : Profile → List ℕ → GraphParts → ℕ → Bool
 fails_unit p words graph a =
     ((a == p.units_from + 4 * length (unit_starts p words))
     && nat_lt (length (unit_starts p words)) (length (unit_words p words)))
-    || holds_of (unit_at p words a) (λ unit. not (admitted_in graph unit))
+    || holds_of (unit_at p words a) (λ unit. not (may_stand_at graph a unit))
 
--- Target: a direct transfer leads to no unit's start
-abbrev pub fails_target : Profile → List ℕ → ℕ → Bool
-fails_target p words a =
+-- Leaf: a leaf does not begin at a unit's start, or does not end at one or at the code's end; or a unit goes on to one of another kind
+abbrev pub lacks_end : Profile → List ℕ → ℕ → GraphLine → Bool
+lacks_end p words a (Leaf from to) =
+    (from == a) && not (is_start p words from && (is_start p words to || (to == CODE_START + 4 * length words)))
+lacks_end p words a other = false
+
+abbrev pub goes_wrong : Profile → List ℕ → List kinds.Leaf → ℕ → U.Unit → Bool
+goes_wrong p words leaves a unit = goes_on unit && not (is_right_behind (unit_at p words) leaves (leaf_of leaves a) a unit)
+
+abbrev pub fails_leaf : Profile → List ℕ → List GraphLine → ℕ → Bool
+fails_leaf p words lines a =
+    list_any (lacks_end p words a) lines || holds_of (unit_at p words a) (goes_wrong p words (leaves_in lines) a)
+
+-- Target: a direct transfer leads to no unit's start, or to one of another kind. Where callees save sites a call leads to what saves its
+-- site, or to a leaf
+abbrev pub may_go : Profile → List ℕ → List kinds.Leaf → ℕ → ℕ → Bool
+may_go p words leaves a target = is_start p words target && may_be_reached (unit_at p words) leaves (leaf_of leaves a) target
+
+abbrev pub may_call_to : Bool → Profile → List ℕ → List kinds.Leaf → ℕ → ℕ → Bool
+may_call_to true p words leaves a target = is_start p words target && may_be_called (unit_at p words) leaves target
+may_call_to false p words leaves a target = may_go p words leaves a target
+
+abbrev pub fails_target : Profile → List ℕ → List GraphLine → ℕ → Bool
+fails_target p words lines a =
     let place = place_at p words a in
-    holds_of (option_and_then edge_of place) (λ target. not (is_start p words target))
-    || holds_of (option_and_then call_of place) (λ target. not (is_start p words target))
+    holds_of (option_and_then edge_of place) (λ target. not (may_go p words (leaves_in lines) a target))
+    || holds_of (option_and_then call_of place) (λ target. not (may_call_to p.callee_saves p words (leaves_in lines) a target))
 
 -- Unlisted: a direct transfer has no line with its start and target
 abbrev pub fails_unlisted : Profile → List ℕ → List GraphLine → ℕ → Bool
@@ -221,33 +242,45 @@ fails_site p words lines a =
     || holds_of (line_at lines a) (is_lone_site place)
 
 -- Gate: a class has this target, and the target's word that is to bear the class's label is no gate of
--- this label, or no unit starts at the target. `starts` tells whether a unit starts at an address, `gate`
--- the label of the gate there
-abbrev pub has_unit : Profile → List ℕ → ℕ → Bool
-has_unit p words a = is_some (unit_at p words a)
+-- this label. A first word is one of a saved start, a second one stands behind a unit's start, a third one directly
+-- before what saves a site
+pub record Signs : Type 0 where
+  -- a unit starts at an address
+  pub starts : ℕ → Bool
+  -- the label of the gate there
+  pub gate : ℕ → Option ℕ
+  -- its start is fresh
+  pub fresh : ℕ → Bool
+  -- what stands there saves a site
+  pub enters : ℕ → Bool
 
-abbrev pub gate_label : Profile → List ℕ → ℕ → Option ℕ
-gate_label p words a = option_and_then gate_of (unit_at p words a)
+abbrev pub signs_in : Profile → List ℕ → List kinds.Leaf → Signs
+signs_in p words leaves = record {
+  starts = λ a. is_some (unit_at p words a);
+  gate = λ a. option_and_then gate_of (unit_at p words a);
+  fresh = is_fresh (unit_at p words) leaves;
+  enters = λ a. is_enter (unit_at p words a);
+}
 
-abbrev pub is_borne : (ℕ → Bool) → (ℕ → Option ℕ) → TargetWord → ℕ → ℕ → Bool
-is_borne starts gate First a label = is_label (gate a) label
-is_borne starts gate Second a label = starts a && is_label (gate (a + 4)) label
-is_borne starts gate Third a label = starts a && is_label (gate (a + 8)) label
+abbrev pub is_borne : Signs → TargetWord → ℕ → ℕ → Bool
+is_borne signs First a label = is_label (signs.gate a) label && not (signs.fresh a)
+is_borne signs Second a label = signs.starts a && is_label (signs.gate (a + 4)) label
+is_borne signs Third a label = is_label (signs.gate (a + 8)) label && signs.enters (a + 12)
 
-abbrev pub lacks_gate : (ℕ → Bool) → (ℕ → Option ℕ) → ℕ → GraphLine → Bool
-lacks_gate starts gate a line =
-    holds_of (class_in line) (λ class. is_among a class.targets && not (is_borne starts gate (read_of class.sort) a class.label))
+abbrev pub lacks_gate : GraphVersion → Signs → ℕ → GraphLine → Bool
+lacks_gate version signs a line =
+    holds_of (class_in line) (λ class. is_among a class.targets && not (is_borne signs (read_of version class.sort) a class.label))
 
-abbrev pub fails_gate : Profile → List ℕ → List GraphLine → ℕ → Bool
-fails_gate p words lines a = list_any (lacks_gate (has_unit p words) (gate_label p words) a) lines
+abbrev pub fails_gate : Profile → List ℕ → GraphParts → ℕ → Bool
+fails_gate p words graph a = list_any (lacks_gate graph.version (signs_in p words (leaves_in graph.lines)) a) graph.lines
 
 -- Astray: a gate bears a class's label and is not such a word of one of its targets
-abbrev pub is_astray : List GraphLine → ℕ → U.Unit → Bool
-is_astray lines a (V.Gate label) = holds_of (class_with lines label) (λ class. is_beside class a)
-is_astray lines a other = false
+abbrev pub is_astray : GraphParts → ℕ → U.Unit → Bool
+is_astray graph a (V.Gate label) = holds_of (class_with graph.lines label) (λ class. is_beside graph.version class a)
+is_astray graph a other = false
 
-abbrev pub fails_astray : Profile → List ℕ → List GraphLine → ℕ → Bool
-fails_astray p words lines a = holds_of (unit_at p words a) (is_astray lines a)
+abbrev pub fails_astray : Profile → List ℕ → GraphParts → ℕ → Bool
+fails_astray p words graph a = holds_of (unit_at p words a) (is_astray graph a)
 
 -- End: the unit that ends the code is not a stop, or there is no unit
 abbrev pub is_bad_end : List ℕ → ℕ → U.Unit → Bool
@@ -261,25 +294,27 @@ fails_end p words a =
 abbrev pub fails : Rule → Profile → List ℕ → GraphParts → ℕ → Bool
 fails R.Prologue p words graph a = fails_prologue p words a
 fails R.Unit p words graph a = fails_unit p words graph a
-fails R.Target p words graph a = fails_target p words a
+fails R.Leaf p words graph a = fails_leaf p words graph.lines a
+fails R.Target p words graph a = fails_target p words graph.lines a
 fails R.Unlisted p words graph a = fails_unlisted p words graph.lines a
 fails R.Unused p words graph a = fails_unused p words graph.lines a
 fails R.Site p words graph a = fails_site p words graph.lines a
-fails R.Gate p words graph a = fails_gate p words graph.lines a
-fails R.Astray p words graph a = fails_astray p words graph.lines a
+fails R.Gate p words graph a = fails_gate p words graph a
+fails R.Astray p words graph a = fails_astray p words graph a
 fails R.End p words graph a = fails_end p words a
 
 -- the order in which the rules are asked
 abbrev pub order : Rule → ℕ
 order R.Prologue = 0
 order R.Unit = 1
-order R.Target = 2
-order R.Unlisted = 3
-order R.Unused = 4
-order R.Site = 5
-order R.Gate = 6
-order R.Astray = 7
-order R.End = 8
+order R.Leaf = 2
+order R.Target = 3
+order R.Unlisted = 4
+order R.Unused = 5
+order R.Site = 6
+order R.Gate = 7
+order R.Astray = 8
+order R.End = 9
 
 -- a rule fails nowhere
 abbrev pub Holds : Profile → List ℕ → GraphParts → Rule → Type 0
@@ -291,8 +326,13 @@ pub record IsFirst (p : Profile) (words : List ℕ) (graph : GraphParts) (rule :
   pub rules_before : (earlier : Rule) → order earlier < order rule → Holds p words graph earlier
   pub addresses_before : (b : ℕ) → b < a → fails rule p words graph b ≡ false
 
--- no rule fails
+-- the profile of a pair: where its parts stand goes by both versions
+abbrev pub pair_profile : Contents → GraphParts → Profile
+pair_profile image graph = profile_under graph.version image.version
+
+-- no rule fails, and the profile is one of graphs of this version
 pub record IsWellFormed (p : Profile) (image : Contents) (graph : GraphParts) : Type 0 where
+  pub saves : p.callee_saves ≡ has_leaves graph.version
   pub same_length : graph.code ≡ length image.code
   pub rules : (rule : Rule) → Holds p (code_words image.code) graph rule
 

@@ -1,13 +1,13 @@
 -- When units are sound with the lines without an address of a graph of a version: units fit one after
 -- another and are admitted, transfers lead to units, computed ones ask for a class's label, just the gates
 -- with a class's label are at such a word of its targets, and the last unit is a stop.
-use Rattle.std.specs.Prelude.{◌≡◌, ℕ, ◌+◌, IsTrue, List, slice_get, Option, Some, None, is_some, option_and_then}
+use Rattle.std.specs.Prelude.{◌≡◌, ℕ, ◌+◌, IsTrue, false, List, [], slice_get, Option, Some, None, is_some, option_and_then}
 use Rattle.std.specs.List.{last_or, list_all}
 use Rattle.std.specs.Option.{option_or}
 use Rattle.rv_word.specs.declared.version.GraphVersion.{GraphVersion}
-use Rattle.rv_word.specs.MemoryMap.{Profile}
+use Rattle.rv_word.specs.MemoryMap.{IsFullProfile, Profile}
 use Rattle.cfi_graph.specs.declared.line.GraphLine.{GraphLine}
-use Rattle.cfi_graph.specs.Graph.{ClassLine, calls_in, class_in}
+use Rattle.cfi_graph.specs.Graph.{ClassLine, calls_in, class_in, has_leaves}
 use Rattle.cfi_unit.specs.declared.unit.Unit as U
 use Rattle.cfi_unit.specs.declared.unit.Unit.TheVariants as V
 use Rattle.cfi_unit.specs.declared.place.Place.TheVariants.{Body as body}
@@ -15,7 +15,7 @@ use Rattle.cfi_unit.specs.declared.target_word.TargetWord.{TargetWord}
 use Rattle.cfi_unit.specs.declared.target_word.TargetWord.TheVariants.{First, Second, Third}
 use Rattle.cfi_unit.specs.UnitWords.{Reaches}
 use Rattle.cfi_rules.specs.declared.asks.Asks.{Asks}
-use Rattle.cfi_rules.specs.Lines.{class_with, targets_for, is_among, is_word_of, read_of}
+use Rattle.cfi_rules.specs.Lines.{class_with, leaves_in, targets_for, is_among, is_word_of, read_of}
 use Rattle.cfi_rules.specs.Placed.{AllAhead, AllFit, is_head}
 use Rattle.cfi_rules.specs.Rules.{admits, call_of, edge_of, site_of}
 use Rattle.cfi_rules.specs.Split.{unit_in}
@@ -35,6 +35,10 @@ Bears p units Second a label = StartsIn p units a × (unit_in units p.units_from
 Bears p units Third a label = StartsIn p units a × (unit_in units p.units_from (a + 8) ≡ Some (V.Gate label))
 
 pub record IsSound (p : Profile) (version : GraphVersion) (entry : ℕ) (units : List U.Unit) (heads : List GraphLine) : Type 0 where
+  -- callers save sites, and no function is given as a leaf
+  pub full : IsFullProfile p
+  pub version_full : has_leaves version ≡ false
+  pub no_leaves : leaves_in heads ≡ []
   -- each unit may stand where it does, before those that follow it, and in code of such a graph
   pub fit : AllFit p.units_from units
   pub ahead : AllAhead p.units_from units
@@ -51,8 +55,8 @@ pub record IsSound (p : Profile) (version : GraphVersion) (entry : ℕ) (units :
       site_of (body unit) ≡ Some asked → IsTrue (is_some (targets_for heads asked.kind asked.which asked.label))
   -- each target of a class bears its label, and each gate with a class's label is at the word of a target
   pub gates : (k a : ℕ) (class : ClassLine) → option_and_then class_in (slice_get heads k) ≡ Some class →
-      IsTrue (is_among a class.targets) → Bears p units (read_of class.sort) a class.label
+      IsTrue (is_among a class.targets) → Bears p units (read_of version class.sort) a class.label
   pub astray : (label a : ℕ) (class : ClassLine) → unit_in units p.units_from a ≡ Some (V.Gate label) →
-      class_with heads label ≡ Some class → IsTrue (is_word_of (read_of class.sort) a class.targets)
+      class_with heads label ≡ Some class → IsTrue (is_word_of (read_of version class.sort) a class.targets)
   -- the last unit is a stop
   pub ends : last_or None units ≡ Some V.Stop

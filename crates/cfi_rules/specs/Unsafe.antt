@@ -1,14 +1,16 @@
 -- Small pairs with one fault each, which are not safe: so safety is not said of everything.
 use Rattle.std.specs.Prelude.{ℕ, ◌+◌, ◌/◌, ◌%◌, ◌^◌, List, [], ◌∷◌, ◌++◌, length, map, take, drop}
-use Rattle.rv_word.specs.declared.version.GraphVersion.TheVariants.{OneLabel}
+use Rattle.rv_word.specs.declared.version.GraphVersion.TheVariants.{OneLabel, CalleeSaves}
 use Rattle.rv_word.specs.declared.version.ImageVersion.TheVariants.{OneHart, EightHarts}
-use Rattle.rv_word.specs.MemoryMap.{START, UNITS_START, version_1, version_2}
+use Rattle.rv_word.specs.MemoryMap.{START, UNITS_START, lean_version_1, version_1, version_2}
 use Rattle.rv_word.specs.Image.{Contents}
+use Rattle.rv_instr.specs.declared.instr.Instr.TheVariants.{Immediate}
+use Rattle.rv_instr.specs.declared.instr.ImmediateOp.TheVariants.{Addi}
 use Rattle.rv_code.specs.Encode.{code_of}
 use Rattle.cfi_graph.specs.Graph.{GraphParts}
 use Rattle.cfi_graph.specs.declared.line.GraphLine.{GraphLine}
 use Rattle.cfi_graph.specs.declared.line.Sort.TheVariants as sorts
-use Rattle.cfi_graph.specs.declared.line.GraphLine.TheVariants.{Class, Site, Edge, Call}
+use Rattle.cfi_graph.specs.declared.line.GraphLine.TheVariants.{Leaf, Class, Site, Edge, Call}
 use Rattle.cfi_graph.specs.declared.line.SiteKind.TheVariants as K
 use Rattle.cfi_unit.specs.declared.unit.Unit as U
 use Rattle.cfi_unit.specs.declared.unit.Unit.TheVariants as V
@@ -200,6 +202,77 @@ calling_opening = opening_of_harts_with 8 (0x00000073 ∷ [])
 pub record WrongDeedsAreUnsafe : Type 0 where
   pub write : IsSafe version_2 storing_opening one_pointer_graph → ⊥
   pub call : IsSafe version_2 calling_opening one_pointer_graph → ⊥
+
+-- the prologue of a lean image; its call goes to the first unit
+abbrev pub lean_prologue : List ℕ
+lean_prologue = map code_of (prologue_instrs lean_version_1 lean_version_1.units_from)
+
+-- that prologue and words after it
+abbrev pub lean_with : List ℕ → Contents
+lean_with words = record { version = OneHart; init = []; code = bytes_of (lean_prologue ++ words) }
+
+-- another word in place of one of the opening's; the code is a jump to a handler
+abbrev pub lean_opening_with : ℕ → ℕ → Contents
+lean_opening_with k word = record { version = OneHart; init = []; code = bytes_of (take k lean_prologue ++ word ∷ drop (k + 1) lean_prologue ++ 0xfd5ff06f ∷ []) }
+
+-- leaves, the opening's call, and other lines
+abbrev pub lean_graph_with : ℕ → List GraphLine → List GraphLine → GraphParts
+lean_graph_with len leaves lines = record { version = CalleeSaves; code = len; lines = leaves ++ (Call START lean_version_1.units_from ∷ lines) }
+
+-- the jump is a leaf
+abbrev pub lean_opening_graph : GraphParts
+lean_opening_graph = lean_graph_with 0x30 (Leaf lean_version_1.units_from 0x40000030 ∷ []) []
+
+-- x4 stays 2^28 in the opening: one is not taken off
+abbrev pub unmade_mask : Contents
+unmade_mask = lean_opening_with 5 0x00000013
+
+-- the opening's call leaves its site in x5
+abbrev pub lost_link : Contents
+lost_link = lean_opening_with 8 0x00c002ef
+
+-- what the opening calls saves nothing, and is no leaf
+abbrev pub unsaved_site : Contents
+unsaved_site = lean_with (code_from lean_version_1.units_from (V.Stop ∷ []))
+
+abbrev pub unsaved_site_graph : GraphParts
+unsaved_site_graph = lean_graph_with 0x30 [] []
+
+-- an enter in a leaf
+abbrev pub saving_leaf : Contents
+saving_leaf = lean_with (code_from lean_version_1.units_from (V.Enter ∷ V.Stop ∷ []))
+
+abbrev pub saving_leaf_graph : GraphParts
+saving_leaf_graph = lean_graph_with 0x44 (Leaf lean_version_1.units_from 0x40000044 ∷ []) []
+
+-- a leaf that calls itself, by a call that saves its own site
+abbrev pub calling_leaf : Contents
+calling_leaf = lean_with (code_from lean_version_1.units_from (V.Call lean_version_1.units_from ∷ V.Stop ∷ []))
+
+abbrev pub calling_leaf_graph : GraphParts
+calling_leaf_graph = lean_graph_with 0x50 (Leaf lean_version_1.units_from 0x40000050 ∷ []) (Call lean_version_1.units_from lean_version_1.units_from ∷ [])
+
+-- a leaf return in no leaf, behind an instruction that takes 32 off x1, so that the run goes to a handler
+abbrev pub changed_link : Contents
+changed_link = lean_with (code_from lean_version_1.units_from (V.Enter ∷ V.Plain (Immediate Addi 1 1 0xfe0) ∷ V.LeafReturn ∷ []))
+
+abbrev pub changed_link_graph : GraphParts
+changed_link_graph = lean_graph_with 0x48 [] []
+
+-- lean pairs, and where the run of each shows that it is not safe
+pub record WrongLeanPairsAreUnsafe : Type 0 where
+  -- at the first unit x4 is not the mask of stores
+  pub mask : IsSafe lean_version_1 unmade_mask lean_opening_graph → ⊥
+  -- at the first unit, a fresh start, x1 is not the newest site
+  pub link : IsSafe lean_version_1 lost_link lean_opening_graph → ⊥
+  -- at the first unit, a saved start, x3 does not point past a slot of the newest site
+  pub unsaved : IsSafe lean_version_1 unsaved_site unsaved_site_graph → ⊥
+  -- behind the enter, still a fresh start, x3 points past a slot of the newest site
+  pub pointer : IsSafe lean_version_1 saving_leaf saving_leaf_graph → ⊥
+  -- at the leaf's second start the slot of the opening's site holds the leaf's own
+  pub slot : IsSafe lean_version_1 calling_leaf calling_leaf_graph → ⊥
+  -- the run goes where the walk does not
+  pub leaf : IsSafe lean_version_1 changed_link changed_link_graph → ⊥
 
 -- a bare system call behind an instruction that brings its number into x17
 abbrev pub calling : ℕ → Contents

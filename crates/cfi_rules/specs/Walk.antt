@@ -1,6 +1,6 @@
 -- The walk along a graph: from what stands at an address, with the sites that are pending, to the
 -- next address and the sites pending there, whatever the registers are. Pending sites stand newest first.
-use Rattle.std.specs.Prelude.{◌≡◌, ℕ, ◌<◌, ◌⊎◌, Bool, true, false, IsTrue, List, [], ◌∷◌, length}
+use Rattle.std.specs.Prelude.{◌≡◌, ℕ, ◌+◌, ◌<◌, ◌≤◌, ◌⊎◌, Bool, true, false, IsTrue, List, [], ◌∷◌, length}
 use Rattle.rv_word.specs.MemoryMap.{Profile}
 use Rattle.cfi_graph.specs.declared.line.GraphLine.{GraphLine}
 use Rattle.cfi_graph.specs.declared.line.SiteKind.{SiteKind}
@@ -59,17 +59,37 @@ ComputedCallGoes lines site label pending v after =
     ⊎ (((length pending < MOST_PENDING) × InClass lines K.Call First label v × (after ≡ site ∷ pending))
     ⊎ ((length pending ≡ MOST_PENDING) × HasTarget lines K.Call First label × To DEEP pending v after))
 
+-- a call that leaves its site in x1: to its target, the site put on top of those on the shadow stack
+abbrev pub LinkGoes : ℕ → ℕ → List ℕ → ℕ → List ℕ → Type 0
+LinkGoes site target pending v after = (length pending ≤ MOST_PENDING) × (v ≡ target) × (after ≡ site ∷ pending)
+
+-- a computed one: to the handler of bad targets, or past the gate of a target of its class
+abbrev pub ComputedLinkGoes : List GraphLine → TargetWord → ℕ → ℕ → List ℕ → ℕ → List ℕ → Type 0
+ComputedLinkGoes lines which site label pending v after =
+    To BAD_TARGET pending v after ⊎ ((t : ℕ) × InClass lines K.Call which label t × LinkGoes site (t + 8) pending v after)
+
+-- the newest site is saved: the walk goes on, or to the handler where there is no room for it beside the others
+abbrev pub SaveGoes : ℕ → List ℕ → ℕ → List ℕ → Type 0
+SaveGoes following pending v after =
+    ((length pending ≤ MOST_PENDING) × To following pending v after)
+    ⊎ ((length pending ≡ MOST_PENDING + 1) × To DEEP pending v after)
+
+-- a return from a function that calls nothing: to the newest site, which is taken off
+abbrev pub LeafGoes : List ℕ → ℕ → List ℕ → Type 0
+LeafGoes [] v after = ⊥
+LeafGoes (site ∷ pending) v after = To site pending v after
+
 -- a return: to the newest site, which is taken off, or to the handler
 abbrev pub ReturnGoes : List ℕ → ℕ → List ℕ → Type 0
 ReturnGoes [] v after = To BAD_RETURN [] v after
 ReturnGoes (site ∷ pending) v after =
     To site pending v after ⊎ To BAD_RETURN (site ∷ pending) v after
 
--- to a target, with the site put on top where the unit does so. Units that save a site by x1 stand in no code that has a walk
+-- to a target, with what becomes of the sites
 abbrev pub SitesGo : Sites → ℕ → List ℕ → ℕ → List ℕ → ℕ → Type 0
 SitesGo F.pushes following pending v after target = CallGoes following target pending v after
-SitesGo F.links following pending v after target = ⊥
-SitesGo F.saves following pending v after target = ⊥
+SitesGo F.links following pending v after target = LinkGoes following target pending v after
+SitesGo F.saves following pending v after target = SaveGoes target pending v after
 SitesGo other following pending v after target = To target pending v after
 
 abbrev pub ExitGoes : Exit → Sites → ℕ → List ℕ → ℕ → List ℕ → Type 0
@@ -78,12 +98,13 @@ ExitGoes (F.either op rs1 rs2 met target) sites following pending v after = To f
 ExitGoes (F.to target) sites following pending v after = SitesGo sites following pending v after target
 ExitGoes (F.halts stop) sites following pending v after = To stop pending v after
 ExitGoes F.back sites following pending v after = ReturnGoes pending v after
+ExitGoes F.linked sites following pending v after = LeafGoes pending v after
 ExitGoes (F.after S.Ecall) sites following pending v after = To following pending v after
 ExitGoes other sites following pending v after = ⊥
 
 abbrev pub ClassGoes : List GraphLine → Sites → TargetWord → ℕ → ℕ → List ℕ → ℕ → List ℕ → Type 0
 ClassGoes lines F.pushes which label following pending v after = ComputedCallGoes lines following label pending v after
-ClassGoes lines F.links which label following pending v after = ⊥
+ClassGoes lines F.links which label following pending v after = ComputedLinkGoes lines which following label pending v after
 ClassGoes lines other which label following pending v after = JumpGoes lines which label pending v after
 
 -- a computed transfer goes by its class, whatever its destination
@@ -104,9 +125,14 @@ GoesPast lines unit following pending v after = FlowGoes lines (flow_of unit) fo
 abbrev pub UnitGoes : List GraphLine → U.Unit → ℕ → List ℕ → ℕ → List ℕ → Type 0
 UnitGoes lines unit at pending v after = GoesPast lines unit (after_unit unit at) pending v after
 
+-- the opening calls the entry as other calls do
+abbrev pub OpeningGoes : Bool → ℕ → ℕ → List ℕ → ℕ → List ℕ → Type 0
+OpeningGoes false site entry pending v after = CallGoes site entry pending v after
+OpeningGoes true site entry pending v after = LinkGoes site entry pending v after
+
 -- the step of the walk from what stands at an address: handlers and the closing have none
 abbrev pub Goes : Profile → List GraphLine → Place → ℕ → List ℕ → ℕ → List ℕ → Type 0
 Goes p lines handler at pending v after = ⊥
-Goes p lines (opening entry) at pending v after = CallGoes p.closing entry pending v after
+Goes p lines (opening entry) at pending v after = OpeningGoes p.callee_saves p.closing entry pending v after
 Goes p lines closing at pending v after = ⊥
 Goes p lines (body unit) at pending v after = UnitGoes lines unit at pending v after

@@ -1,5 +1,5 @@
 ghost use Rattle.std.specs.Prelude.{◌≡◌};
-ghost use Rattle.cfi_rules.specs.Rules.{jump_word};
+ghost use Rattle.cfi_rules.specs.Lines.{jump_word};
 
 use cfi_graph::SiteKind;
 use cfi_unit::TargetWord;
@@ -22,7 +22,7 @@ pub fn jump_word(version: GraphVersion) -> TargetWord
     ensures { result ≡ jump_word version }
 {
     match version {
-        GraphVersion::OneLabel => TargetWord::First,
-        GraphVersion::TwoLabels | GraphVersion::CalleeSaves => TargetWord::Second,
+        GraphVersion::OneLabel | GraphVersion::CalleeSaves => TargetWord::First,
+        GraphVersion::TwoLabels => TargetWord::Second,
     }
 }

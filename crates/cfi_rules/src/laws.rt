@@ -3,7 +3,7 @@
 ghost use Rattle.cfi_rules.specs.Laws.{CodeIsSplit, MachineMayStart, ReadUnits, SafeAsRecognised, WellFormedIsSafe, SafeStaysInPlace, SafeWalksGraph};
 ghost use Rattle.cfi_rules.specs.Listed.{WellFormedIsListed};
 ghost use Rattle.cfi_rules.specs.PlacedLaws.{PlacedAreSplit, PlacedEntry, PlacedIsGraph, PlacedIsWellFormed, PlacedUnits, SplitUnits};
-ghost use Rattle.cfi_rules.specs.Unsafe.{MiddleIsUnsafe, BareReturnIsUnsafe, BareStoreIsUnsafe, MovedPointerIsUnsafe, WrongStopsAreUnsafe, WrongTransfersAreUnsafe, WrongShadowsAreUnsafe, SharedPartsAreUnsafe, BareCallIsNotListed, WrongDeedsAreUnsafe};
+ghost use Rattle.cfi_rules.specs.Unsafe.{MiddleIsUnsafe, BareReturnIsUnsafe, BareStoreIsUnsafe, MovedPointerIsUnsafe, WrongStopsAreUnsafe, WrongTransfersAreUnsafe, WrongShadowsAreUnsafe, SharedPartsAreUnsafe, WrongLeanPairsAreUnsafe, BareCallIsNotListed, WrongDeedsAreUnsafe};
 
 /// An image and a graph that meet the rules are safe, whatever the profile and however many harts run.
 pub fn well_formed_is_safe()
@@ -126,6 +126,13 @@ pub fn shared_parts_are_unsafe()
 /// An image whose opening stores into the part of another hart, or makes a system call, is not safe.
 pub fn wrong_deeds_are_unsafe()
     ensures { WrongDeedsAreUnsafe }
+{}
+
+/// A lean image is not safe whose opening leaves another number than the mask of stores in x4, or its site
+/// in another register than x1, or calls what neither saves that site nor is a leaf; nor is one with an
+/// enter or a call of other images in a leaf, nor one with a leaf return behind a change of x1.
+pub fn wrong_lean_pairs_are_unsafe()
+    ensures { WrongLeanPairsAreUnsafe }
 {}
 
 /// An image with a bare system call whose number is not in a list is not listed by it, nor is one that

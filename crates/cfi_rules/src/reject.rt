@@ -11,7 +11,9 @@ pub enum Rule {
     Prologue,
     /// No unit fits at a place where one must begin, or one does that the graph does not admit.
     Unit,
-    /// A direct transfer goes to no unit's start.
+    /// A leaf does not begin or end at a unit's start, or a unit goes on to one of another kind.
+    Leaf,
+    /// A direct transfer goes to no unit's start, or to one of another kind.
     Target,
     /// A direct transfer has no line in the graph.
     Unlisted,
@@ -34,6 +36,7 @@ fn rule_name(rule: Rule) -> &'static str
     match rule {
         Rule::Prologue => "Prologue",
         Rule::Unit => "Unit",
+        Rule::Leaf => "Leaf",
         Rule::Target => "Target",
         Rule::Unlisted => "Unlisted",
         Rule::Unused => "Unused",

@@ -4,7 +4,7 @@ use Rattle.std.proofs.lemmas.Bool.{cases_Bool}
 use Rattle.rv_word.specs.Image.{Contents}
 use Rattle.rv_word.specs.MemoryMap.{CODE_START, Profile, SHADOW_START}
 use Rattle.rv_word.specs.Memory.{Memory, loaded}
-use Rattle.rv_word.proofs.Versions.{laid_out}
+use Rattle.rv_word.proofs.Profiles.{laid_out}
 use Rattle.rv_instr.specs.Registers.{cleared}
 use Rattle.rv_code.specs.State.{Hart, Shared, After, start_hart, start_shared, last_exit}
 use Rattle.rv_code.specs.Step.{stops}
@@ -56,12 +56,12 @@ module _ (p : Profile) (image : Contents) (input : List ℕ) (entry : ℕ) (has 
   fresh = refl
 
   own : IsPart p SHADOW_START
-  own = let laid = laid_out p has.is in own_is_part p has.is 0 (omega arith)
+  own = let laid = laid_out p (inl has.is) in own_is_part p (inl has.is) 0 (omega arith)
 
   enters : EntersOpening p memory memory entry 0 (start_hart 0) (start_shared image input)
   enters = record {
     is = has.is;
-    below = let laid = laid_out p has.is in omega arith;
+    below = let laid = laid_out p (inl has.is) in omega arith;
     number = refl;
     fits = has.fits;
     stands = has.opening;
@@ -75,14 +75,14 @@ module _ (p : Profile) (image : Contents) (input : List ℕ) (entry : ℕ) (has 
 
   opened : Within p (opening_words p) (At first) start
   opened =
-      let whole = opening_length p has.is entry in
+      let whole = opening_length p (inl has.is) entry in
       let site = call_site p has.is in
       let count : suc (length (opening_instrs p entry) - 1) ≡ opening_words p = omega arith in
       subst (λ (n : ℕ). Within p n (At first) start) count
       (inr (refl, opening_keeps_match p memory memory entry 0 cleared (own_shared image input) (start_hart 0) (start_shared image input) enters same_regs same_start))
 
   first_fit : SitesFit first.pending
-  first_fit = let site = call_site p has.is in let laid = laid_out p has.is in record { each = ((omega arith, omega arith), tt); most = omega arith }
+  first_fit = let site = call_site p has.is in let laid = laid_out p (inl has.is) in record { each = ((omega arith, omega arith), tt); most = omega arith }
 
   walked : (path : List U.Unit) (o : Own) → OwnRuns p memory path first o → Within p (opening_words p + words_along path) (At o) start
   walked path o on =

@@ -3,7 +3,7 @@
 -- the path have words; and where the program's next step ends its run, the machine's ends alike.
 use Rattle.std.specs.Prelude.{ℕ, ◌+◌, ◌-◌, ◌/◌, ◌^◌, ◌<◌, ◌≤◌, ◌≡◌, List, [], replicate}
 use Rattle.rv_word.specs.Image.{Contents}
-use Rattle.rv_word.specs.MemoryMap.{DATA_START, IsProfile, Profile, SHADOW_START}
+use Rattle.rv_word.specs.MemoryMap.{DATA_START, IsFullProfile, Profile, SHADOW_START}
 use Rattle.rv_word.specs.Memory.{loaded, placed, zeros}
 use Rattle.rv_instr.specs.Registers.{cleared}
 use Rattle.rv_code.specs.Run.{ByteChange, run_alone}
@@ -29,7 +29,7 @@ own_shared image input = record { memory = placed zeros DATA_START image.init; l
 
 -- the opening and the closing stand in an image of bytes
 pub record HasPrologue (p : Profile) (image : Contents) (entry : ℕ) : Type 0 where
-  pub is : IsProfile p
+  pub is : IsFullProfile p
   pub bytes : (k : ℕ) → loaded image k < 2 ^ 8
   pub fits : Fits (V.Call entry) (call_at p)
   pub opening : Stand (loaded image) OPENING (opening_instrs p entry)

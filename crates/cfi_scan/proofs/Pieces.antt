@@ -2,8 +2,8 @@
 use Rattle.std.proofs.Common.{◌≡◌, ℕ, ◌+◌, ◌*◌, ◌/◌, ◌%◌, ◌<◌, ◌≤◌, List, [], ◌∷◌, ◌++◌, length, min, get_or, set, take, drop, Some, None, inl, inr, refl, sym, ap, ◌∙◌, subst, arith}
 use Rattle.std.proofs.lemmas.List.{append-nil, length_push, length-append, take-append-le, take_more_set, take_all, nil_from_length}
 use Rattle.std.proofs.lemmas.Bool.{cases_eq, eq-eqb, ne_eqb}
-use Rattle.rv_word.specs.declared.version.ImageVersion.{ImageVersion}
-use Rattle.rv_word.specs.MemoryMap.{Profile, profile_of}
+use Rattle.rv_word.specs.declared.version.Versions.{Versions}
+use Rattle.rv_word.specs.MemoryMap.{Profile, profile_with}
 use Rattle.cfi_reader.specs.declared.entry.Entry.{Entry}
 use Rattle.cfi_scan.specs.declared.kept.Kept.{Kept}
 use Rattle.cfi_reader.specs.Reading.{START}
@@ -118,14 +118,14 @@ KeepsUnder p calls k words = Keeps p calls k.prologue k.units.entries.items k.un
 abbrev pub KeepsWords : Profile → Kept → List ℕ → Type 0
 KeepsWords p k words = KeepsUnder p k.units.calls k words
 
--- the same under an equal version and list
-pub moved : {v w : ImageVersion} {calls others : List ℕ} → w ≡ v → others ≡ calls → (k : Kept) (words : List ℕ) → KeepsUnder (profile_of v) calls k words → KeepsUnder (profile_of w) others k words
-moved {v} {w} {calls} {others} version list k words keeps =
-    subst (λ (n : ImageVersion). KeepsUnder (profile_of n) others k words) (sym version) (subst (λ (ns : List ℕ). KeepsUnder (profile_of v) ns k words) (sym list) keeps)
+-- the same under equal versions and an equal list
+pub moved : {v w : Versions} {calls others : List ℕ} → w ≡ v → others ≡ calls → (k : Kept) (words : List ℕ) → KeepsUnder (profile_with v) calls k words → KeepsUnder (profile_with w) others k words
+moved {v} {w} {calls} {others} versions list k words keeps =
+    subst (λ (n : Versions). KeepsUnder (profile_with n) others k words) (sym versions) (subst (λ (ns : List ℕ). KeepsUnder (profile_with v) ns k words) (sym list) keeps)
 
 abbrev pub sight : Profile → Kept → Taken → Sight
 sight p k t = record {
-  version = k.units.front;
+  versions = k.units.front;
   calls = k.units.calls;
   prologue = take (min (t.fed / 4) (prologue_count p)) k.prologue;
   entries = k.units.entries.items;
@@ -216,7 +216,7 @@ seen_words p k next t after piece whole words is same keeps bytes seen =
 -- a code that has ended
 pub ended : (p : Profile) (k : Kept) (t : Taken) (entries : List Entry) (done last fed : ℕ) (bytes : List ℕ) (seen : HasSeen p (sight p k t) bytes) → fed ≡ t.fed → length entries ≡ length k.units.entries.items →
     (length (drop (prologue_count p) seen.words) ≤ length k.units.entries.items → Splits k.units.calls p.units_from [] k.units.entries.items k.units.done k.units.last k.units.reader (drop (prologue_count p) seen.words) → IsSplitUp k.units.calls p.units_from entries done last (drop (prologue_count p) seen.words)) →
-    IsOf p k.units.calls (record { version = k.units.front; prologue = take (min (fed / 4) (prologue_count p)) k.prologue; entries = entries; done = done; last = last; fed = fed }) bytes
+    IsOf p k.units.calls (record { versions = k.units.front; prologue = take (min (fed / 4) (prologue_count p)) k.prologue; entries = entries; done = done; last = last; fed = fed }) bytes
 ended p k t entries done last fed bytes seen same room close = record {
   words = seen.words;
   left = t.left;

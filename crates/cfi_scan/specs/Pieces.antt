@@ -1,6 +1,6 @@
 -- A code that comes in pieces: what is kept of all the bytes that came.
 use Rattle.std.specs.Prelude.{◌≡◌, ℕ, ◌+◌, ◌*◌, ◌-◌, ◌/◌, ◌<◌, ◌≤◌, min, List, [], ◌∷◌, length, take, drop}
-use Rattle.rv_word.specs.declared.version.ImageVersion.{ImageVersion}
+use Rattle.rv_word.specs.declared.version.Versions.{Versions}
 use Rattle.rv_word.specs.MemoryMap.{CODE_SIZE, CODE_START, Profile}
 use Rattle.cfi_reader.specs.declared.entry.Entry.{Entry}
 use Rattle.cfi_reader.specs.declared.reader.Reader.{Reader}
@@ -28,12 +28,12 @@ pub record IsFront (p : Profile) (words start : ℕ) : Type 0 where
 abbrev pub HasPlace : Profile → List Entry → Type 0
 HasPlace p entries = p.units_from + 4 * length entries ≤ CODE_START + CODE_SIZE
 
--- what a feeder keeps: the version of the image, the list of system calls (empty where there is none), the
+-- what a feeder keeps: the versions of the pair, the list of system calls (empty where there is none), the
 -- prologue's words, an entry for each word after it that there is room for, how many of these belong to units
 -- that have ended, where the last of these starts, how far the next one is read, the bytes of the word that is
 -- not whole, and how many bytes came
 pub record Sight : Type 0 where
-  pub version : ImageVersion
+  pub versions : Versions
   pub calls : List ℕ
   pub prologue : List ℕ
   pub entries : List Entry
@@ -63,7 +63,7 @@ pub record HasSeen (p : Profile) (s : Sight) (bytes : List ℕ) : Type 0 where
 
 -- what is left of a code that has ended
 pub record Listed : Type 0 where
-  pub version : ImageVersion
+  pub versions : Versions
   pub prologue : List ℕ
   pub entries : List Entry
   pub done : ℕ

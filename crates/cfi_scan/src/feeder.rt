@@ -1,5 +1,5 @@
 ghost use Rattle.std.specs.Prelude.{◌≡◌, ◌+◌, ◌-◌, ◌*◌, ◌/◌, ◌%◌, ◌<◌, ◌≤◌, ◌^◌, ℕ, List, IfOk, [], ◌∷◌, ◌++◌, length};
-ghost use Rattle.rv_word.specs.MemoryMap.{CODE_SIZE, profile_of};
+ghost use Rattle.rv_word.specs.MemoryMap.{CODE_SIZE, profile_with};
 ghost use Rattle.cfi_reader.specs.Entries.{numbers_or_none};
 ghost use Rattle.cfi_scan.specs.Pieces.{HasSeen, IsOf, prologue_count};
 
@@ -8,12 +8,12 @@ use crate::kept::Kept;
 use crate::listing::Listing;
 use crate::splitter::Splitter;
 use crate::steps::Steps;
-use rv_word::{ImageVersion, NoMemory, Numbers};
+use rv_word::{NoMemory, Numbers, Versions};
 use std::alloc::Global;
 use std::marker::Model;
 use std::sync::ledger::Ledger;
 
-/// Takes a code in pieces, cut anywhere. It keeps the words of its version's prologue and one entry for
+/// Takes a code in pieces, cut anywhere. It keeps the words of its versions' prologue and one entry for
 /// each word after it that there is room for; bytes past the room are only counted.
 #[derive(Drop)]
 pub struct Feeder {
@@ -23,15 +23,15 @@ pub struct Feeder {
 
 impl Model for Feeder {
     ghost use Rattle.std.specs.Prelude.{◌/◌, min, take};
-    ghost use Rattle.rv_word.specs.MemoryMap.{profile_of};
+    ghost use Rattle.rv_word.specs.MemoryMap.{profile_with};
     ghost use Rattle.cfi_scan.specs.Pieces.{HasPlace, Sight, prologue_count};
 
     ghost Value = { Sight };
 
     ghost view = { λ f. record {
-      version = f.kept.units.front;
+      versions = f.kept.units.front;
       calls = f.kept.units.calls;
-      prologue = take (min (f.carry.fed / 4) (prologue_count (profile_of f.kept.units.front))) f.kept.prologue;
+      prologue = take (min (f.carry.fed / 4) (prologue_count (profile_with f.kept.units.front))) f.kept.prologue;
       entries = f.kept.units.entries.items;
       done = f.kept.units.done;
       last = f.kept.units.last;
@@ -40,25 +40,25 @@ impl Model for Feeder {
       fed = f.carry.fed;
     } };
 
-    ghost invariant = { λ f. HasPlace (profile_of f.kept.units.front) f.kept.units.entries.items };
+    ghost invariant = { λ f. HasPlace (profile_with f.kept.units.front) f.kept.units.entries.items };
 }
 
 impl Feeder {
-    /// No byte yet, and room for a code of so many words, of a version, under a list of system calls if there is one.
+    /// No byte yet, and room for a code of so many words, of these versions, under a list of system calls if there is one.
     pub fn new(
         alloc: Global,
-        version: ImageVersion,
+        versions: Versions,
         calls: Option<Numbers>,
         words: usize,
     ) -> Result<Feeder, NoMemory>
         requires { 4 * words ≤ CODE_SIZE }
-        ensures version { IfOk result (λ f. f.version ≡ version) }
+        ensures versions { IfOk result (λ f. f.versions ≡ versions) }
         ensures calls { IfOk result (λ f. f.calls ≡ numbers_or_none calls) }
-        ensures seen { IfOk result (λ f. HasSeen (profile_of version) f []) }
-        ensures room { IfOk result (λ f. length f.entries ≡ words - prologue_count (profile_of version)) }
+        ensures seen { IfOk result (λ f. HasSeen (profile_with versions) f []) }
+        ensures room { IfOk result (λ f. length f.entries ≡ words - prologue_count (profile_with versions)) }
     {
         Ok(Feeder {
-            kept: Kept::new(alloc, version, listed(calls), words)?,
+            kept: Kept::new(alloc, versions, listed(calls), words)?,
             carry: Carry::new(),
         })
     }
@@ -73,8 +73,8 @@ impl Feeder {
     /// Takes a piece. Each word is read once, when its last byte has come.
     pub fn feed<L: Ledger>(&mut self, piece: &[u8], steps: &mut Steps<L>)
         requires small { self.old.fed + length piece.now < 2 ^ 32 }
-        ensures seen { (bytes : List ℕ) → HasSeen (profile_of self.old.version) self.old bytes → HasSeen (profile_of self.old.version) self.new (bytes ++ piece.now) }
-        ensures version { self.new.version ≡ self.old.version }
+        ensures seen { (bytes : List ℕ) → HasSeen (profile_with self.old.versions) self.old bytes → HasSeen (profile_with self.old.versions) self.new (bytes ++ piece.now) }
+        ensures versions { self.new.versions ≡ self.old.versions }
         ensures calls { self.new.calls ≡ self.old.calls }
         ensures fed { self.new.fed ≡ self.old.fed + length piece.now }
         ensures room { length self.new.entries ≡ length self.old.entries }
@@ -94,8 +94,8 @@ impl Feeder {
     #[inline(never)]
     fn bytes<L: Ledger>(&mut self, piece: &[u8], steps: &mut Steps<L>)
         requires small { self.old.fed + length piece.now < 2 ^ 32 }
-        ensures seen { (bytes : List ℕ) → HasSeen (profile_of self.old.version) self.old bytes → HasSeen (profile_of self.old.version) self.new (bytes ++ piece.now) }
-        ensures version { self.new.version ≡ self.old.version }
+        ensures seen { (bytes : List ℕ) → HasSeen (profile_with self.old.versions) self.old bytes → HasSeen (profile_with self.old.versions) self.new (bytes ++ piece.now) }
+        ensures versions { self.new.versions ≡ self.old.versions }
         ensures calls { self.new.calls ≡ self.old.calls }
         ensures fed { self.new.fed ≡ self.old.fed + length piece.now }
         ensures room { length self.new.entries ≡ length self.old.entries }
@@ -110,8 +110,8 @@ impl Feeder {
     fn words<L: Ledger>(&mut self, piece: &[u8], steps: &mut Steps<L>)
         requires small { self.old.fed + length piece.now < 2 ^ 32 }
         requires whole { self.old.fed % 4 ≡ 0 }
-        ensures seen { (bytes : List ℕ) → HasSeen (profile_of self.old.version) self.old bytes → HasSeen (profile_of self.old.version) self.new (bytes ++ piece.now) }
-        ensures version { self.new.version ≡ self.old.version }
+        ensures seen { (bytes : List ℕ) → HasSeen (profile_with self.old.versions) self.old bytes → HasSeen (profile_with self.old.versions) self.new (bytes ++ piece.now) }
+        ensures versions { self.new.versions ≡ self.old.versions }
         ensures calls { self.new.calls ≡ self.old.calls }
         ensures fed { self.new.fed ≡ self.old.fed + length piece.now }
         ensures room { length self.new.entries ≡ length self.old.entries }
@@ -127,8 +127,8 @@ impl Feeder {
         requires small { self.old.fed + length piece.now < 2 ^ 32 }
         requires whole { self.old.fed % 4 ≡ 0 }
         requires cut { length piece.now % 4 ≡ 0 }
-        ensures seen { (bytes : List ℕ) → HasSeen (profile_of self.old.version) self.old bytes → HasSeen (profile_of self.old.version) self.new (bytes ++ piece.now) }
-        ensures version { self.new.version ≡ self.old.version }
+        ensures seen { (bytes : List ℕ) → HasSeen (profile_with self.old.versions) self.old bytes → HasSeen (profile_with self.old.versions) self.new (bytes ++ piece.now) }
+        ensures versions { self.new.versions ≡ self.old.versions }
         ensures calls { self.new.calls ≡ self.old.calls }
         ensures fed { self.new.fed ≡ self.old.fed + length piece.now }
         ensures room { length self.new.entries ≡ length self.old.entries }
@@ -142,8 +142,8 @@ impl Feeder {
     /// Takes one byte.
     fn byte<L: Ledger>(&mut self, byte: u8, steps: &mut Steps<L>)
         requires small { self.old.fed + 1 < 2 ^ 32 }
-        ensures seen { (bytes : List ℕ) → HasSeen (profile_of self.old.version) self.old bytes → HasSeen (profile_of self.old.version) self.new (bytes ++ byte ∷ []) }
-        ensures version { self.new.version ≡ self.old.version }
+        ensures seen { (bytes : List ℕ) → HasSeen (profile_with self.old.versions) self.old bytes → HasSeen (profile_with self.old.versions) self.new (bytes ++ byte ∷ []) }
+        ensures versions { self.new.versions ≡ self.old.versions }
         ensures calls { self.new.calls ≡ self.old.calls }
         ensures fed { self.new.fed ≡ self.old.fed + 1 }
         ensures room { length self.new.entries ≡ length self.old.entries }
@@ -157,8 +157,8 @@ impl Feeder {
 
     /// Ends the code.
     pub fn finish(self) -> Listing
-        ensures version { result.version ≡ self.version }
-        ensures of { (bytes : List ℕ) → HasSeen (profile_of self.version) self bytes → IsOf (profile_of self.version) self.calls result bytes }
+        ensures versions { result.versions ≡ self.versions }
+        ensures of { (bytes : List ℕ) → HasSeen (profile_with self.versions) self bytes → IsOf (profile_with self.versions) self.calls result bytes }
         ensures room { length result.entries ≡ length self.entries }
     {
         let Feeder { kept, carry } = self;

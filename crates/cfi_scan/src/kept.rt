@@ -1,12 +1,12 @@
 ghost use Rattle.std.specs.Prelude.{◌≡◌, ◌+◌, ◌-◌, ◌/◌, ◌<◌, ◌≤◌, ◌^◌, ℕ, List, IfOk, [], ◌∷◌, ◌++◌, get_or, length};
-ghost use Rattle.rv_word.specs.MemoryMap.{profile_of};
+ghost use Rattle.rv_word.specs.MemoryMap.{profile_with};
 ghost use Rattle.cfi_scan.specs.Carry.{word_of};
 ghost use Rattle.cfi_scan.specs.Pieces.{HasPlace, IsCut, Keeps, prologue_count};
 
 use crate::front::Front;
 use crate::splitter::Splitter;
 use crate::steps::Steps;
-use rv_word::{ImageVersion, NoMemory, Numbers};
+use rv_word::{NoMemory, Numbers, Versions};
 use std::alloc::Global;
 use std::sync::ledger::Ledger;
 
@@ -21,28 +21,28 @@ impl Kept {
     /// No word yet, and room for a code of so many, under a list of system calls.
     pub(crate) fn new(
         alloc: Global,
-        version: ImageVersion,
+        versions: Versions,
         calls: Numbers,
         words: usize,
     ) -> Result<Kept, NoMemory>
-        ensures version { IfOk result (λ k. k.units.front ≡ version) }
+        ensures versions { IfOk result (λ k. k.units.front ≡ versions) }
         ensures calls { IfOk result (λ k. k.units.calls ≡ calls) }
-        ensures keeps { IfOk result (λ k. Keeps (profile_of version) calls k.prologue k.units.entries.items k.units.done k.units.last k.units.reader []) }
-        ensures room { IfOk result (λ k. length k.units.entries.items ≡ words - prologue_count (profile_of version)) }
+        ensures keeps { IfOk result (λ k. Keeps (profile_with versions) calls k.prologue k.units.entries.items k.units.done k.units.last k.units.reader []) }
+        ensures room { IfOk result (λ k. length k.units.entries.items ≡ words - prologue_count (profile_with versions)) }
     {
-        let front = Front::new(version);
+        let front = Front::new(versions);
         let room = words.saturating_sub(front.words());
         Ok(Kept {
             prologue: [0; 20],
-            units: Splitter::new(alloc, version, calls, room)?,
+            units: Splitter::new(alloc, versions, calls, room)?,
         })
     }
 
     /// Reads the words of a piece, before which so many came.
     pub(crate) fn take_words<L: Ledger>(&mut self, piece: &[u8], index: usize, steps: &mut Steps<L>)
-        requires small { HasPlace (profile_of self.old.units.front) self.old.units.entries.items }
+        requires small { HasPlace (profile_with self.old.units.front) self.old.units.entries.items }
         requires few { index + length piece.now < 2 ^ 32 }
-        ensures keeps { (words more : List ℕ) → length words ≡ index → IsCut piece.now more [] → Keeps (profile_of self.old.units.front) self.old.units.calls self.old.prologue self.old.units.entries.items self.old.units.done self.old.units.last self.old.units.reader words → Keeps (profile_of self.old.units.front) self.old.units.calls self.new.prologue self.new.units.entries.items self.new.units.done self.new.units.last self.new.units.reader (words ++ more) }
+        ensures keeps { (words more : List ℕ) → length words ≡ index → IsCut piece.now more [] → Keeps (profile_with self.old.units.front) self.old.units.calls self.old.prologue self.old.units.entries.items self.old.units.done self.old.units.last self.old.units.reader words → Keeps (profile_with self.old.units.front) self.old.units.calls self.new.prologue self.new.units.entries.items self.new.units.done self.new.units.last self.new.units.reader (words ++ more) }
         ensures front { self.new.units.front ≡ self.old.units.front }
         ensures calls { self.new.units.calls ≡ self.old.units.calls }
         ensures room { length self.new.units.entries.items ≡ length self.old.units.entries.items }
@@ -60,8 +60,8 @@ impl Kept {
     /// Reads the next word, before which so many came: the only place where a word is read.
     #[inline(always)]
     pub(crate) fn take<L: Ledger>(&mut self, word: u32, index: usize, steps: &mut Steps<L>)
-        requires small { HasPlace (profile_of self.old.units.front) self.old.units.entries.items }
-        ensures keeps { (words : List ℕ) → length words ≡ index → Keeps (profile_of self.old.units.front) self.old.units.calls self.old.prologue self.old.units.entries.items self.old.units.done self.old.units.last self.old.units.reader words → Keeps (profile_of self.old.units.front) self.old.units.calls self.new.prologue self.new.units.entries.items self.new.units.done self.new.units.last self.new.units.reader (words ++ word ∷ []) }
+        requires small { HasPlace (profile_with self.old.units.front) self.old.units.entries.items }
+        ensures keeps { (words : List ℕ) → length words ≡ index → Keeps (profile_with self.old.units.front) self.old.units.calls self.old.prologue self.old.units.entries.items self.old.units.done self.old.units.last self.old.units.reader words → Keeps (profile_with self.old.units.front) self.old.units.calls self.new.prologue self.new.units.entries.items self.new.units.done self.new.units.last self.new.units.reader (words ++ word ∷ []) }
         ensures front { self.new.units.front ≡ self.old.units.front }
         ensures calls { self.new.units.calls ≡ self.old.units.calls }
         ensures room { length self.new.units.entries.items ≡ length self.old.units.entries.items }

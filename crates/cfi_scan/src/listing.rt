@@ -1,5 +1,5 @@
 ghost use Rattle.std.specs.Prelude.{◌≡◌, ◌+◌, ◌*◌, ◌<◌, ◌≤◌, ℕ, Some, false, length, slice_get, true};
-ghost use Rattle.rv_word.specs.MemoryMap.{CODE_START, profile_of};
+ghost use Rattle.rv_word.specs.MemoryMap.{CODE_START, profile_with};
 ghost use Rattle.cfi_reader.specs.Entries.{is_quiet, is_started};
 ghost use Rattle.cfi_reader.specs.declared.entry.Entry.{Entry};
 ghost use Rattle.cfi_scan.specs.Pieces.{prologue_count};
@@ -7,7 +7,7 @@ ghost use Rattle.cfi_scan.specs.Pieces.{prologue_count};
 use crate::front::Front;
 use crate::packed::Packed;
 use cfi_reader::Entry;
-use rv_word::ImageVersion;
+use rv_word::Versions;
 use std::marker::Model;
 
 /// What is left of a code that has ended: the words of its prologue, and one entry for each word after
@@ -24,21 +24,21 @@ pub struct Listing {
 
 impl Model for Listing {
     ghost use Rattle.std.specs.Prelude.{◌/◌, min, take};
-    ghost use Rattle.rv_word.specs.MemoryMap.{profile_of};
+    ghost use Rattle.rv_word.specs.MemoryMap.{profile_with};
     ghost use Rattle.cfi_scan.specs.Pieces.{HasPlace, Listed, prologue_count};
 
     ghost Value = { Listed };
 
     ghost view = { λ t. record {
-      version = t.front;
-      prologue = take (min (t.fed / 4) (prologue_count (profile_of t.front))) t.prologue;
+      versions = t.front;
+      prologue = take (min (t.fed / 4) (prologue_count (profile_with t.front))) t.prologue;
       entries = t.entries.items;
       done = t.done;
       last = t.last;
       fed = t.fed;
     } };
 
-    ghost invariant = { λ t. HasPlace (profile_of t.front) t.entries.items };
+    ghost invariant = { λ t. HasPlace (profile_with t.front) t.entries.items };
 }
 
 impl Listing {
@@ -88,25 +88,25 @@ impl Listing {
         &self.prologue[..count]
     }
 
-    /// The version.
-    pub fn version(&self) -> ImageVersion
-        ensures { result ≡ self.now.version }
+    /// The versions.
+    pub fn versions(&self) -> Versions
+        ensures { result ≡ self.now.versions }
     {
-        self.front.version()
+        self.front.versions()
     }
 
-    /// How many words the prologue of the version has.
+    /// How many words the prologue of these versions has.
     pub fn front_words(&self) -> usize
-        ensures count { result ≡ prologue_count (profile_of self.now.version) }
+        ensures count { result ≡ prologue_count (profile_with self.now.versions) }
         ensures most { result ≤ 20 }
-        ensures place { CODE_START + 4 * result ≡ (profile_of self.now.version).units_from }
+        ensures place { CODE_START + 4 * result ≡ (profile_with self.now.versions).units_from }
     {
         self.front.words()
     }
 
-    /// Where the first unit stands in the version.
+    /// Where the first unit stands in these versions.
     pub fn units_start(&self) -> u64
-        ensures { result ≡ (profile_of self.now.version).units_from }
+        ensures { result ≡ (profile_with self.now.versions).units_from }
     {
         self.front.start()
     }

@@ -74,21 +74,25 @@ fn word_of(entry: Entry) -> u32
         Entry::Inside => 0,
         Entry::Stop => FIELDS,
         Entry::Other => 2 * FIELDS,
-        Entry::Near(field) => 3 * FIELDS + field.bits(),
-        Entry::Branch(field) => 4 * FIELDS + field.bits(),
-        Entry::Jump(field) => 5 * FIELDS + field.bits(),
-        Entry::Call(field) => 6 * FIELDS + field.bits(),
+        Entry::WritesLink => 3 * FIELDS,
+        Entry::Return => 4 * FIELDS,
+        Entry::Break => 5 * FIELDS,
+        Entry::Stores => 6 * FIELDS,
+        Entry::Near(field) => 7 * FIELDS + field.bits(),
+        Entry::Branch(field) => 8 * FIELDS + field.bits(),
+        Entry::Jump(field) => 9 * FIELDS + field.bits(),
+        Entry::Call(field) => 10 * FIELDS + field.bits(),
         Entry::Ijump(which, label) => ijump_word(which, label),
-        Entry::Icall(label) => 8 * FIELDS + label.bits(),
-        Entry::Gate(label) => 10 * FIELDS + label.bits(),
-        Entry::Ecall => 11 * FIELDS,
+        Entry::Icall(label) => 12 * FIELDS + label.bits(),
+        Entry::Gate(label) => 14 * FIELDS + label.bits(),
+        Entry::Ecall => 15 * FIELDS,
         Entry::Guarded(same) => guarded_word(same),
-        Entry::LinkCall(field) => 14 * FIELDS + field.bits(),
-        Entry::LeanIjump(label) => 15 * FIELDS + label.bits(),
-        Entry::LeanIcall(label) => 16 * FIELDS + label.bits(),
-        Entry::Enter => 17 * FIELDS,
-        Entry::LeafReturn => 18 * FIELDS,
-        Entry::LeanStores => 19 * FIELDS,
+        Entry::LinkCall(field) => 18 * FIELDS + field.bits(),
+        Entry::LeanIjump(label) => 19 * FIELDS + label.bits(),
+        Entry::LeanIcall(label) => 20 * FIELDS + label.bits(),
+        Entry::Enter => 21 * FIELDS,
+        Entry::LeafReturn => 22 * FIELDS,
+        Entry::LeanStores => 23 * FIELDS,
     }
 }
 
@@ -98,9 +102,9 @@ fn ijump_word(which: TargetWord, label: Immediate<20>) -> u32
     ensures back { unpacked result ≡ E.Ijump which label }
 {
     match which {
-        TargetWord::First => 7 * FIELDS + label.bits(),
-        TargetWord::Second => 9 * FIELDS + label.bits(),
-        TargetWord::Third => 20 * FIELDS + label.bits(),
+        TargetWord::First => 11 * FIELDS + label.bits(),
+        TargetWord::Second => 13 * FIELDS + label.bits(),
+        TargetWord::Third => 24 * FIELDS + label.bits(),
     }
 }
 
@@ -109,14 +113,14 @@ fn guarded_word(same: bool) -> u32
     ensures word { result ≡ packed (E.Guarded same) }
     ensures back { unpacked result ≡ E.Guarded same }
 {
-    if same { 13 * FIELDS } else { 12 * FIELDS }
+    if same { 17 * FIELDS } else { 16 * FIELDS }
 }
 
 /// Whether the kind with a number is no transfer, no gate and no system call, whatever the field.
 fn is_quiet_kind(kind: u32, _field: u32) -> bool
     ensures { result ≡ is_quiet (of_kind kind _field) }
 {
-    kind < 3
+    kind < 7
 }
 
 /// Whether the kind with a number is that of a unit, whatever the field.
@@ -139,38 +143,46 @@ fn entry_of(word: u32) -> Entry
     } else if kind == 2 {
         Entry::Other
     } else if kind == 3 {
-        Entry::Near(Immediate::of(field % 4096))
+        Entry::WritesLink
     } else if kind == 4 {
-        Entry::Branch(Immediate::of(field))
+        Entry::Return
     } else if kind == 5 {
-        Entry::Jump(Immediate::of(field))
+        Entry::Break
     } else if kind == 6 {
-        Entry::Call(Immediate::of(field))
+        Entry::Stores
     } else if kind == 7 {
-        Entry::Ijump(TargetWord::First, Immediate::of(field))
+        Entry::Near(Immediate::of(field % 4096))
     } else if kind == 8 {
-        Entry::Icall(Immediate::of(field))
+        Entry::Branch(Immediate::of(field))
     } else if kind == 9 {
-        Entry::Ijump(TargetWord::Second, Immediate::of(field))
+        Entry::Jump(Immediate::of(field))
     } else if kind == 10 {
-        Entry::Gate(Immediate::of(field))
+        Entry::Call(Immediate::of(field))
     } else if kind == 11 {
-        Entry::Ecall
+        Entry::Ijump(TargetWord::First, Immediate::of(field))
     } else if kind == 12 {
-        Entry::Guarded(false)
+        Entry::Icall(Immediate::of(field))
     } else if kind == 13 {
-        Entry::Guarded(true)
+        Entry::Ijump(TargetWord::Second, Immediate::of(field))
     } else if kind == 14 {
-        Entry::LinkCall(Immediate::of(field))
+        Entry::Gate(Immediate::of(field))
     } else if kind == 15 {
-        Entry::LeanIjump(Immediate::of(field))
+        Entry::Ecall
     } else if kind == 16 {
-        Entry::LeanIcall(Immediate::of(field))
+        Entry::Guarded(false)
     } else if kind == 17 {
-        Entry::Enter
+        Entry::Guarded(true)
     } else if kind == 18 {
-        Entry::LeafReturn
+        Entry::LinkCall(Immediate::of(field))
     } else if kind == 19 {
+        Entry::LeanIjump(Immediate::of(field))
+    } else if kind == 20 {
+        Entry::LeanIcall(Immediate::of(field))
+    } else if kind == 21 {
+        Entry::Enter
+    } else if kind == 22 {
+        Entry::LeafReturn
+    } else if kind == 23 {
         Entry::LeanStores
     } else {
         Entry::Ijump(TargetWord::Third, Immediate::of(field))

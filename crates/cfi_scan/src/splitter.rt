@@ -1,5 +1,5 @@
 ghost use Rattle.std.specs.Prelude.{◌≡◌, ◌<◌, ◌≤◌, true, false, ℕ, List, IfOk, [], ◌∷◌, ◌++◌, length, slice_set};
-ghost use Rattle.rv_word.specs.MemoryMap.{profile_of};
+ghost use Rattle.rv_word.specs.MemoryMap.{profile_with};
 ghost use Rattle.cfi_reader.specs.Entries.{inside};
 ghost use Rattle.cfi_scan.specs.Pieces.{HasPlace};
 ghost use Rattle.cfi_reader.specs.Reading.{START, is_new};
@@ -8,7 +8,7 @@ ghost use Rattle.cfi_scan.specs.Stream.{IsSplitUp, Splits};
 use crate::front::Front;
 use crate::packed::Packed;
 use cfi_reader::{Entry, First, Reader, Step, first_word, is_plain_word, next};
-use rv_word::{ImageVersion, NoMemory, Numbers};
+use rv_word::{NoMemory, Numbers, Versions};
 use std::alloc::Global;
 
 /// The units of the words so far, under a list of system calls, which has no number where there is none: one entry for each word that there is room for, how many words belong
@@ -27,17 +27,17 @@ impl Splitter {
     /// No word yet, and room for some, under a list of system calls.
     pub(crate) fn new(
         alloc: Global,
-        version: ImageVersion,
+        versions: Versions,
         calls: Numbers,
         room: usize,
     ) -> Result<Splitter, NoMemory>
-        ensures version { IfOk result (λ s. s.front ≡ version) }
+        ensures versions { IfOk result (λ s. s.front ≡ versions) }
         ensures calls { IfOk result (λ s. s.calls ≡ calls) }
         ensures empty { IfOk result (λ s. (s.entries.items ≡ inside room) × (s.done ≡ 0) × (s.last ≡ 0) × (s.reader ≡ START)) }
         ensures room { IfOk result (λ s. length s.entries.items ≡ room) }
     {
         Ok(Splitter {
-            front: Front::new(version),
+            front: Front::new(versions),
             calls,
             entries: nothing(alloc, room)?,
             done: 0,
@@ -50,16 +50,17 @@ impl Splitter {
     #[inline(always)]
     pub(crate) fn take(&mut self, word: u32, index: usize)
         requires room { index < length self.old.entries.items }
-        requires small { HasPlace (profile_of self.old.front) self.old.entries.items }
-        ensures splits { (words : List ℕ) → length words ≡ index → Splits self.old.calls (profile_of self.old.front).units_from [] self.old.entries.items self.old.done self.old.last self.old.reader words → Splits self.old.calls (profile_of self.old.front).units_from [] self.new.entries.items self.new.done self.new.last self.new.reader (words ++ word ∷ []) }
+        requires small { HasPlace (profile_with self.old.front) self.old.entries.items }
+        ensures splits { (words : List ℕ) → length words ≡ index → Splits self.old.calls (profile_with self.old.front).units_from [] self.old.entries.items self.old.done self.old.last self.old.reader words → Splits self.old.calls (profile_with self.old.front).units_from [] self.new.entries.items self.new.done self.new.last self.new.reader (words ++ word ∷ []) }
         ensures front { self.new.front ≡ self.old.front }
         ensures calls { self.new.calls ≡ self.old.calls }
         ensures room { length self.new.entries.items ≡ length self.old.entries.items }
     {
         let _few = self.calls.len();
+        let here = self.front.start() + 4 * index as u64;
         if self.reader.is_new() {
             self.begin(word, index);
-        } else if self.reader.pass(word) {
+        } else if self.reader.pass(word, here) {
             return;
         } else if !self.reader.is_stuck() {
             self.go_on(word, index);
@@ -70,9 +71,9 @@ impl Splitter {
     #[inline(always)]
     fn begin(&mut self, word: u32, index: usize)
         requires room { index < length self.old.entries.items }
-        requires small { HasPlace (profile_of self.old.front) self.old.entries.items }
+        requires small { HasPlace (profile_with self.old.front) self.old.entries.items }
         requires new { is_new self.old.reader ≡ true }
-        ensures splits { (words : List ℕ) → length words ≡ index → Splits self.old.calls (profile_of self.old.front).units_from (word ∷ []) self.old.entries.items self.old.done self.old.last self.old.reader words → Splits self.old.calls (profile_of self.old.front).units_from [] self.new.entries.items self.new.done self.new.last self.new.reader (words ++ word ∷ []) }
+        ensures splits { (words : List ℕ) → length words ≡ index → Splits self.old.calls (profile_with self.old.front).units_from (word ∷ []) self.old.entries.items self.old.done self.old.last self.old.reader words → Splits self.old.calls (profile_with self.old.front).units_from [] self.new.entries.items self.new.done self.new.last self.new.reader (words ++ word ∷ []) }
         ensures front { self.new.front ≡ self.old.front }
         ensures calls { self.new.calls ≡ self.old.calls }
         ensures room { length self.new.entries.items ≡ length self.old.entries.items }
@@ -88,9 +89,9 @@ impl Splitter {
     #[inline(never)]
     fn open(&mut self, word: u32, index: usize)
         requires room { index < length self.old.entries.items }
-        requires small { HasPlace (profile_of self.old.front) self.old.entries.items }
+        requires small { HasPlace (profile_with self.old.front) self.old.entries.items }
         requires new { is_new self.old.reader ≡ true }
-        ensures splits { (words : List ℕ) → length words ≡ index → Splits self.old.calls (profile_of self.old.front).units_from (word ∷ []) self.old.entries.items self.old.done self.old.last self.old.reader words → Splits self.old.calls (profile_of self.old.front).units_from [] self.new.entries.items self.new.done self.new.last self.new.reader (words ++ word ∷ []) }
+        ensures splits { (words : List ℕ) → length words ≡ index → Splits self.old.calls (profile_with self.old.front).units_from (word ∷ []) self.old.entries.items self.old.done self.old.last self.old.reader words → Splits self.old.calls (profile_with self.old.front).units_from [] self.new.entries.items self.new.done self.new.last self.new.reader (words ++ word ∷ []) }
         ensures front { self.new.front ≡ self.old.front }
         ensures calls { self.new.calls ≡ self.old.calls }
         ensures room { length self.new.entries.items ≡ length self.old.entries.items }
@@ -106,9 +107,9 @@ impl Splitter {
     #[inline(never)]
     fn go_on(&mut self, word: u32, index: usize)
         requires room { index < length self.old.entries.items }
-        requires small { HasPlace (profile_of self.old.front) self.old.entries.items }
+        requires small { HasPlace (profile_with self.old.front) self.old.entries.items }
         requires begun { is_new self.old.reader ≡ false }
-        ensures splits { (words : List ℕ) → length words ≡ index → Splits self.old.calls (profile_of self.old.front).units_from [] self.old.entries.items self.old.done self.old.last self.old.reader words → Splits self.old.calls (profile_of self.old.front).units_from [] self.new.entries.items self.new.done self.new.last self.new.reader (words ++ word ∷ []) }
+        ensures splits { (words : List ℕ) → length words ≡ index → Splits self.old.calls (profile_with self.old.front).units_from [] self.old.entries.items self.old.done self.old.last self.old.reader words → Splits self.old.calls (profile_with self.old.front).units_from [] self.new.entries.items self.new.done self.new.last self.new.reader (words ++ word ∷ []) }
         ensures front { self.new.front ≡ self.old.front }
         ensures calls { self.new.calls ≡ self.old.calls }
         ensures room { length self.new.entries.items ≡ length self.old.entries.items }
@@ -127,8 +128,8 @@ impl Splitter {
     /// Ends the code, which has so many words: a branch over the word that would come next is a unit of
     /// its own, and so are stores.
     pub(crate) fn close(&mut self, count: usize)
-        requires small { HasPlace (profile_of self.old.front) self.old.entries.items }
-        ensures splits { (words : List ℕ) → length words ≡ count → count ≤ length self.old.entries.items → Splits self.old.calls (profile_of self.old.front).units_from [] self.old.entries.items self.old.done self.old.last self.old.reader words → IsSplitUp self.old.calls (profile_of self.old.front).units_from self.new.entries.items self.new.done self.new.last words }
+        requires small { HasPlace (profile_with self.old.front) self.old.entries.items }
+        ensures splits { (words : List ℕ) → length words ≡ count → count ≤ length self.old.entries.items → Splits self.old.calls (profile_with self.old.front).units_from [] self.old.entries.items self.old.done self.old.last self.old.reader words → IsSplitUp self.old.calls (profile_with self.old.front).units_from self.new.entries.items self.new.done self.new.last words }
         ensures front { self.new.front ≡ self.old.front }
         ensures calls { self.new.calls ≡ self.old.calls }
         ensures room { length self.new.entries.items ≡ length self.old.entries.items }

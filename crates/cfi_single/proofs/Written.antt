@@ -17,12 +17,12 @@ use Rattle.cfi_map.specs.LabelOf.{site_label}
 use Rattle.cfi_map.specs.Placement.{whole_at}
 use Rattle.cfi_unit.specs.declared.target_word.TargetWord.{TargetWord}
 use Rattle.cfi_unit.specs.declared.unit.Unit as U
-use Rattle.cfi_rules.specs.Rules.{jump_word}
 use Rattle.cfi_rules.specs.Split.{code_words}
 use Rattle.cfi_map.specs.Shorts.{is_branch}
 use Rattle.cfi_map.specs.Groups.{is_store}
 use Rattle.cfi_runs.specs.Distances.{field, level, lowest}
 use Rattle.cfi_runs.specs.GroupStores.{members_from}
+use Rattle.cfi_rules.specs.Lines.{jump_word}
 use Rattle.cfi_writer.specs.Units.{Choice, Group, followers, group_at, instr_of, is_later_at, lead, member_at, offset_at, unit_here, unit_of, unit_places, units, units_of}
 use Rattle.cfi_writer.proofs.Runs.{place_there}
 use Rattle.cfi_single.proofs.Placed.{SameSizes, is_sized}

@@ -17,13 +17,14 @@ use Rattle.cfi_rules.specs.Trails.{Begin, IsInPlace, if_own_begin, newest_of, tr
 use Rattle.cfi_rules.specs.Walks.{if_own, if_starts, walk_of}
 use Rattle.cfi_script.specs.Plan.{Plan, Planned, harts_of, numbered, planned, step_of, steps_of}
 use Rattle.cfi_step.specs.Report.{end_of, break_at}
-use Rattle.cfi_step.specs.Running.{is_stop, AreNoted, IsOver, StaysFrom, trails_of}
+use Rattle.cfi_step.specs.Running.{is_stop, AreNoted, IsOver, IsSameMachine, StaysFrom, trails_of}
 use Rattle.cfi_step.specs.Taken.{AreTurnsOf}
 use Rattle.cfi_step.specs.Trail.{IsTrailOf, TrailParts}
 use Rattle.cfi_step.specs.declared.report.RunEnd.{RunEnd}
 use Rattle.cfi_step.specs.declared.report.RunEnd.TheVariants as ends
 use Rattle.cfi_step.specs.declared.running.Running.{Running}
 use Rattle.cfi_step.specs.declared.turns.TakenTurns.{TakenTurns}
+use Rattle.cfi_step.proofs.SameSteps.{stepped_same}
 
 pub record Continues (p : Profile) (image : Contents) (count : ℕ) (harts0 : Harts) (s0 : Shared) (whole : List Planned) (k : ℕ) (harts : Harts) (s : Shared) (rest : List Planned) (made : List (ℕ × (ℕ × ℕ))) (taken : TakenTurns) (trails : List TrailParts) : Type 0 where
   pub steps : length whole ≡ k + length rest
@@ -155,13 +156,19 @@ pub record Took (q p : Profile) (image : Contents) (count : ℕ) (t : Planned) (
 abbrev pub step_at : Plan → ℕ → ℕ → Running → Planned
 step_at plan k count before = (plan.hart k count (harts_in before.machine) (harts_share before.machine), plan.changes k count (harts_in before.machine) (harts_share before.machine))
 
--- the same, where the profile, the count and the plan have other names
-pub took_so : (q p : Profile) (image : Contents) (n count : ℕ) (before_plan plan : Plan) (k : ℕ) (before after : Running) (turn : Turn) → q ≡ p → n ≡ count → before_plan ≡ plan
+-- the same by a profile with the machine's steps, where the count and the plan have other names
+pub took_so : (q p : Profile) (image : Contents) (n count : ℕ) (before_plan plan : Plan) (k : ℕ) (before after : Running) (turn : Turn) → IsSameMachine q p → n ≡ count → before_plan ≡ plan
     → Took q p image n (step_at before_plan k n before) k before after turn → Took p p image count (step_at plan k count before) k before after turn
 took_so q p image n count before_plan plan k before after turn profile counted planned_so took =
     subst (λ (x : Plan). Took p p image count (step_at x k count before) k before after turn) planned_so
     (subst (λ (x : ℕ). Took p p image x (step_at before_plan k x before) k before after turn) counted
-    (subst (λ (x : Profile). Took x p image n (step_at before_plan k n before) k before after turn) profile took))
+    (record {
+      stepped = took.stepped ∙ stepped_same q p profile (harts_in before.machine) (harts_share before.machine) (step_of (step_at before_plan k n before));
+      allowed = took.allowed;
+      made = took.made;
+      taken = took.taken;
+      noted = took.noted;
+    }))
 
 module _ (p : Profile) (image : Contents) (count : ℕ) (harts0 : Harts) (s0 : Shared) (whole : List Planned) (plan : Plan) (k n : ℕ) (before after : Running) (turn : Turn) where
   abbrev all_words : List ℕ

@@ -2,9 +2,11 @@ mod Changes
 mod Continues
 mod InTurns
 mod Noting
+mod PairProfile
 mod Preparing
 mod Replay
 mod Reported
+mod SameSteps
 mod Started
 mod Stepping
 mod Stretched

@@ -18,7 +18,7 @@ use Rattle.cfi_rules.proofs.Trails.{safe_stays}
 use Rattle.cfi_script.specs.Plan.{Plan, Planned, harts_of, numbered, planned, steps_of}
 use Rattle.cfi_script.specs.Turns.{turns_of}
 use Rattle.cfi_step.specs.Report.{IsReport, IsWalkOf, stopping_hart}
-use Rattle.cfi_step.specs.Running.{IsBegun, IsOver, StaysFrom, trails_of}
+use Rattle.cfi_step.specs.Running.{IsBegun, IsOver, IsSameMachine, StaysFrom, trails_of}
 use Rattle.cfi_step.specs.Taken.{AreTurnsOf}
 use Rattle.cfi_step.specs.Trail.{IsTrailOf, told_of}
 use Rattle.cfi_step.specs.declared.report.HartWalk.{HartWalk}
@@ -29,7 +29,7 @@ use Rattle.cfi_step.specs.declared.running.Running.{Running}
 -- a run of a safe pair that is to begin
 pub begins : (p : Profile) (image : Contents) (graph : GraphParts) (input : List ℕ) (count : ℕ) (running : Running) → IsSafe p image graph → MayRun p count
     → length running.machine.resting ≡ count → harts_in running.machine ≡ start_hart → harts_share running.machine ≡ start_shared image input
-    → profile_of running.machine.processor.memory.version ≡ p → running.made ≡ [] → AreTurnsOf [] running.taken → running.taken.hart ≡ 0
+    → IsSameMachine (profile_of running.machine.processor.memory.version) p → running.made ≡ [] → AreTurnsOf [] running.taken → running.taken.hart ≡ 0
     → running.machine.current ≡ 0 → length running.resting.items ≡ count → All (IsTrailOf []) (trails_of running) → running.quiet ≡ 0 → running.still ≡ 0 → IsBegun p image running
 begins p image graph input count running safe may counted harts shared profile made taken last current each empty quiet still = record {
   profile = profile;

@@ -5,7 +5,8 @@ use Rattle.std.proofs.lemmas.List.{get_or-set_same, length-set}
 use Rattle.std.proofs.lemmas.Option.{slice_get-get_or}
 use Rattle.rv_word.specs.Image.{Contents}
 use Rattle.rv_word.specs.MemoryMap.{CODE_START, Profile, profile_of}
-use Rattle.rv_code.specs.Run.{IsStepOf, stepped}
+use Rattle.rv_word.specs.declared.version.ImageVersion.{ImageVersion}
+use Rattle.rv_code.specs.Run.{IsStepOf, RunAfter, stepped}
 use Rattle.rv_code.specs.State.{Harts, Shared}
 use Rattle.rv_code.specs.declared.turn.Turn.{Turn}
 use Rattle.rv_code.specs.declared.turn.Turn.TheVariants.{Ran, Exit, Break, LoadFault, StoreFault, FetchFault, Illegal}
@@ -16,7 +17,7 @@ use Rattle.cfi_rules.specs.Along.{MayEnd}
 use Rattle.cfi_rules.specs.Split.{code_words, place_at}
 use Rattle.cfi_script.specs.Plan.{Plan, Planned, planned, step_of}
 use Rattle.cfi_step.specs.Report.{end_of}
-use Rattle.cfi_step.specs.Running.{is_stop, AreNoted, IsOver, IsReady, StaysFrom, trails_of}
+use Rattle.cfi_step.specs.Running.{is_stop, AreNoted, IsOver, IsReady, IsSameMachine, StaysFrom, trails_of}
 use Rattle.cfi_step.specs.Starts.{AreStartsOf}
 use Rattle.cfi_step.specs.Stretch.{at, AreQuiet, IsQuiet, IsStaying, IsStretch, MayFetch, goes_on, stops}
 use Rattle.cfi_step.specs.Taken.{AreTurnsOf}
@@ -27,6 +28,7 @@ use Rattle.cfi_step.proofs.Continues.{Continues, Took, has_end, may_end, next, s
 use Rattle.cfi_step.proofs.Noting.{selected_pc}
 use Rattle.cfi_step.proofs.Preparing as preparing
 use Rattle.cfi_step.proofs.Preparing.{ready_next}
+use Rattle.cfi_step.proofs.SameSteps.{stepped_same}
 use Rattle.cfi_step.proofs.TurnsTaken.{takes_own}
 
 -- what is noted of a word is so at its address
@@ -72,28 +74,30 @@ no_end place pc (Illegal a) may none = may
 
 -- where a run stays in its place there is an instruction, and it stays so after a step
 module _ (before : Running) (staying : IsStaying before) where
-  abbrev now : Profile
-  now = profile_of before.machine.processor.memory.version
+  abbrev own_steps : Profile
+  own_steps = profile_of before.machine.processor.memory.version
 
   one_step : (hart : ℕ) → hart < length before.machine.resting → IsStepOf (length before.machine.resting) (step_of (hart, []))
   one_step hart below = record { hart = below; changes = tt }
 
   pub may_fetch : before.machine.current < length before.machine.resting → MayFetch before
   may_fetch below none =
-      let (place, may) = may_end now staying.image (length before.machine.resting) (harts_in before.machine) (harts_share before.machine) (before.machine.current, []) staying.newest staying.stays
+      let (place, may) = may_end staying.profile staying.image (length before.machine.resting) (harts_in before.machine) (harts_share before.machine) (before.machine.current, []) staying.newest staying.stays
       (one_step before.machine.current below) in
-      no_end place _ _ may none
+      let same = stepped_same own_steps staying.profile staying.same (harts_in before.machine) (harts_share before.machine) (step_of (before.machine.current, [])) in
+      no_end place _ _ may (subst (λ (a : RunAfter). IsNoFetch a.turn) same none)
 
   pub stays_on : (p : Profile) (words : List ℕ) (after : Running) → before.taken.hart < length before.machine.resting → IsQuiet p words before after Ran → IsStaying after
   stays_on p words after below quiet =
-      let (newest, stays) = stays_next now staying.image (length before.machine.resting) (harts_in before.machine) (harts_share before.machine) (before.taken.hart, []) staying.newest staying.stays
-      (one_step before.taken.hart below) (run_after after.machine Ran) quiet.stepped refl in
+      let (newest, stays) = stays_next staying.profile staying.image (length before.machine.resting) (harts_in before.machine) (harts_share before.machine) (before.taken.hart, []) staying.newest staying.stays
+      (one_step before.taken.hart below) (run_after after.machine Ran)
+      (quiet.stepped ∙ stepped_same own_steps staying.profile staying.same (harts_in before.machine) (harts_share before.machine) (step_of (before.taken.hart, []))) refl in
       record {
+        profile = staying.profile;
+        same = ap (λ (v : ImageVersion). (profile_of v).shadow_size) quiet.version ∙ staying.same;
         image = staying.image;
         newest = newest;
-        stays =
-            subst (λ (q : Profile). StaysFrom q staying.image (length after.machine.resting) newest (harts_in after.machine) (harts_share after.machine)) (sym (ap profile_of quiet.version))
-            (subst (λ (n : ℕ). StaysFrom now staying.image n newest (harts_in after.machine) (harts_share after.machine)) (sym (ap (λ (r : List HartParts). length r) quiet.resting)) stays);
+        stays = subst (λ (n : ℕ). StaysFrom staying.profile staying.image n newest (harts_in after.machine) (harts_share after.machine)) (sym (ap (λ (r : List HartParts). length r) quiet.resting)) stays;
       }
 
 -- before the first of the steps
@@ -161,7 +165,7 @@ module _ (p : Profile) (image : Contents) (plan : Plan) (k : ℕ) (before after 
     noted = quiet.noted;
   }
 
-  pub quiet_took : (count : ℕ) → own_version ≡ p → length before.machine.resting ≡ count → Took p p image count (step_at plan k count before) k before after turn
+  pub quiet_took : (count : ℕ) → IsSameMachine own_version p → length before.machine.resting ≡ count → Took p p image count (step_at plan k count before) k before after turn
   quiet_took count profile counted =
       took_so own_version p image (length before.machine.resting) count plan plan k before after turn profile counted refl
       (subst (λ (t : Planned). Took own_version p image (length before.machine.resting) t k before after turn) planned_so took_own)
@@ -178,7 +182,7 @@ pub record IsUnderWay (p : Profile) (image : Contents) (count : ℕ) (harts0 : H
   pub bound : k ≤ limit
   pub ready : IsReady plan k running
   pub counted : length running.machine.resting ≡ count
-  pub profile : profile_of running.machine.processor.memory.version ≡ p
+  pub profile : IsSameMachine (profile_of running.machine.processor.memory.version) p
   pub stays : (newest : ℕ → ℕ) × StaysFrom p image count newest (harts_in running.machine) (harts_share running.machine)
   pub continues : Continues p image count harts0 s0 (planned p plan count 0 harts0 s0 limit) k (harts_in running.machine) (harts_share running.machine)
       (planned p plan count k (harts_in running.machine) (harts_share running.machine) (limit - k)) running.made running.taken (trails_of running)
@@ -199,7 +203,7 @@ module _ (p : Profile) (image : Contents) (count : ℕ) (harts0 : Harts) (s0 : S
     bound = omega arith;
     ready = ready;
     counted = counted ∙ way.counted;
-    profile = ap profile_of version ∙ way.profile;
+    profile = ap (λ (v : ImageVersion). (profile_of v).shadow_size) version ∙ way.profile;
     stays = stays_next p image count (harts_in before.machine) (harts_share before.machine) (step_at plan k count before) way.stays.0 way.stays.1 took.allowed _ took.stepped goes;
     continues = next p image count harts0 s0 whole plan k (limit - (k + 1)) before after turn limit (omega arith) goes way.continues took;
   }
@@ -217,11 +221,11 @@ module _ (p : Profile) (image : Contents) (count : ℕ) (harts0 : Harts) (s0 : S
   -- what a stretch asks of it
   pub way_stays : (k : ℕ) (running : Running) → UnderWay k running → IsStaying running
   way_stays k running way = record {
+    profile = p;
+    same = way.profile;
     image = image;
     newest = way.stays.0;
-    stays =
-        subst (λ (q : Profile). StaysFrom q image (length running.machine.resting) way.stays.0 (harts_in running.machine) (harts_share running.machine)) (sym way.profile)
-        (subst (λ (n : ℕ). StaysFrom p image n way.stays.0 (harts_in running.machine) (harts_share running.machine)) (sym way.counted) way.stays.1);
+    stays = subst (λ (n : ℕ). StaysFrom p image n way.stays.0 (harts_in running.machine) (harts_share running.machine)) (sym way.counted) way.stays.1;
   }
 
   -- along quiet steps

@@ -29,6 +29,10 @@ is_stop (StoreFault pc address) = true
 is_stop (FetchFault pc) = true
 is_stop (Illegal pc) = true
 
+-- machines of these two profiles take the same steps: a step asks nothing else of its profile
+abbrev pub IsSameMachine : Profile → Profile → Type 0
+IsSameMachine q p = q.shadow_size ≡ p.shadow_size
+
 -- a run from this state stays in its place, whichever harts step and whatever changes data: each begun instruction of
 -- each hart is in its place, from the newest address of its walk
 abbrev pub StaysFrom : Profile → Contents → ℕ → (ℕ → ℕ) → Harts → Shared → Type 0
@@ -94,9 +98,9 @@ abbrev pub AreNoted : Profile → List ℕ → ℕ → ℕ → List TrailParts �
 AreNoted p words hart pc before after =
     (k : ℕ) (t : TrailParts) → slice_get after k ≡ Some t → (old : TrailParts) × (slice_get before k ≡ Some old) × IsNoted p words hart pc k old t
 
--- a run that is to begin
+-- a run that is to begin, in an image whose places stand as a profile says
 pub record IsBegun (p : Profile) (image : Contents) (running : Running) : Type 0 where
-  pub profile : profile_of running.machine.processor.memory.version ≡ p
+  pub profile : IsSameMachine (profile_of running.machine.processor.memory.version) p
   pub made : running.made ≡ []
   pub taken : AreTurnsOf [] running.taken
   pub last : running.taken.hart ≡ 0

@@ -7,7 +7,7 @@ use Rattle.rv_code.specs.declared.turn.Turn.{Turn}
 use Rattle.rv_code.specs.declared.turn.Turn.TheVariants.{Ran}
 use Rattle.rv_machine.specs.Harts.{at_pc, harts_in, harts_share, run_after}
 use Rattle.rv_machine.specs.Parts.{IsNoFetch}
-use Rattle.cfi_step.specs.Running.{is_stop, AreNoted, StaysFrom, trails_of}
+use Rattle.cfi_step.specs.Running.{is_stop, AreNoted, IsSameMachine, StaysFrom, trails_of}
 use Rattle.cfi_step.specs.Starts.{AreStartsOf}
 use Rattle.cfi_step.specs.declared.running.Running.{Running}
 
@@ -34,11 +34,14 @@ abbrev pub MayFetch : Running → Type 0
 MayFetch running =
     IsNoFetch (stepped (profile_of running.machine.processor.memory.version) (harts_in running.machine) (harts_share running.machine) (record { hart = running.machine.current; changes = [] })).turn → ⊥
 
--- each begun instruction of each hart is in its place from here on
+-- each begun instruction of each hart is in its place from here on; the places stand as a profile says that has the
+-- machine's steps
 pub record IsStaying (running : Running) : Type 0 where
+  pub profile : Profile
+  pub same : IsSameMachine (profile_of running.machine.processor.memory.version) profile
   pub image : Contents
   pub newest : ℕ → ℕ
-  pub stays : StaysFrom (profile_of running.machine.processor.memory.version) image (length running.machine.resting) newest (harts_in running.machine) (harts_share running.machine)
+  pub stays : StaysFrom profile image (length running.machine.resting) newest (harts_in running.machine) (harts_share running.machine)
 
 -- so many such steps, after each of which the run goes on
 unfoldable pub AreQuiet : Profile → List ℕ → Running → ℕ → Running → Type 0

@@ -2,7 +2,7 @@
 
 ghost use Rattle.std.specs.Prelude.{◌≡◌, ◌≤◌, ◌<◌, ◌+◌, ◌^◌, ◌++◌, ◌∷◌, [], ℕ, List, None, Some, is_some, length, map, min, slice_set, IfOk, OnOk};
 ghost use Rattle.std.specs.List.{All, AllByRecursion};
-ghost use Rattle.rv_word.specs.Image.{image_profile};
+ghost use Rattle.cfi_rules.specs.Rules.{pair_profile};
 ghost use Rattle.rv_word.specs.MemoryMap.{Profile, profile_of};
 ghost use Rattle.rv_code.specs.Run.{IsDataChange, IsStepOf, disturbed, stepped};
 ghost use Rattle.rv_code.specs.State.{last_exit, start_hart, start_shared};
@@ -259,7 +259,7 @@ impl Running {
         ensures quiet { self.new.quiet ≡ self.old.quiet }
         ensures still { self.new.still ≡ self.old.still }
         ensures resting { self.new.resting ≡ self.old.resting }
-        ensures trails { AreNoted (image_profile checked.now.image) (code_words checked.now.image.code) self.old.taken.hart
+        ensures trails { AreNoted (pair_profile checked.now.image checked.now.graph) (code_words checked.now.image.code) self.old.taken.hart
             (harts_in self.old.machine self.old.taken.hart).pc (trails_of self.old) (trails_of self.new) }
     {
         let pc = self.machine.pc_of_selected();
@@ -368,7 +368,7 @@ impl Running {
         ensures made { OnOk result (self.new.made ≡ self.old.made ++ map (λ c. (step, c)) (changes_in_plan (M.plan meddler.old) step self.old.machine)) }
         ensures taken { OnOk result ((harts : List ℕ) → length harts ≡ step → AreTurnsOf harts self.old.taken
             → AreTurnsOf (harts ++ hart_in_plan (M.plan meddler.old) step self.old.machine ∷ []) self.new.taken) }
-        ensures noted { OnOk result (AreNoted (image_profile checked.now.image) (code_words checked.now.image.code)
+        ensures noted { OnOk result (AreNoted (pair_profile checked.now.image checked.now.graph) (code_words checked.now.image.code)
             (hart_in_plan (M.plan meddler.old) step self.old.machine) (harts_in self.old.machine (hart_in_plan (M.plan meddler.old) step self.old.machine)).pc
             (trails_of self.old) (trails_of self.new)) }
         ensures ready { OnOk result (IsReady (M.plan meddler.old) (step + 1) self.new) }

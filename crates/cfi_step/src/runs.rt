@@ -2,6 +2,7 @@
 
 ghost use Rattle.std.specs.Prelude.{◌≡◌, ℕ, length, IfOk, OnOk};
 ghost use Rattle.rv_word.specs.Image.{image_profile};
+ghost use Rattle.cfi_rules.specs.Rules.{pair_profile};
 ghost use Rattle.rv_word.specs.MemoryMap.{MayRun};
 ghost use Rattle.rv_code.specs.State.{start_hart, start_shared};
 ghost use Rattle.rv_machine.specs.Harts.{harts_in, harts_share};
@@ -30,11 +31,11 @@ fn finish<M: Meddler>(
     limit: u64,
     running: &mut Running,
 ) -> Result<(RunEnd, u64), NoMemory>
-    requires starts { AreStartsOf (image_profile checked.now.image) (code_words checked.now.image.code) starts.now }
-    requires begun { IsBegun (image_profile checked.now.image) checked.now.image running.old }
-    ensures over { IfOk result (λ r. IsOver (image_profile checked.now.image) checked.now.image (length running.old.machine.resting)
+    requires starts { AreStartsOf (pair_profile checked.now.image checked.now.graph) (code_words checked.now.image.code) starts.now }
+    requires begun { IsBegun (pair_profile checked.now.image checked.now.graph) checked.now.image running.old }
+    ensures over { IfOk result (λ r. IsOver (pair_profile checked.now.image checked.now.graph) checked.now.image (length running.old.machine.resting)
         (harts_in running.old.machine) (harts_share running.old.machine)
-        (planned (image_profile checked.now.image) (M.plan meddler.old) (length running.old.machine.resting) 0
+        (planned (pair_profile checked.now.image checked.now.graph) (M.plan meddler.old) (length running.old.machine.resting) 0
         (harts_in running.old.machine) (harts_share running.old.machine) limit) r.0 r.1 running.new) }
     ensures kept { meddler.new ≡ meddler.old }
 {
@@ -67,19 +68,19 @@ pub fn run<M: Meddler>(
     requires { MayRun (image_profile checked.now.image) harts }
 
     // The report is that of the run in the steps that the plan makes.
-    ensures report { IfOk result (IsReport (image_profile checked.now.image) checked.now.image input.now harts
-        (planned (image_profile checked.now.image) (M.plan meddler.old) harts 0 start_hart (start_shared checked.now.image input.now) limit)) }
+    ensures report { IfOk result (IsReport (pair_profile checked.now.image checked.now.graph) checked.now.image input.now harts
+        (planned (pair_profile checked.now.image checked.now.graph) (M.plan meddler.old) harts 0 start_hart (start_shared checked.now.image input.now) limit)) }
 
     // Its turns and the changes that were made are a script, and a run under that script takes the same steps again.
     ensures script { IfOk result (λ report. IsScript report.made) }
     ensures replayed { IfOk result (λ report.
-        planned (image_profile checked.now.image) (script_plan (record { harts = harts; turns = report.turns; changes = report.made })) harts 0 start_hart (start_shared checked.now.image input.now) limit
-        ≡ planned (image_profile checked.now.image) (M.plan meddler.old) harts 0 start_hart (start_shared checked.now.image input.now) limit) }
+        planned (pair_profile checked.now.image checked.now.graph) (script_plan (record { harts = harts; turns = report.turns; changes = report.made })) harts 0 start_hart (start_shared checked.now.image input.now) limit
+        ≡ planned (pair_profile checked.now.image checked.now.graph) (M.plan meddler.old) harts 0 start_hart (start_shared checked.now.image input.now) limit) }
 
     // The walk of each hart in that run is a list of steps of the graph walk.
-    ensures walk { OnOk result ((k : ℕ) → IsGraphWalk (image_profile checked.now.image) (code_words checked.now.image.code) checked.now.graph.lines
-        (walk_of (image_profile checked.now.image) (code_words checked.now.image.code) k start_hart (start_shared checked.now.image input.now)
-        (steps_of (planned (image_profile checked.now.image) (M.plan meddler.old) harts 0 start_hart (start_shared checked.now.image input.now) limit)))) }
+    ensures walk { OnOk result ((k : ℕ) → IsGraphWalk (pair_profile checked.now.image checked.now.graph) (code_words checked.now.image.code) checked.now.graph.lines
+        (walk_of (pair_profile checked.now.image checked.now.graph) (code_words checked.now.image.code) k start_hart (start_shared checked.now.image input.now)
+        (steps_of (planned (pair_profile checked.now.image checked.now.graph) (M.plan meddler.old) harts 0 start_hart (start_shared checked.now.image input.now) limit)))) }
 
     // The meddler is as it was, so that the next run is under the same plan.
     ensures kept { meddler.new ≡ meddler.old }

@@ -1,7 +1,7 @@
 //! Where something starts in the code of an image.
 
 ghost use Rattle.std.specs.Prelude.{◌≡◌, IfOk, slice_get};
-ghost use Rattle.rv_word.specs.Image.{image_profile};
+ghost use Rattle.cfi_rules.specs.Rules.{pair_profile};
 ghost use Rattle.cfi_rules.specs.Split.{code_words};
 ghost use Rattle.cfi_step.specs.Starts.{AreStartsOf};
 
@@ -28,7 +28,7 @@ impl Model for Starts {
 impl Starts {
     /// Of the words of an image.
     pub(crate) fn of(alloc: Global, checked: &Checked<'_>) -> Result<Starts, NoMemory>
-        ensures { IfOk result (AreStartsOf (image_profile checked.now.image) (code_words checked.now.image.code)) }
+        ensures { IfOk result (AreStartsOf (pair_profile checked.now.image checked.now.graph) (code_words checked.now.image.code)) }
     {
         let count = checked.image().code().len() / 4;
         let mut words = Vec::new(alloc);

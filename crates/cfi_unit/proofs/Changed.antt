@@ -1,7 +1,7 @@
 -- The facts of a word: where its pc is, that they begin where a unit is entered, and that changes
 -- outside of the own part of the shadow keep them.
 use Rattle.std.proofs.Common.{◌≡◌, ℕ, suc, ◌+◌, ◌<◌, inl, inr, List, [], ◌∷◌, length, refl, ◌∙◌, arith}
-use Rattle.rv_word.specs.MemoryMap.{PART_SIZE, IsProfile, Profile, part_of}
+use Rattle.rv_word.specs.MemoryMap.{PART_SIZE, IsFullProfile, Profile, part_of}
 use Rattle.rv_word.specs.Memory.{Memory, read}
 use Rattle.rv_word.specs.Same.{SameOn}
 use Rattle.rv_instr.specs.Registers.{Registers}
@@ -104,7 +104,7 @@ module _ (part : ℕ) (image : Memory) (at : ℕ) (h : Hart) (m : Memory) where
   unit_begins V.LeafReturn site pending x3 e asks = leaf_jump e x3 refl
   unit_begins other site pending x3 e asks = only e x3
 
-  opening_begins : (p : Profile) → IsProfile p → part ≡ part_of (h.regs 10) → h.pc ≡ OPENING → InOpening p part h m
+  opening_begins : (p : Profile) → IsFullProfile p → part ≡ part_of (h.regs 10) → h.pc ≡ OPENING → InOpening p part h m
   opening_begins p (inl version) own e = opening_lone version (lone_stack e)
   opening_begins p (inr version) own e = opening_own version (own_stack e own)
 

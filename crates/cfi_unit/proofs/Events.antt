@@ -126,7 +126,7 @@ module _ (p : Profile) (part : ℕ) (image : Memory) (at : ℕ) (pending : List 
   pub place_may : (place : Place) → MayStand p place at pending → InPlace p part image place at pending r h m →
       slice_get (place_instrs p place at) k ≡ Some Ecall → MayCall place at h
   place_may handler may i is = absurd (nowhere false handler_instrs k Ecall refl refl is)
-  place_may (opening entry) may i is = absurd (nowhere false (opening_instrs p entry) k Ecall refl (opening_lacks false p may.0 entry) is)
+  place_may (opening entry) may i is = absurd (nowhere false (opening_instrs p entry) k Ecall refl (opening_lacks false p (inl may.0) entry) is)
   place_may closing may i is = let word = closing_call k is in closing_may i (omega arith)
   place_may (body unit) may i is = unit_may unit may.0 i is
 

@@ -53,7 +53,7 @@ gate_unit other at k label fits is = other_unit other at k label refl is
 gate_place : (p : Profile) (pending : List ℕ) (place : Place) (at k label : ℕ) → MayStand p place at pending →
     slice_get (place_instrs p place at) k ≡ Some (gate label) → (place ≡ body (V.Gate label)) × (k ≡ 0)
 gate_place p pending handler at k label may is = absurd (nowhere true (place_instrs p handler at) k (gate label) refl refl is)
-gate_place p pending (opening entry) at k label may is = absurd (nowhere true (place_instrs p (opening entry) at) k (gate label) refl (opening_lacks true p may.0 entry) is)
+gate_place p pending (opening entry) at k label may is = absurd (nowhere true (place_instrs p (opening entry) at) k (gate label) refl (opening_lacks true p (inl may.0) entry) is)
 gate_place p pending closing at k label may is = absurd (nowhere true (place_instrs p closing at) k (gate label) refl refl is)
 gate_place p pending (body unit) at k label may is =
     let found = gate_unit unit at k label may.0 is in (ap body found.0, found.1)
@@ -66,7 +66,7 @@ unit_size unit at = let words = length-map (instrs_of unit at) code_of in let co
 pub place_length : (p : Profile) (pending : List ℕ) (place : Place) (at : ℕ) → MayStand p place at pending →
     4 * length (place_instrs p place at) ≡ place_size p place
 place_length p pending handler at may = refl
-place_length p pending (opening entry) at may = let whole = opening_length p may.0 entry in omega arith
+place_length p pending (opening entry) at may = let whole = opening_length p (inl may.0) entry in omega arith
 place_length p pending closing at may = refl
 place_length p pending (body unit) at may = unit_size unit at
 

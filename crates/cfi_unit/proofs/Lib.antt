@@ -33,7 +33,7 @@ pub mod UnitSteps
 pub mod Changed
 pub mod PlaceWords
 pub mod Others
-mod Sought
+pub mod Sought
 pub mod Gates
 pub mod Events
 pub mod Vectors

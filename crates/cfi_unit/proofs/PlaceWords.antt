@@ -1,7 +1,7 @@
 -- The pc of a word's facts is a word of what stands there.
 use Rattle.std.proofs.Common.{◌≡◌, ℕ, ◌+◌, ◌-◌, ◌*◌, ◌/◌, ◌<◌, ◌≤◌, List, [], ◌∷◌, length, arith}
 use Rattle.std.proofs.lemmas.Option.{slice_get_within}
-use Rattle.rv_word.specs.MemoryMap.{IsProfile, Profile}
+use Rattle.rv_word.specs.MemoryMap.{IsFullProfile, Profile}
 use Rattle.rv_word.specs.Memory.{Memory}
 use Rattle.rv_instr.specs.Registers.{Registers}
 use Rattle.rv_code.specs.State.{Hart}
@@ -132,7 +132,7 @@ module _ {part : ℕ} {h : Hart} where
     enter_word (enter_grow e x3 room stored) = (4, omega arith, e)
 
     -- one of the opening's first eleven words, or of its call's
-    opening_word : (p : Profile) → IsProfile p → InOpening p part h m → (k : ℕ) × (4 * k < p.closing - OPENING) × (h.pc ≡ OPENING + 4 * k)
+    opening_word : (p : Profile) → IsFullProfile p → InOpening p part h m → (k : ℕ) × (4 * k < p.closing - OPENING) × (h.pc ≡ OPENING + 4 * k)
     opening_word p is (opening_lone version i) = let w = lone_word i in let below = w.1 in let site = call_site p is in (w.0, omega arith, w.2)
     opening_word p is (opening_own version i) = let w = own_word i in let below = w.1 in let site = call_site p is in (w.0, omega arith, w.2)
     opening_word p is (opening_call v i) =

@@ -2,7 +2,7 @@
 use Rattle.std.proofs.Common.{◌≡◌, ℕ, suc, ◌+◌, ◌-◌, ◌*◌, ◌^◌, ◌<◌, ◌≤◌, inl, inr, List, [], ◌∷◌, length, replicate, Some, refl, sym, subst, ◌∙◌, arith}
 use Rattle.std.specs.Prelude.{slice_get}
 use Rattle.rv_word.specs.Bits.{wrap}
-use Rattle.rv_word.specs.MemoryMap.{IsProfile, Profile, SHADOW_START, part_of, version_1, version_2}
+use Rattle.rv_word.specs.MemoryMap.{IsFullProfile, Profile, SHADOW_START, part_of, version_1, version_2}
 use Rattle.rv_word.specs.Memory.{Memory}
 use Rattle.rv_instr.specs.Registers.{Registers, set_reg}
 use Rattle.rv_instr.specs.declared.instr.Instr.{Instr}
@@ -20,7 +20,7 @@ use Rattle.cfi_unit.specs.Between.{Unchanged, DataChanged}
 use Rattle.cfi_unit.specs.Leaving.{LeftTo, SameRegisters, SameScratch, pushed}
 use Rattle.cfi_unit.specs.EffectLaw.{DoneWithin, GoesOn, Inside, UnitIsDone}
 use Rattle.cfi_unit.specs.PrologueEffect.{stack_of, OpeningDoes, OpeningIsDone, ClosingDoes, EntersOpening, EntersClosing, OpeningEffect, OpeningKeepsRegisters, ClosingEffect, ClosingKeepsRegisters}
-use Rattle.cfi_unit.proofs.Parts.{call_site, own_is_part, set_up_length}
+use Rattle.cfi_unit.proofs.Parts.{call_site, opening_parts, own_is_part, set_up_length}
 use Rattle.cfi_unit.proofs.Context.{at_word, stand_back}
 use Rattle.cfi_unit.proofs.EffectSteps.{IsHarmless, Now, before, same_again, same_link, same_set}
 use Rattle.cfi_unit.proofs.EffectTransfers.{call_does}
@@ -100,7 +100,7 @@ module _ (may : Shared → Shared → Type 0) (harmless : IsHarmless may) (p : P
     Does = OpeningIsDone p image base may entry hart h s
 
     own : IsPart p (part_of hart)
-    own = own_is_part p i.is hart i.below
+    own = own_is_part p (inl i.is) hart i.below
 
     -- a word of the opening
     opens : (n k : ℕ) (instr : Instr) (h' : Hart) (s' : Shared) → may s s' → slice_get (opening_instrs p entry) k ≡ Some instr →
@@ -148,7 +148,7 @@ module _ (may : Shared → Shared → Type 0) (harmless : IsHarmless may) (p : P
           within_map (Inside regs) may p GoesOn may 8 (UnitIsDone p (part_of hart) image base may h' s' (V.Call entry) (call_at p) []) Does
           (before h' s') (λ b here. here.turn) (λ a b t. t) from_call
           (inr (call_does (call_at p) [] now e ready.pointer (omega arith) entry i.fits
-          (subst (λ (at : ℕ). Stand image at (instrs_of (V.Call entry) (call_at p))) (set_up_length p i.is) (stand_back (set_up p) _ i.stands))))
+          (subst (λ (at : ℕ). Stand image at (instrs_of (V.Call entry) (call_at p))) (set_up_length p i.is) (stand_back (set_up p) _ (subst (λ (is : List Instr). Stand image OPENING is) (opening_parts p i.is entry) i.stands)))))
 
   pub closing_does : (part : ℕ) (at : ℕ) (pending : List ℕ) (h : Hart) (s : Shared) → EntersClosing p part image base at pending h s →
       Onward GoesOn may p 1 (ClosingDoes p may h s) (before h s)
@@ -222,7 +222,7 @@ module _ (may : Shared → Shared → Type 0) (harmless : IsHarmless may) (image
       )
 
 -- the opening has a word
-one_word : (p : Profile) → IsProfile p → (entry : ℕ) → suc (length (opening_instrs p entry) - 1) ≡ length (opening_instrs p entry)
+one_word : (p : Profile) → IsFullProfile p → (entry : ℕ) → suc (length (opening_instrs p entry) - 1) ≡ length (opening_instrs p entry)
 one_word p (inl e) entry =
     subst (λ (x : Profile). suc (length (opening_instrs x entry) - 1) ≡ length (opening_instrs x entry)) (sym e) refl
 one_word p (inr e) entry =

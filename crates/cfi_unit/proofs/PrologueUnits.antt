@@ -1,8 +1,9 @@
 -- The handlers, the opening and the closing.
 use Rattle.std.proofs.Common.{◌≡◌, ℕ, List, [], ◌∷◌, ◌++◌, refl, sym, ap, subst, arith}
-use Rattle.rv_word.specs.MemoryMap.{IsProfile, Profile, version_1, version_2}
+use Rattle.rv_word.specs.MemoryMap.{IsFullProfile, IsProfile, Profile, version_1, version_2}
 use Rattle.rv_word.specs.Memory.{Memory}
 use Rattle.rv_instr.specs.Registers.{Registers}
+use Rattle.rv_instr.specs.declared.instr.Instr.{Instr}
 use Rattle.rv_instr.specs.declared.instr.Instr.TheVariants.{Ebreak}
 use Rattle.rv_code.specs.State.{Hart, Shared, After}
 use Rattle.rv_code.specs.Step.{step}
@@ -19,7 +20,7 @@ use Rattle.cfi_unit.specs.Leads.{Calls}
 use Rattle.cfi_unit.specs.InPlace.{InLoneSetUp, lone_stack, lone_shadow, lone_slot, InOwnSetUp, own_stack, own_stack_offset, own_stack_end, own_shadow, own_offset, own_part, own_slot, InOpening, opening_lone, opening_own, opening_call, InClosing, closing_number, closing_ecall, call_push, push_slli}
 use Rattle.cfi_unit.specs.UnitLaw.{Outcome, stays, leaves, ends}
 use Rattle.cfi_unit.proofs.Context.{at_word, stand_front, stand_back}
-use Rattle.cfi_unit.proofs.Parts.{call_site, lone_part, opening_length, set_up_length}
+use Rattle.cfi_unit.proofs.Parts.{call_site, lone_part, opening_length, opening_parts, set_up_length}
 use Rattle.cfi_unit.proofs.CallUnit.{AfterCall, call_inside, call_leaves, call_law}
 
 module _ (p : Profile) (part : ℕ) (image base : Memory) (r : Registers) (h : Hart) (s : Shared) where
@@ -73,7 +74,7 @@ module _ (part : ℕ) (image base : Memory) (r : Registers) (h : Hart) (s : Shar
       at_word (Opens version_2) version_2 h c w 6 _ refl e
       (stays refl c (omega arith) (opening_call (h.regs 31) (call_push (push_slli (omega arith) refl (omega arith)))))
 
-  module _ (p : Profile) (is : IsProfile p) where
+  module _ (p : Profile) (is : IsFullProfile p) where
     opening_from : (v : ℕ) (after : After) → AfterCall part image base (call_at p) v [] entry after → Opens p after
     opening_from v after (call_inside t c low i) = let site = call_site p is in stays t c (omega arith) (opening_call v i)
     opening_from v after (call_leaves newer t c x3 goes) =
@@ -90,7 +91,7 @@ module _ (part : ℕ) (image base : Memory) (r : Registers) (h : Hart) (s : Shar
     opening_law own fits w c (opening_call v i) =
         opening_from v (step p h s)
         (call_law p part image base (call_at p) v [] entry h s own (omega arith) fits
-        (subst (λ (at : ℕ). Stand image at (instrs_of (V.Call entry) (call_at p))) (set_up_length p is) (stand_back (set_up p) _ w)) c i)
+        (subst (λ (at : ℕ). Stand image at (instrs_of (V.Call entry) (call_at p))) (set_up_length p is) (stand_back (set_up p) _ (subst (λ (instrs : List Instr). Stand image OPENING instrs) (opening_parts p is entry) w))) c i)
 
 -- the parts of a standing prologue
 pub record PrologueStands (p : Profile) (image : Memory) (entry : ℕ) : Type 0 where

@@ -1,5 +1,5 @@
 -- What each word of a place puts its result into, and that a step keeps the other registers of the program.
-use Rattle.std.proofs.Common.{◌≡◌, ℕ, zero, suc, ◌+◌, ◌-◌, ◌*◌, ◌==◌, ◌≤◌, false, inl, inr, List, [], ◌∷◌, ◌++◌, append_assoc, length, Option, Some, None, refl, sym, ap, subst, ◌∙◌, arith}
+use Rattle.std.proofs.Common.{◌≡◌, ℕ, Bool, true, zero, suc, ◌+◌, ◌-◌, ◌*◌, ◌==◌, ◌≤◌, false, inl, inr, List, [], ◌∷◌, ◌++◌, append_assoc, length, Option, Some, None, refl, sym, ap, subst, ◌∙◌, arith}
 use Rattle.std.specs.Prelude.{map, replicate, slice_get}
 use Rattle.std.specs.Option.{option_map}
 use Rattle.std.proofs.lemmas.Bool.{cond_both, ne_eqb}
@@ -23,10 +23,10 @@ use Rattle.cfi_unit.specs.declared.unit.SystemOp.TheVariants as S
 use Rattle.cfi_unit.specs.Guarded.{guards}
 use Rattle.cfi_unit.specs.Members.{member_instr}
 use Rattle.cfi_unit.specs.UnitWords.{instrs_of, mask_instrs, mask_words}
-use Rattle.cfi_unit.specs.Prologue.{set_up}
+use Rattle.cfi_unit.specs.Prologue.{lean_set_up, opening_by, set_up}
 use Rattle.cfi_unit.specs.Place.{handler, opening, closing, body, place_instrs}
 use Rattle.cfi_unit.specs.Leaving.{result_register}
-use Rattle.cfi_unit.specs.Results.{RegistersStay, ResultsListed, if_of_program, place_results, program_result, set_up_results, unit_results}
+use Rattle.cfi_unit.specs.Results.{RegistersStay, ResultsListed, if_of_program, lean_set_up_results, opening_results, place_results, program_result, set_up_results, unit_results}
 use Rattle.cfi_unit.proofs.Context.{at_word}
 use Rattle.cfi_unit.proofs.EffectUnits.{call_keeps, set_other}
 use Rattle.cfi_unit.proofs.Gates.{place_length}
@@ -83,10 +83,19 @@ set_up_listed : (p : Profile) → map program_result (set_up p) ≡ set_up_resul
 set_up_listed p =
     cond_both (p.harts == 1) _ _ (λ (l : List Instr). map program_result l ≡ set_up_results p) (λ one. rw one refl) (λ several. rw several refl)
 
+lean_set_up_listed : (p : Profile) → map program_result (lean_set_up p) ≡ lean_set_up_results p
+lean_set_up_listed p =
+    cond_both (p.harts == 1) _ _ (λ (l : List Instr). map program_result l ≡ lean_set_up_results p) (λ one. rw one refl) (λ several. rw several refl)
+
+opening_listed : (callee : Bool) (p : Profile) (entry : ℕ) → map program_result (opening_by callee p entry) ≡ opening_results callee p entry
+opening_listed false p entry =
+    map-append program_result (set_up p) _ ∙ ap (λ (l : List (Option ℕ)). l ++ unit_results (V.Call entry)) (set_up_listed p)
+opening_listed true p entry =
+    map-append program_result (lean_set_up p) _ ∙ ap (λ (l : List (Option ℕ)). l ++ unit_results (V.LinkCall entry)) (lean_set_up_listed p)
+
 pub results_listed : ResultsListed
 results_listed p handler at = refl
-results_listed p (opening entry) at =
-    map-append program_result (set_up p) _ ∙ ap (λ (l : List (Option ℕ)). l ++ unit_results (V.Call entry)) (set_up_listed p)
+results_listed p (opening entry) at = opening_listed p.callee_saves p entry
 results_listed p closing at = refl
 results_listed p (body unit) at = unit_listed unit at
 

@@ -75,5 +75,7 @@ stores_lack gates Short rs1 imm members = members_lack gates members
 stores_lack gates Long rs1 imm members = members_lack gates members
 
 pub opening_lacks : (gates : Bool) (p : Profile) → IsProfile p → (entry : ℕ) → lacks gates (opening_instrs p entry) ≡ true
-opening_lacks gates p (inl e) entry = subst (λ (x : Profile). lacks gates (opening_instrs x entry) ≡ true) (sym e) refl
-opening_lacks gates p (inr e) entry = subst (λ (x : Profile). lacks gates (opening_instrs x entry) ≡ true) (sym e) refl
+opening_lacks gates p (inl (inl e)) entry = subst (λ (x : Profile). lacks gates (opening_instrs x entry) ≡ true) (sym e) refl
+opening_lacks gates p (inl (inr e)) entry = subst (λ (x : Profile). lacks gates (opening_instrs x entry) ≡ true) (sym e) refl
+opening_lacks gates p (inr (inl e)) entry = subst (λ (x : Profile). lacks gates (opening_instrs x entry) ≡ true) (sym e) refl
+opening_lacks gates p (inr (inr e)) entry = subst (λ (x : Profile). lacks gates (opening_instrs x entry) ≡ true) (sym e) refl

@@ -1,6 +1,7 @@
 -- The prologue of a hardened image: the three handlers, the opening, which sets up both stacks of the
--- hart that runs it and calls the entry, and the closing, which exits.
-use Rattle.std.specs.Prelude.{ℕ, ◌-◌, ◌==◌, List, [], ◌∷◌, ◌++◌, if◌then◌else◌}
+-- hart that runs it and calls the entry, and the closing, which exits. In a lean image the opening also brings the
+-- mask of stores into x4, and leaves its own site in x1.
+use Rattle.std.specs.Prelude.{ℕ, Bool, true, false, ◌-◌, ◌==◌, List, [], ◌∷◌, ◌++◌, if◌then◌else◌}
 use Rattle.rv_word.specs.MemoryMap.{START, Profile}
 use Rattle.rv_instr.specs.declared.instr.Instr.{Instr}
 use Rattle.rv_instr.specs.declared.instr.Instr.TheVariants.{Upper, Immediate, Shift, Register, Ecall, Ebreak}
@@ -37,8 +38,28 @@ set_up p = if p.harts == 1 then lone_set_up else own_set_up
 abbrev pub call_at : Profile → ℕ
 call_at p = p.opening_call - 28
 
+-- and in lean images, where x4 also gets the mask of stores, and the call is one word
+abbrev pub mask_set_up : List Instr
+mask_set_up = Upper Lui 4 0x10000 ∷ Immediate Addi 4 4 0xfff ∷ []
+
+abbrev pub lean_lone_set_up : List Instr
+lean_lone_set_up = Upper Lui 2 0x10000 ∷ mask_set_up ++ Upper Lui 3 0x60000 ∷ Immediate Addi 3 3 8 ∷ []
+
+abbrev pub lean_own_set_up : List Instr
+lean_own_set_up =
+    Upper Lui 2 0x10000 ∷ mask_set_up ++ Shift Slli 31 10 20 ∷ Register Sub 2 2 31 ∷ Upper Lui 3 0x60000 ∷ Shift Slli 31 10 16
+    ∷ Register Add 3 3 31 ∷ Immediate Addi 3 3 8 ∷ []
+
+abbrev pub lean_set_up : Profile → List Instr
+lean_set_up p = if p.harts == 1 then lean_lone_set_up else lean_own_set_up
+
+-- the opening, by who saves the sites of calls
+abbrev pub opening_by : Bool → Profile → ℕ → List Instr
+opening_by false p entry = set_up p ++ instrs_of (V.Call entry) (call_at p)
+opening_by true p entry = lean_set_up p ++ instrs_of (V.LinkCall entry) p.opening_call
+
 abbrev pub opening_instrs : Profile → ℕ → List Instr
-opening_instrs p entry = set_up p ++ instrs_of (V.Call entry) (call_at p)
+opening_instrs p entry = opening_by p.callee_saves p entry
 
 -- system call 93
 abbrev pub closing_instrs : List Instr

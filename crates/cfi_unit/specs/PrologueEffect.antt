@@ -3,7 +3,7 @@
 -- of data.
 use Rattle.std.specs.Prelude.{◌≡◌, ℕ, ◌+◌, ◌-◌, ◌*◌, ◌^◌, ◌<◌, ◌≤◌, List, [], ◌∷◌, length, replicate}
 use Rattle.std.specs.List.{AllByRecursion}
-use Rattle.rv_word.specs.MemoryMap.{IsProfile, Profile, part_of}
+use Rattle.rv_word.specs.MemoryMap.{IsFullProfile, Profile, part_of}
 use Rattle.rv_word.specs.Memory.{Memory}
 use Rattle.rv_instr.specs.Registers.{set_reg}
 use Rattle.rv_instr.specs.declared.instr.Instr.TheVariants.{Ecall}
@@ -45,7 +45,7 @@ pub record ClosingDoes (p : Profile) (may : Shared → Shared → Type 0) (h : H
 
 -- a hart, whose number is in x10, is at the opening that stands in code, with nothing on its shadow stack
 pub record EntersOpening (p : Profile) (image base : Memory) (entry hart : ℕ) (h : Hart) (s : Shared) : Type 0 where
-  pub is : IsProfile p
+  pub is : IsFullProfile p
   pub below : hart < p.harts
   pub number : h.regs 10 ≡ hart
   pub fits : Fits (V.Call entry) (call_at p)

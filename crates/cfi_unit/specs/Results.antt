@@ -1,7 +1,7 @@
 -- Into which registers of the program the words of what stands at an address put their results: one
 -- list for each place, with what each word of it writes. So a step writes no other register of the
 -- program, whatever other harts do between two steps.
-use Rattle.std.specs.Prelude.{◌≡◌, ℕ, ◌+◌, ◌-◌, ◌*◌, ◌==◌, ◌||◌, false, if◌then◌else◌, List, [], ◌∷◌, ◌++◌, map, replicate, slice_get, Option, Some, None}
+use Rattle.std.specs.Prelude.{◌≡◌, ℕ, ◌+◌, ◌-◌, ◌*◌, ◌==◌, ◌||◌, Bool, true, false, if◌then◌else◌, List, [], ◌∷◌, ◌++◌, map, replicate, slice_get, Option, Some, None}
 use Rattle.rv_word.specs.MemoryMap.{Profile}
 use Rattle.rv_word.specs.Memory.{Memory}
 use Rattle.rv_instr.specs.Registers.{Registers}
@@ -50,10 +50,20 @@ abbrev pub set_up_results : Profile → List (Option ℕ)
 set_up_results p =
     if p.harts == 1 then Some 2 ∷ None ∷ None ∷ [] else Some 2 ∷ None ∷ Some 2 ∷ None ∷ None ∷ None ∷ None ∷ []
 
+-- in lean images too: x4 is no register of the program
+abbrev pub lean_set_up_results : Profile → List (Option ℕ)
+lean_set_up_results p =
+    if p.harts == 1 then Some 2 ∷ None ∷ None ∷ None ∷ None ∷ []
+    else Some 2 ∷ None ∷ None ∷ None ∷ Some 2 ∷ None ∷ None ∷ None ∷ None ∷ []
+
+abbrev pub opening_results : Bool → Profile → ℕ → List (Option ℕ)
+opening_results false p entry = set_up_results p ++ unit_results (V.Call entry)
+opening_results true p entry = lean_set_up_results p ++ unit_results (V.LinkCall entry)
+
 -- the opening then calls; the closing puts its call's number into x17, and its call an answer into x10
 abbrev pub place_results : Profile → Place → List (Option ℕ)
 place_results p handler = None ∷ []
-place_results p (opening entry) = set_up_results p ++ unit_results (V.Call entry)
+place_results p (opening entry) = opening_results p.callee_saves p entry
 place_results p closing = Some 17 ∷ Some 10 ∷ []
 place_results p (body unit) = unit_results unit
 

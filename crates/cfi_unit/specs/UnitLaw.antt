@@ -3,7 +3,7 @@
 -- any memory in which code, the hart's own part of the shadow and the facts of the word stand: so
 -- data, and the other harts' parts, may change between two steps.
 use Rattle.std.specs.Prelude.{◌≡◌, ℕ, ◌%◌, ◌^◌, ◌<◌, ◌≤◌, ◌⊎◌, List, [], ◌∷◌, length}
-use Rattle.rv_word.specs.MemoryMap.{IsProfile, Profile}
+use Rattle.rv_word.specs.MemoryMap.{IsFullProfile, Profile}
 use Rattle.rv_word.specs.Memory.{Memory}
 use Rattle.rv_instr.specs.Registers.{Registers}
 use Rattle.rv_code.specs.State.{Hart, Shared, After}
@@ -60,7 +60,8 @@ pub data Outcome (p : Profile) (part : ℕ) (image base : Memory) (place : Place
   ends : Ends place at after.turn → Kept part image base pending after.shared.memory →
       Outcome p part image base place at pending r after
 
--- what a place asks: jumps reach their targets, and a return goes to an instruction's address
+-- what a place asks: jumps reach their targets, a return goes to an instruction's address, and the opening is one that saves its own
+-- call's site
 abbrev pub ReturnsTo : List ℕ → Type 0
 ReturnsTo [] = Unit {0}
 ReturnsTo (site ∷ pending) = (site % 2 ≡ 0) × (site < 2 ^ 64)
@@ -70,7 +71,7 @@ UnitMayStand unit at pending = Fits unit at × ReturnsTo pending
 
 abbrev pub MayStand : Profile → Place → ℕ → List ℕ → Type 0
 MayStand p handler at pending = Unit {0}
-MayStand p (opening entry) at pending = IsProfile p × (at ≡ OPENING) × (pending ≡ []) × Fits (V.Call entry) (call_at p)
+MayStand p (opening entry) at pending = IsFullProfile p × (at ≡ OPENING) × (pending ≡ []) × Fits (V.Call entry) (call_at p)
 MayStand p closing at pending = Unit {0}
 MayStand p (body unit) at pending = UnitMayStand unit at pending
 

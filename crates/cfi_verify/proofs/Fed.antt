@@ -3,8 +3,8 @@ use Rattle.std.proofs.Common.{◌≡◌, ◌<◌, ℕ, ◌+◌, List, [], ◌∷
 use Rattle.std.specs.List.{concat}
 use Rattle.std.proofs.lemmas.List.{append-nil, drop_more}
 use Rattle.std.proofs.lemmas.List.Concat.{concat_is, flat_map-cons}
-use Rattle.rv_word.specs.declared.version.ImageVersion.{ImageVersion}
-use Rattle.rv_word.specs.MemoryMap.{profile_of}
+use Rattle.rv_word.specs.declared.version.Versions.{Versions}
+use Rattle.rv_word.specs.MemoryMap.{profile_with}
 use Rattle.cfi_scan.specs.Pieces.{HasSeen}
 use Rattle.cfi_verify.specs.Scan.{Scanned}
 
@@ -12,8 +12,8 @@ use Rattle.cfi_verify.specs.Scan.{Scanned}
 pub record IsFed (code rest : List ℕ) (before now : Scanned) : Type 0 where
   pub taken : List ℕ
   pub cut : taken ++ rest ≡ code
-  pub seen : (bytes : List ℕ) → HasSeen (profile_of before.seen.version) before.seen bytes → HasSeen (profile_of before.seen.version) now.seen (bytes ++ taken)
-  pub version : now.seen.version ≡ before.seen.version
+  pub seen : (bytes : List ℕ) → HasSeen (profile_with before.seen.versions) before.seen bytes → HasSeen (profile_with before.seen.versions) now.seen (bytes ++ taken)
+  pub versions : now.seen.versions ≡ before.seen.versions
   pub fed : now.seen.fed ≡ before.seen.fed + length taken
   pub graph : now.graph ≡ before.graph
 
@@ -21,16 +21,16 @@ pub fed_begins : (code : List ℕ) (s : Scanned) → IsFed code code s s
 fed_begins code s = record {
   taken = [];
   cut = refl;
-  seen = λ bytes has. subst (HasSeen (profile_of s.seen.version) s.seen) (sym (append-nil bytes)) has;
-  version = refl;
+  seen = λ bytes has. subst (HasSeen (profile_with s.seen.versions) s.seen) (sym (append-nil bytes)) has;
+  versions = refl;
   fed = omega arith;
   graph = refl;
 }
 
 -- what a feed says
 pub record Feeds (piece : List ℕ) (before now : Scanned) : Type 0 where
-  pub seen : (bytes : List ℕ) → HasSeen (profile_of before.seen.version) before.seen bytes → HasSeen (profile_of before.seen.version) now.seen (bytes ++ piece)
-  pub version : now.seen.version ≡ before.seen.version
+  pub seen : (bytes : List ℕ) → HasSeen (profile_with before.seen.versions) before.seen bytes → HasSeen (profile_with before.seen.versions) now.seen (bytes ++ piece)
+  pub versions : now.seen.versions ≡ before.seen.versions
   pub fed : now.seen.fed ≡ before.seen.fed + length piece
   pub graph : now.graph ≡ before.graph
 
@@ -43,10 +43,10 @@ fed_more code rest piece next before now after f parts feeds =
       taken = f.taken ++ piece;
       cut = append_assoc f.taken piece next ∙ ap (λ xs. f.taken ++ xs) parts ∙ f.cut;
       seen = λ bytes has.
-          subst (HasSeen (profile_of before.seen.version) after.seen) (append_assoc bytes f.taken piece)
-          (subst (λ (v : ImageVersion). HasSeen (profile_of v) after.seen ((bytes ++ f.taken) ++ piece)) f.version
-          (feeds.seen (bytes ++ f.taken) (subst (λ (v : ImageVersion). HasSeen (profile_of v) now.seen (bytes ++ f.taken)) (sym f.version) (f.seen bytes has))));
-      version = feeds.version ∙ f.version;
+          subst (HasSeen (profile_with before.seen.versions) after.seen) (append_assoc bytes f.taken piece)
+          (subst (λ (v : Versions). HasSeen (profile_with v) after.seen ((bytes ++ f.taken) ++ piece)) f.versions
+          (feeds.seen (bytes ++ f.taken) (subst (λ (v : Versions). HasSeen (profile_with v) now.seen (bytes ++ f.taken)) (sym f.versions) (f.seen bytes has))));
+      versions = feeds.versions ∙ f.versions;
       fed = omega (arith, sum, one, two);
       graph = feeds.graph ∙ f.graph;
     }
@@ -62,8 +62,8 @@ fed_room code rest before now f =
 pub fed_all : (code : List ℕ) (before now : Scanned) → IsFed code [] before now → Feeds code before now
 fed_all code before now f =
     let whole : f.taken ≡ code = sym (append-nil f.taken) ∙ f.cut in record {
-      seen = λ bytes has. subst (λ (xs : List ℕ). HasSeen (profile_of before.seen.version) now.seen (bytes ++ xs)) whole (f.seen bytes has);
-      version = f.version;
+      seen = λ bytes has. subst (λ (xs : List ℕ). HasSeen (profile_with before.seen.versions) now.seen (bytes ++ xs)) whole (f.seen bytes has);
+      versions = f.versions;
       fed = f.fed ∙ ap (λ xs. before.seen.fed + length xs) whole;
       graph = f.graph;
     }

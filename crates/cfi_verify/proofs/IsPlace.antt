@@ -3,7 +3,7 @@ use Rattle.std.proofs.Common.{◌≡◌, ℕ, ◌<◌, ◌==◌, false, List, Op
 use Rattle.std.specs.Prelude.{is_some, nat_le, option_map}
 use Rattle.std.proofs.lemmas.Bool.{cases_Bool, eqb-true, ne_eqb, lt-leb}
 use Rattle.rv_word.specs.MemoryMap.{Profile, START}
-use Rattle.rv_word.proofs.Versions.{LaidOut}
+use Rattle.rv_word.proofs.Profiles.{LaidOut}
 use Rattle.cfi_rules.specs.Split.{is_handler, is_start, entry_of, unit_at, place_at}
 use Rattle.cfi_verify.specs.Scan.{starts_prologue}
 

@@ -1,3 +1,4 @@
+pub mod Laid
 pub mod WordList
 pub mod InUnits
 pub mod Targets
@@ -6,8 +7,9 @@ pub mod Spots
 pub mod LeastOf
 pub mod RuleOrder
 pub mod Cut
-pub mod Lookup
 pub mod Started
+pub mod Lookup
+pub mod LeafLines
 pub mod Told
 pub mod Within
 pub mod Fed

@@ -1,19 +1,25 @@
 -- Where the units of a listed split start, and what the entries say there.
-use Rattle.std.proofs.Common.{◌≡◌, ◌≤◌, ◌<◌, ◌⊎◌, inl, inr, ℕ, zero, suc, ◌+◌, ◌-◌, ◌*◌, true, false, List, [], ◌∷◌, ◌++◌, length, length-append, drop, Some, None, refl, sym, ap, subst, ◌∙◌, arith, append_assoc}
+use Rattle.std.proofs.Common.{◌≡◌, ◌≤◌, ◌<◌, ◌⊎◌, inl, inr, ℕ, zero, suc, ◌+◌, ◌-◌, ◌*◌, Bool, true, false, List, [], ◌∷◌, ◌++◌, length, length-append, drop, Some, None, refl, sym, ap, subst, ◌∙◌, arith, append_assoc}
 use Rattle.std.specs.Prelude.{slice_get}
-use Rattle.std.proofs.lemmas.Bool.{cases_lt, cases_eq}
+use Rattle.std.proofs.lemmas.Bool.{cases_lt, cases_eq, false≢true}
+use Rattle.std.proofs.lemmas.Option.{same_Some}
 use Rattle.std.proofs.lemmas.List.{drop-drop}
 use Rattle.std.proofs.Math.Seq.{drop-append_seam}
+use Rattle.cfi_unit.specs.declared.mask.Mask.TheVariants.{Shifts, Short, Long}
 use Rattle.cfi_unit.specs.declared.unit.Unit as U
+use Rattle.cfi_unit.specs.declared.unit.Unit.TheVariants as V
+use Rattle.cfi_unit.specs.declared.unit.SystemOp.TheVariants as S
 use Rattle.cfi_unit.specs.Recognise.{recognised}
 use Rattle.cfi_unit.specs.UnitWords.{Fits, may_precede, word_count, words_of}
 use Rattle.cfi_unit.proofs.Found.{found, words_counted}
 use Rattle.cfi_reader.specs.declared.entry.Entry.{Entry}
 use Rattle.cfi_reader.specs.declared.entry.Entry.TheVariants as E
-use Rattle.cfi_reader.specs.Entries.{entries_of, entry_of, inside}
+use Rattle.cfi_reader.specs.Entries.{entries_of, entry_of, inside, is_started, is_unit, plain_entry, writes_link}
 use Rattle.cfi_scan.specs.Stream.{AllStand, last_of, spelled, width}
-use Rattle.cfi_verify.specs.Entries.{or_inside}
+use Rattle.cfi_verify.specs.Entries.{next_in, or_inside}
 use Rattle.cfi_rules.specs.Split.{is_marked, starts}
+use Rattle.least.proofs.Firsts.{first_found, none_first}
+use Rattle.cfi_verify.proofs.Started.{started}
 use Rattle.cfi_unit.proofs.Counts.{some_word}
 use Rattle.cfi_rules.proofs.Marks.{head_after, head_inner, head_length, head_mark, marks_none, none_in_none}
 
@@ -248,3 +254,106 @@ lookup_count (u ∷ us) at past (fits, ahead, others) none =
     ap (λ ws. length (starts 0 ws at)) same
     ∙ marks_whole u us at (spelled us (at + 4 * word_count u) ++ past) fits ahead
     ∙ ap (λ n. word_count u + n) (lookup_count us (at + 4 * word_count u) past others (past_none u us at past none))
+
+-- a plain unit's entry is one of two
+pub by_plain : {A : Type 0} (f : Entry → A) (x : A) → x ≡ f E.WritesLink → x ≡ f E.Other → (links : Bool) → x ≡ f (plain_entry links)
+by_plain f x one other true = one
+by_plain f x one other false = other
+
+pub unit_is : (calls : List ℕ) (u : U.Unit) (a : ℕ) → is_unit (entry_of calls u a) ≡ true
+unit_is calls (V.Plain instr) a = sym (by_plain is_unit true refl refl (writes_link instr))
+unit_is calls (V.System S.Ecall) a = refl
+unit_is calls (V.System S.Ebreak) a = refl
+unit_is calls (V.Stores Shifts rs1 imm members) a = refl
+unit_is calls (V.Stores Short rs1 imm members) a = refl
+unit_is calls (V.Stores Long rs1 imm members) a = refl
+unit_is calls _ a = refl
+
+-- of the entries behind a unit of so many words none is a start's inside it, and that where it ends is one's, if it is not the last
+pub record Behind (entries : List Entry) (end k n : ℕ) : Type 0 where
+  pub inner : (j : ℕ) → 0 < j → j < n → or_inside (slice_get entries (k + j)) ≡ E.Inside
+  pub next : k + n < end → is_unit (or_inside (slice_get entries (k + n))) ≡ true
+
+first_of : (calls : List ℕ) (us : List U.Unit) (at free : ℕ) → 0 < width us → is_unit (or_inside (slice_get (entries_of calls us at ++ inside free) 0)) ≡ true
+unfolding width entries_of
+first_of calls [] at free some = absurd (omega arith)
+first_of calls (u ∷ us) at free some = unit_is calls u at
+
+same_unit : (u v : U.Unit) (ws : List ℕ) (at : ℕ) → recognised ws at ≡ Some u → recognised ws at ≡ Some v → u ≡ v
+same_unit u v ws at one other = same_Some u v (sym one ∙ other)
+
+pub behind : (calls : List ℕ) (us : List U.Unit) (at : ℕ) (past : List ℕ) (free : ℕ) → AllStand us at past → (k : ℕ) (u : U.Unit) →
+    slice_get (starts 0 (spelled us at ++ past) at) k ≡ Some true → recognised (drop k (spelled us at ++ past)) (at + 4 * k) ≡ Some u → k + word_count u ≤ width us →
+    Behind (entries_of calls us at ++ inside free) (width us) k (word_count u)
+unfolding AllStand width spelled entries_of
+behind calls [] at past free stand k u mark is within = let some = some_word u in absurd (omega arith)
+behind calls (v ∷ us) at past free (fits, ahead, others) k u mark is within =
+    let tail = spelled us (at + 4 * word_count v) ++ past in
+    let rest = entries_of calls us (at + 4 * word_count v) in
+    let some = some_word v in
+    let same = append_assoc (words_of v at) (spelled us (at + 4 * word_count v)) past in
+    let mark_here = ap (λ ws. slice_get (starts 0 ws at) k) (sym same) ∙ mark in
+    let is_here = ap (λ ws. recognised (drop k ws) (at + 4 * k)) (sym same) ∙ is in
+    elim (cases_lt k (word_count v)) [
+      | inl in_first ↦ elim (cases_eq k 0) [
+        | inl first ↦
+            let here : at + 4 * k ≡ at = omega arith in
+            let one : u ≡ v = same_unit u v (words_of v at ++ tail) at (sym (ap (λ i. recognised (drop i (words_of v at ++ tail)) (at + 4 * k)) first ∙ ap (recognised (words_of v at ++ tail)) here) ∙ is_here) (begun v us at tail fits ahead) in
+            let count : word_count u ≡ word_count v = ap word_count one in
+            record {
+              inner = λ j low high.
+                  let less : suc (j - 1) ≡ k + j = omega arith in
+                  ap (λ i. or_inside (slice_get (((entry_of calls v at ∷ inside (word_count v - 1)) ++ rest) ++ inside free) i)) (sym less)
+                  ∙ inner_entry (word_count v - 1) (j - 1) rest (inside free) (omega arith);
+              next = λ more.
+                  let place : suc (word_count v - 1 + 0) ≡ k + word_count u = omega arith in
+                  ap (λ i. is_unit (or_inside (slice_get (((entry_of calls v at ∷ inside (word_count v - 1)) ++ rest) ++ inside free) i))) (sym place)
+                  ∙ ap (λ o. is_unit (or_inside o)) (later_entry (word_count v - 1) 0 rest (inside free))
+                  ∙ first_of calls us (at + 4 * word_count v) free (omega arith);
+            }
+        | inr other ↦
+            let inner = (head v us at tail fits ahead).inner k (omega arith) in_first in
+            absurd (false≢true (same_Some false true (sym inner ∙ mark_here)))
+      ]
+      | inr past_it ↦
+          let there : word_count v + (k - word_count v) ≡ k = omega arith in
+          let address : at + 4 * word_count v + 4 * (k - word_count v) ≡ at + 4 * k = omega arith in
+          let later = behind calls us (at + 4 * word_count v) past free others (k - word_count v) u
+          (sym (mark_later v us at tail fits ahead (k - word_count v)) ∙ ap (slice_get (starts 0 (words_of v at ++ tail) at)) there ∙ mark_here)
+          (ap (recognised (drop (k - word_count v) tail)) address
+          ∙ ap (λ ws. recognised ws (at + 4 * k)) (sym (sym (drop-drop (k - word_count v) (word_count v) (words_of v at ++ tail)) ∙ ap (drop (k - word_count v)) (after_words v us at tail fits ahead)))
+          ∙ ap (λ i. recognised (drop i (words_of v at ++ tail)) (at + 4 * k)) there ∙ is_here)
+          (omega arith) in
+          record {
+            inner = λ j low high.
+                let place : suc (word_count v - 1 + (k - word_count v + j)) ≡ k + j = omega arith in
+                ap (λ i. or_inside (slice_get (((entry_of calls v at ∷ inside (word_count v - 1)) ++ rest) ++ inside free) i)) (sym place)
+                ∙ ap or_inside (later_entry (word_count v - 1) (k - word_count v + j) rest (inside free))
+                ∙ later.inner j low high;
+            next = λ more.
+                let place : suc (word_count v - 1 + (k - word_count v + word_count u)) ≡ k + word_count u = omega arith in
+                ap (λ i. is_unit (or_inside (slice_get (((entry_of calls v at ∷ inside (word_count v - 1)) ++ rest) ++ inside free) i))) (sym place)
+                ∙ ap (λ o. is_unit (or_inside o)) (later_entry (word_count v - 1) (k - word_count v + word_count u) rest (inside free))
+                ∙ later.next (omega arith);
+          }
+    ]
+
+-- so the word where the unit ends is the next start's, or the end
+pub next_is : (entries : List Entry) (end k n : ℕ) → 1 ≤ n → k + n ≤ end → Behind entries end k n → next_in entries end k ≡ k + n
+unfolding next_in
+next_is entries end k n some within b =
+    elim (cases_eq (k + n) end) [
+      | inl last ↦
+          rw (none_first (λ j. is_started (slice_get entries (k + 1 + j))) (end - (k + 1)) (λ j below.
+          let there : k + (1 + j) ≡ k + 1 + j = omega arith in
+          started (slice_get entries (k + 1 + j)) ∙ ap (λ i. is_unit (or_inside (slice_get entries i))) (sym there) ∙ ap is_unit (b.inner (1 + j) (omega arith) (omega arith))))
+          (sym last)
+      | inr more ↦
+          let there : k + n ≡ k + 1 + (n - 1) = omega arith in
+          rw (first_found (λ j. is_started (slice_get entries (k + 1 + j))) (n - 1) (end - (k + 1)) (omega arith)
+          (none_first (λ j. is_started (slice_get entries (k + 1 + j))) (n - 1) (λ j below.
+          let there : k + (1 + j) ≡ k + 1 + j = omega arith in
+          started (slice_get entries (k + 1 + j)) ∙ ap (λ i. is_unit (or_inside (slice_get entries i))) (sym there) ∙ ap is_unit (b.inner (1 + j) (omega arith) (omega arith))))
+          (started (slice_get entries (k + 1 + (n - 1))) ∙ ap (λ i. is_unit (or_inside (slice_get entries i))) (sym there) ∙ b.next (omega arith)))
+          (sym there)
+    ]

@@ -7,11 +7,12 @@ use Rattle.cfi_rules.specs.declared.reject.Rule.TheVariants as R
 
 abbrev pub rules_listed : List Rule
 rules_listed =
-    R.Prologue ∷ R.Unit ∷ R.Target ∷ R.Unlisted ∷ R.Unused ∷ R.Site ∷ R.Gate ∷ R.Astray ∷ R.End ∷ []
+    R.Prologue ∷ R.Unit ∷ R.Leaf ∷ R.Target ∷ R.Unlisted ∷ R.Unused ∷ R.Site ∷ R.Gate ∷ R.Astray ∷ R.End ∷ []
 
 pub at_order : (rule d : Rule) → get_or rules_listed (order rule) d ≡ rule
 at_order R.Prologue d = refl
 at_order R.Unit d = refl
+at_order R.Leaf d = refl
 at_order R.Target d = refl
 at_order R.Unlisted d = refl
 at_order R.Unused d = refl

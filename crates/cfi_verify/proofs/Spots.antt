@@ -1,10 +1,10 @@
 -- Where a rule can fail: at a word of the code, or at a place of the prologue or the first unit.
 use Rattle.std.proofs.Common.{◌≡◌, ◌≢◌, ◌<◌, ◌≤◌, ℕ, ◌+◌, ◌-◌, ◌*◌, ◌/◌, ◌%◌, ◌==◌, ◌||◌, ◌&&◌, max, Bool, true, false, not, List, [], ◌∷◌, length, length-drop, Option, Some, None, refl, sym, ap, ◌∙◌, arith, inl, inr}
 use Rattle.std.specs.Prelude.{option_map, option_and_then, is_some}
-use Rattle.std.specs.List.{list_all}
+use Rattle.std.specs.List.{list_all, list_any}
 use Rattle.std.proofs.lemmas.Bool.{and_parts, or_cases, cases_Bool, false_from_ne_true, leb-true, ltb-true, eqb-true, false≢true}
 use Rattle.rv_word.specs.MemoryMap.{CODE_START, Profile, START}
-use Rattle.rv_word.proofs.Versions.{LaidOut}
+use Rattle.rv_word.proofs.Profiles.{LaidOut}
 use Rattle.cfi_graph.specs.declared.line.GraphLine.{GraphLine}
 use Rattle.cfi_graph.specs.declared.line.GraphLine.TheVariants.{Calls, Leaf, Class, Site, Edge, Call}
 use Rattle.cfi_graph.specs.Graph.{GraphParts, IsGraph, is_code_address, line_in_range}
@@ -12,8 +12,8 @@ use Rattle.cfi_unit.specs.declared.unit.Unit as U
 use Rattle.cfi_unit.specs.declared.place.Place.{Place}
 use Rattle.cfi_scan.specs.Pieces.{prologue_count}
 use Rattle.cfi_rules.specs.Split.{unit_starts, unit_words, is_start, unit_at, place_at, is_handler}
-use Rattle.cfi_rules.specs.Lines.{holds_of, line_at, targets_for}
-use Rattle.cfi_rules.specs.Rules.{admitted_in, fails, edge_of, call_of, site_of, is_edge_to, is_call_to, is_site_with, is_unused, is_lone_site, is_astray, is_bad_end}
+use Rattle.cfi_rules.specs.Lines.{holds_of, leaves_in, line_at, targets_for}
+use Rattle.cfi_rules.specs.Rules.{fails, edge_of, call_of, site_of, goes_wrong, is_edge_to, is_call_to, is_site_with, is_unused, is_lone_site, is_astray, is_bad_end, lacks_end, may_call_to, may_go, may_stand_at}
 use Rattle.cfi_rules.specs.declared.asks.Asks.{Asks}
 use Rattle.cfi_rules.specs.declared.reject.Rule.{Rule}
 use Rattle.cfi_rules.specs.declared.reject.Rule.TheVariants as R
@@ -50,6 +50,21 @@ line_in len (Call from to ∷ lines) a line r e =
       | inl s ↦ ap (is_code_address len) (sym (eqb-true from a s)) ∙ (and_parts _ _ (and_parts _ _ r).0).0
       | inr s ↦ line_in len lines a line (and_parts _ _ r).1 (rw s at e)
     ]
+
+-- a leaf that lacks an end begins in the code
+end_in : (p : Profile) (words : List ℕ) (len : ℕ) (lines : List GraphLine) (a : ℕ) → list_all (line_in_range len) lines ≡ true → list_any (lacks_end p words a) lines ≡ true → is_code_address len a ≡ true
+end_in p words len [] a r e = absurd (false≢true e)
+end_in p words len (Leaf from to ∷ lines) a r e =
+    let parts = and_parts (line_in_range len (Leaf from to)) _ r in
+    elim (or_cases (lacks_end p words a (Leaf from to)) _ e) [
+      | inl here ↦ ap (is_code_address len) (sym (eqb-true from a (and_parts (from == a) _ here).0)) ∙ (and_parts (is_code_address len from) _ parts.0).0
+      | inr later ↦ end_in p words len lines a parts.1 later
+    ]
+end_in p words len (Calls numbers ∷ lines) a r e = end_in p words len lines a (and_parts (line_in_range len (Calls numbers)) _ r).1 e
+end_in p words len (Class sort label targets ∷ lines) a r e = end_in p words len lines a (and_parts (line_in_range len (Class sort label targets)) _ r).1 e
+end_in p words len (Site address kind label ∷ lines) a r e = end_in p words len lines a (and_parts (line_in_range len (Site address kind label)) _ r).1 e
+end_in p words len (Edge from to ∷ lines) a r e = end_in p words len lines a (and_parts (line_in_range len (Edge from to)) _ r).1 e
+end_in p words len (Call from to ∷ lines) a r e = end_in p words len lines a (and_parts (line_in_range len (Call from to)) _ r).1 e
 
 module _ (p : Profile) (laid : LaidOut p) where
   spot_at : (words : List ℕ) (a k : ℕ) → a ≡ 0x40000000 + 4 * k → k < max (length words) (prologue_count p + 1) → IsSpot p words a
@@ -91,14 +106,17 @@ module _ (p : Profile) (laid : LaidOut p) where
         ]
       ]
 
-  line_spot : (words : List ℕ) (graph : GraphParts) (a : ℕ) (line : GraphLine) → IsGraph graph → graph.code ≡ 4 * length words → line_at graph.lines a ≡ Some line → IsSpot p words a
-  line_spot words graph a line g len e =
-      let within = and_parts _ _ (line_in graph.code graph.lines a line g.range e) in
+  code_spot : (words : List ℕ) (graph : GraphParts) (a : ℕ) → graph.code ≡ 4 * length words → is_code_address graph.code a ≡ true → IsSpot p words a
+  code_spot words graph a len e =
+      let within = and_parts _ _ e in
       let front = and_parts _ _ within.0 in
       let even : a % 4 ≡ 0 = eqb-true _ _ front.0 in
       let low : 0x40000000 ≤ a = leb-true _ _ front.1 in
       let high : a < 0x40000000 + graph.code = ltb-true _ _ within.1 in
       record { low = low; even = even; high = omega arith }
+
+  line_spot : (words : List ℕ) (graph : GraphParts) (a : ℕ) (line : GraphLine) → IsGraph graph → graph.code ≡ 4 * length words → line_at graph.lines a ≡ Some line → IsSpot p words a
+  line_spot words graph a line g len e = code_spot words graph a len (line_in graph.code graph.lines a line g.range e)
 
   pub fails_spot : (rule : Rule) (words : List ℕ) (graph : GraphParts) (a : ℕ) → rule ≢ R.Gate → IsGraph graph → graph.code ≡ 4 * length words → fails rule p words graph a ≡ true → IsSpot p words a
   fails_spot R.Prologue words graph a n g len e =
@@ -117,11 +135,18 @@ module _ (p : Profile) (laid : LaidOut p) where
             let left : length (unit_words p words) ≡ length words - prologue_count p = length-drop (prologue_count p) words in
             spot_at words a (prologue_count p + length (unit_starts p words)) (omega arith) (omega arith)
         | inr other ↦
-            let unit = there (unit_at p words a) (λ unit. holds_of unit (λ u. not (admitted_in graph u))) refl other in
+            let unit = there (unit_at p words a) (λ unit. holds_of unit (λ u. not (may_stand_at graph a u))) refl other in
+            unit_spot words a unit.0 unit.1
+      ]
+  fails_spot R.Leaf words graph a n g len e =
+      elim (or_cases _ _ e) [
+        | inl ends ↦ code_spot words graph a len (end_in p words graph.code graph.lines a g.range ends)
+        | inr wrong ↦
+            let unit = there (unit_at p words a) (λ unit. holds_of unit (goes_wrong p words (leaves_in graph.lines) a)) refl wrong in
             unit_spot words a unit.0 unit.1
       ]
   fails_spot R.Target words graph a n g len e =
-      let place = there (place_at p words a) (λ place. holds_of (option_and_then edge_of place) (λ target. not (is_start p words target)) || holds_of (option_and_then call_of place) (λ target. not (is_start p words target))) refl e in
+      let place = there (place_at p words a) (λ place. holds_of (option_and_then edge_of place) (λ target. not (may_go p words (leaves_in graph.lines) a target)) || holds_of (option_and_then call_of place) (λ target. not (may_call_to p.callee_saves p words (leaves_in graph.lines) a target))) refl e in
       place_spot words a place.0 place.1
   fails_spot R.Unlisted words graph a n g len e =
       let place = there (place_at p words a) (λ place. holds_of (option_and_then edge_of place) (λ target. not (is_edge_to (line_at graph.lines a) target)) || holds_of (option_and_then call_of place) (λ target. not (is_call_to (line_at graph.lines a) target))) refl e in
@@ -140,7 +165,7 @@ module _ (p : Profile) (laid : LaidOut p) where
       ]
   fails_spot R.Gate words graph a n g len e = absurd (n refl)
   fails_spot R.Astray words graph a n g len e =
-      let unit = there (unit_at p words a) (λ unit. holds_of unit (is_astray graph.lines a)) refl e in
+      let unit = there (unit_at p words a) (λ unit. holds_of unit (is_astray graph a)) refl e in
       unit_spot words a unit.0 unit.1
   fails_spot R.End words graph a n g len e =
       elim (or_cases _ _ e) [

@@ -5,8 +5,9 @@ use Rattle.std.specs.List.{list_any}
 use Rattle.std.proofs.lemmas.Bool.{cases_Bool, cases_lt, cases_eq, le-leb, lt-leb, eqb-true, eq-eqb, ne_eqb, lt-ltb, ltb-true, and_parts, false_from_ne_true, false≢true}
 use Rattle.std.proofs.lemmas.List.{drop-drop}
 use Rattle.rv_word.specs.declared.version.GraphVersion.{GraphVersion}
+use Rattle.rv_word.specs.declared.version.GraphVersion.TheVariants.{OneLabel, TwoLabels, CalleeSaves}
 use Rattle.rv_word.specs.MemoryMap.{CODE_START, Profile, lies_within, START}
-use Rattle.rv_word.proofs.Versions.{LaidOut}
+use Rattle.rv_word.proofs.Profiles.{LaidOut}
 use Rattle.rv_code.specs.Decode.{decoded}
 use Rattle.cfi_graph.specs.declared.line.GraphLine.{GraphLine}
 use Rattle.cfi_graph.specs.declared.line.GraphLine.TheVariants.{Calls, Leaf, Class, Site, Edge, Call}
@@ -20,23 +21,29 @@ use Rattle.cfi_unit.specs.declared.unit.SystemOp.TheVariants as S
 use Rattle.cfi_unit.specs.declared.place.Place.{Place}
 use Rattle.cfi_unit.specs.declared.place.Place.TheVariants.{Handler as handler, Opening as opening, Closing as closing, Body as body}
 use Rattle.cfi_unit.specs.Recognise.{recognised, target_in}
-use Rattle.cfi_unit.specs.UnitWords.{BAD_TARGET, BAD_RETURN, DEEP, Fits, word_count}
+use Rattle.cfi_unit.specs.UnitWords.{BAD_TARGET, BAD_RETURN, DEEP, Fits, after_unit, word_count}
+use Rattle.cfi_pending.specs.Kinds as kinds
+use Rattle.cfi_pending.specs.Kinds.{begins_at, goes_on, in_leaf, is_enter, is_fresh, is_gate, is_gate_there, is_right_behind, leaf_of, may_be_called, may_be_reached, stands_by}
+use Rattle.cfi_pending.specs.Starts.{is_link}
+use Rattle.rv_instr.specs.Operands.{written}
 use Rattle.cfi_reader.specs.declared.entry.Entry.{Entry}
 use Rattle.cfi_reader.specs.declared.entry.Entry.TheVariants as E
-use Rattle.cfi_reader.specs.Entries.{entry_of as entry_of_unit, numbers_or_none}
+use Rattle.cfi_reader.specs.Entries as reader
+use Rattle.cfi_reader.specs.Entries.{entry_of as entry_of_unit, numbers_or_none, plain_entry, writes_link}
 use Rattle.cfi_scan.specs.Pieces.{IsOf, Listed, prologue_count}
 use Rattle.cfi_scan.specs.Stream.{IsSplitUp, last_of, spelled, width}
-use Rattle.cfi_reader.specs.Entries.{is_unit}
-use Rattle.cfi_verify.specs.Entries.{Tells, call_at, call_in, count_of, edge_at, edge_in, entry_at, fails_at, gate_at, gate_in, is_bad_end_at, is_barred, is_barred_at, numbers_in, is_lone_at, is_stop_entry, is_unused_at, misses_start, or_inside, site_at, site_in, starts_at}
-use Rattle.cfi_rules.specs.Lines.{is_outside, holds_of, line_at, targets_for, is_among, read_of}
-use Rattle.cfi_rules.specs.Rules.{admits, admitted_in, call_of, edge_of, fails, fails_prologue, gate_label, gate_of, has_unit, jump_word, is_astray, is_bad_end, is_borne, is_call_to, is_edge_to, is_label, is_lone_site, is_site_with, is_stop, is_unused, lacks_gate, prologue_word_fits, same_word, site_of}
+use Rattle.cfi_reader.specs.Entries.{entries_of, inside, is_unit}
+use Rattle.cfi_verify.specs.Entries as entries
+use Rattle.cfi_verify.specs.Entries.{Tells, call_at, call_in, count_of, edge_at, edge_in, end_of, enters_at, entry_at, fails_at, fresh_at, gate_at, gate_in, goes_wrong_at, is_bad_end_at, is_barred, is_barred_at, is_lone_at, is_of_others, is_right_behind_at, is_stop_entry, is_unused_at, is_whole, lacks_end_at, may_be_called_at, may_be_reached_at, may_call_at, may_go_at, may_not_call, may_stand, next_at, numbers_in, or_inside, signs_at, site_at, site_in, stands_outside, stands_within, starts_at}
+use Rattle.cfi_rules.specs.Lines.{is_outside, holds_of, leaves_in, line_at, targets_for, is_among, read_of}
+use Rattle.cfi_rules.specs.Rules.{admits, admitted_in, call_of, edge_of, fails, fails_prologue, gate_of, goes_wrong, is_astray, is_bad_end, is_borne, is_call_to, is_edge_to, is_label, is_lone_site, is_of_version, is_site_with, is_stop, is_unused, lacks_end, lacks_gate, may_call, may_call_to, may_go, may_stand_at, prologue_word_fits, signs_in, site_of}
 use Rattle.cfi_rules.specs.Split.{code_words, entry_of, is_handler, is_marked, is_start, place_at, starts, unit_at, unit_starts, unit_words}
 use Rattle.cfi_rules.specs.declared.asks.Asks.{Asks}
 use Rattle.cfi_rules.specs.declared.reject.Rule.{Rule}
 use Rattle.cfi_rules.specs.declared.reject.Rule.TheVariants as R
 use Rattle.cfi_verify.proofs.Cut.{cut_count, cut_is}
-use Rattle.cfi_rules.proofs.Find.{no_start_below, no_start_odd, no_unit}
-use Rattle.cfi_verify.proofs.Lookup.{Looks, lookup, lookup_count}
+use Rattle.cfi_rules.proofs.Find.{no_start_below, no_start_odd, no_unit, start_parts}
+use Rattle.cfi_verify.proofs.Lookup.{Behind, HasUnit, Looks, behind, by_plain, lookup, lookup_count, next_is, unit_is}
 use Rattle.cfi_unit.proofs.Counts.{some_word}
 use Rattle.cfi_verify.proofs.InUnits.{length-starts}
 
@@ -45,6 +52,7 @@ edge_is : (calls : List ℕ) (u : U.Unit) (a : ℕ) → Fits u a → edge_of (bo
 edge_is calls (V.Branch op rs1 rs2 target) a fits = ap Some (sym fits.2)
 edge_is calls (V.Near op rs1 rs2 target) a fits = ap Some (sym fits.2)
 edge_is calls (V.Jump target) a fits = ap Some (sym fits.1)
+edge_is calls (V.Plain instr) a fits = by_plain (λ e. edge_in e a) None refl refl (writes_link instr)
 edge_is calls (V.System S.Ecall) a fits = refl
 edge_is calls (V.System S.Ebreak) a fits = refl
 edge_is calls (V.Stores Shifts rs1 imm members) a fits = refl
@@ -55,6 +63,7 @@ edge_is calls _ a fits = refl
 call_is : (calls : List ℕ) (u : U.Unit) (a : ℕ) → Fits u a → call_of (body u) ≡ call_in (entry_of_unit calls u a) a
 call_is calls (V.Call target) a fits = ap Some (sym fits.1)
 call_is calls (V.LinkCall target) a fits = ap Some (sym fits)
+call_is calls (V.Plain instr) a fits = by_plain (λ e. call_in e a) None refl refl (writes_link instr)
 call_is calls (V.System S.Ecall) a fits = refl
 call_is calls (V.System S.Ebreak) a fits = refl
 call_is calls (V.Stores Shifts rs1 imm members) a fits = refl
@@ -63,6 +72,7 @@ call_is calls (V.Stores Long rs1 imm members) a fits = refl
 call_is calls _ a fits = refl
 
 site_is : (calls : List ℕ) (u : U.Unit) (a : ℕ) → site_of (body u) ≡ site_in (entry_of_unit calls u a)
+site_is calls (V.Plain instr) a = by_plain site_in None refl refl (writes_link instr)
 site_is calls (V.System S.Ecall) a = refl
 site_is calls (V.System S.Ebreak) a = refl
 site_is calls (V.Stores Shifts rs1 imm members) a = refl
@@ -74,24 +84,107 @@ and_all : (b : Bool) → (b && true) ≡ b
 and_all true = refl
 and_all false = refl
 
+not_and : (a b : Bool) → not (a && b) ≡ (not a || not b)
+not_and true b = refl
+not_and false b = refl
+
 -- a graph admits a unit where its entry is not barred
+of_others : (version : GraphVersion) (calls : List ℕ) (u : U.Unit) (a : ℕ) → not (is_of_version version u) ≡ is_of_others version (entry_of_unit calls u a)
+of_others OneLabel calls (V.Plain instr) a = by_plain (is_of_others OneLabel) false refl refl (writes_link instr)
+of_others OneLabel calls (V.Ijump which rs1 imm label) a = refl
+of_others OneLabel calls (V.System S.Ecall) a = refl
+of_others OneLabel calls (V.System S.Ebreak) a = refl
+of_others OneLabel calls (V.Stores Shifts rs1 imm members) a = refl
+of_others OneLabel calls (V.Stores Short rs1 imm members) a = refl
+of_others OneLabel calls (V.Stores Long rs1 imm members) a = refl
+of_others OneLabel calls _ a = refl
+of_others TwoLabels calls (V.Plain instr) a = by_plain (is_of_others TwoLabels) false refl refl (writes_link instr)
+of_others TwoLabels calls (V.Ijump which rs1 imm label) a = refl
+of_others TwoLabels calls (V.System S.Ecall) a = refl
+of_others TwoLabels calls (V.System S.Ebreak) a = refl
+of_others TwoLabels calls (V.Stores Shifts rs1 imm members) a = refl
+of_others TwoLabels calls (V.Stores Short rs1 imm members) a = refl
+of_others TwoLabels calls (V.Stores Long rs1 imm members) a = refl
+of_others TwoLabels calls _ a = refl
+of_others CalleeSaves calls (V.Plain instr) a = by_plain (is_of_others CalleeSaves) false refl refl (writes_link instr)
+of_others CalleeSaves calls (V.System S.Ecall) a = refl
+of_others CalleeSaves calls (V.System S.Ebreak) a = refl
+of_others CalleeSaves calls (V.Stores Shifts rs1 imm members) a = refl
+of_others CalleeSaves calls (V.Stores Short rs1 imm members) a = refl
+of_others CalleeSaves calls (V.Stores Long rs1 imm members) a = refl
+of_others CalleeSaves calls _ a = refl
+
+calls_not : (calls : Option (List ℕ)) (u : U.Unit) (a : ℕ) → not (may_call calls u) ≡ may_not_call (is_some calls) (entry_of_unit (numbers_or_none calls) u a)
+calls_not None (V.Plain instr) a = by_plain (may_not_call false) false refl refl (writes_link instr)
+calls_not None (V.System S.Ecall) a = refl
+calls_not None (V.System S.Ebreak) a = refl
+calls_not None (V.Stores Shifts rs1 imm members) a = refl
+calls_not None (V.Stores Short rs1 imm members) a = refl
+calls_not None (V.Stores Long rs1 imm members) a = refl
+calls_not None _ a = refl
+calls_not (Some calls) (V.Plain instr) a = by_plain (may_not_call true) false refl refl (writes_link instr)
+calls_not (Some calls) (V.System S.Ecall) a = refl
+calls_not (Some calls) (V.System S.Ebreak) a = refl
+calls_not (Some calls) (V.Stores Shifts rs1 imm members) a = refl
+calls_not (Some calls) (V.Stores Short rs1 imm members) a = refl
+calls_not (Some calls) (V.Stores Long rs1 imm members) a = refl
+calls_not (Some calls) _ a = refl
+
 bars : (version : GraphVersion) (calls : Option (List ℕ)) (u : U.Unit) (a : ℕ) → not (admits version calls u) ≡ is_barred version (is_some calls) (entry_of_unit (numbers_or_none calls) u a)
-bars version None (V.Ijump which rs1 imm label) a = ap not (and_all (same_word which (jump_word version)))
-bars version (Some calls) (V.Ijump which rs1 imm label) a = ap not (and_all (same_word which (jump_word version)))
-bars version None (V.System S.Ecall) a = refl
-bars version (Some calls) (V.System S.Ecall) a = refl
-bars version None (V.System S.Ebreak) a = refl
-bars version (Some calls) (V.System S.Ebreak) a = refl
-bars version None (V.Stores Shifts rs1 imm members) a = refl
-bars version (Some calls) (V.Stores Shifts rs1 imm members) a = refl
-bars version None (V.Stores Short rs1 imm members) a = refl
-bars version (Some calls) (V.Stores Short rs1 imm members) a = refl
-bars version None (V.Stores Long rs1 imm members) a = refl
-bars version (Some calls) (V.Stores Long rs1 imm members) a = refl
-bars version None _ a = refl
-bars version (Some calls) _ a = refl
+bars version calls u a =
+    not_and (is_of_version version u) (may_call calls u)
+    ∙ ap (λ b. b || not (may_call calls u)) (of_others version (numbers_or_none calls) u a)
+    ∙ ap (λ b. is_of_others version (entry_of_unit (numbers_or_none calls) u a) || b) (calls_not calls u a)
+
+-- what may stand in a leaf and outside of all, and what goes on
+links_same : (o : Option ℕ) → is_link o ≡ reader.is_link o
+links_same None = refl
+links_same (Some rd) = refl
+
+plain_within : (links : Bool) → not links ≡ stands_within (plain_entry links)
+plain_within true = refl
+plain_within false = refl
+
+stands_is : (calls : List ℕ) (l : Option kinds.Leaf) (u : U.Unit) (a : ℕ) → stands_by l u ≡ may_stand l (entry_of_unit calls u a)
+stands_is calls None (V.Plain instr) a = by_plain stands_outside true refl refl (writes_link instr)
+stands_is calls (Some l) (V.Plain instr) a = and_all (not (is_link (written instr))) ∙ ap not (links_same (written instr)) ∙ plain_within (writes_link instr)
+stands_is calls None (V.System S.Ecall) a = refl
+stands_is calls None (V.System S.Ebreak) a = refl
+stands_is calls None (V.Stores Shifts rs1 imm members) a = refl
+stands_is calls None (V.Stores Short rs1 imm members) a = refl
+stands_is calls None (V.Stores Long rs1 imm members) a = refl
+stands_is calls None _ a = refl
+stands_is calls (Some l) (V.System S.Ecall) a = refl
+stands_is calls (Some l) (V.System S.Ebreak) a = refl
+stands_is calls (Some l) (V.Stores Shifts rs1 imm members) a = refl
+stands_is calls (Some l) (V.Stores Short rs1 imm members) a = refl
+stands_is calls (Some l) (V.Stores Long rs1 imm members) a = refl
+stands_is calls (Some l) _ a = refl
+
+goes_is : (calls : List ℕ) (u : U.Unit) (a : ℕ) → goes_on u ≡ entries.goes_on (entry_of_unit calls u a)
+goes_is calls (V.Plain instr) a = by_plain entries.goes_on true refl refl (writes_link instr)
+goes_is calls (V.System S.Ecall) a = refl
+goes_is calls (V.System S.Ebreak) a = refl
+goes_is calls (V.Stores Shifts rs1 imm members) a = refl
+goes_is calls (V.Stores Short rs1 imm members) a = refl
+goes_is calls (V.Stores Long rs1 imm members) a = refl
+goes_is calls _ a = refl
+
+enter_is : (calls : List ℕ) (u : U.Unit) (a : ℕ) → is_enter (Some u) ≡ entries.is_enter (entry_of_unit calls u a)
+enter_is calls (V.Plain instr) a = by_plain entries.is_enter false refl refl (writes_link instr)
+enter_is calls (V.System S.Ecall) a = refl
+enter_is calls (V.System S.Ebreak) a = refl
+enter_is calls (V.Stores Shifts rs1 imm members) a = refl
+enter_is calls (V.Stores Short rs1 imm members) a = refl
+enter_is calls (V.Stores Long rs1 imm members) a = refl
+enter_is calls _ a = refl
+
+gate_there_is : (u : U.Unit) → is_gate u ≡ is_some (gate_of u)
+gate_there_is (V.Gate label) = refl
+gate_there_is _ = refl
 
 gate_is : (calls : List ℕ) (u : U.Unit) (a : ℕ) → gate_of u ≡ gate_in (entry_of_unit calls u a)
+gate_is calls (V.Plain instr) a = by_plain gate_in None refl refl (writes_link instr)
 gate_is calls (V.System S.Ecall) a = refl
 gate_is calls (V.System S.Ebreak) a = refl
 gate_is calls (V.Stores Shifts rs1 imm members) a = refl
@@ -99,23 +192,17 @@ gate_is calls (V.Stores Short rs1 imm members) a = refl
 gate_is calls (V.Stores Long rs1 imm members) a = refl
 gate_is calls _ a = refl
 
-astray_is : (lines : List GraphLine) (calls : List ℕ) (u : U.Unit) (a : ℕ) → is_astray lines a u ≡ holds_of (gate_in (entry_of_unit calls u a)) (λ label. is_outside lines label a)
-astray_is lines calls (V.System S.Ecall) a = refl
-astray_is lines calls (V.System S.Ebreak) a = refl
-astray_is lines calls (V.Stores Shifts rs1 imm members) a = refl
-astray_is lines calls (V.Stores Short rs1 imm members) a = refl
-astray_is lines calls (V.Stores Long rs1 imm members) a = refl
-astray_is lines calls _ a = refl
-
-unit_is : (calls : List ℕ) (u : U.Unit) (a : ℕ) → is_unit (entry_of_unit calls u a) ≡ true
-unit_is calls (V.System S.Ecall) a = refl
-unit_is calls (V.System S.Ebreak) a = refl
-unit_is calls (V.Stores Shifts rs1 imm members) a = refl
-unit_is calls (V.Stores Short rs1 imm members) a = refl
-unit_is calls (V.Stores Long rs1 imm members) a = refl
-unit_is calls _ a = refl
+astray_is : (graph : GraphParts) (calls : List ℕ) (u : U.Unit) (a : ℕ) → is_astray graph a u ≡ holds_of (gate_in (entry_of_unit calls u a)) (λ label. is_outside graph.version graph.lines label a)
+astray_is graph calls (V.Plain instr) a = by_plain (λ e. holds_of (gate_in e) (λ label. is_outside graph.version graph.lines label a)) false refl refl (writes_link instr)
+astray_is graph calls (V.System S.Ecall) a = refl
+astray_is graph calls (V.System S.Ebreak) a = refl
+astray_is graph calls (V.Stores Shifts rs1 imm members) a = refl
+astray_is graph calls (V.Stores Short rs1 imm members) a = refl
+astray_is graph calls (V.Stores Long rs1 imm members) a = refl
+astray_is graph calls _ a = refl
 
 stop_is : (calls : List ℕ) (u : U.Unit) (a : ℕ) → is_stop u ≡ is_stop_entry (entry_of_unit calls u a)
+stop_is calls (V.Plain instr) a = by_plain is_stop_entry false refl refl (writes_link instr)
 stop_is calls (V.System S.Ecall) a = refl
 stop_is calls (V.System S.Ebreak) a = refl
 stop_is calls (V.Stores Shifts rs1 imm members) a = refl
@@ -129,7 +216,7 @@ get_taken (suc n) k [] below = refl
 get_taken (suc n) zero (x ∷ xs) below = refl
 get_taken (suc n) (suc k) (x ∷ xs) below = get_taken n k xs (omega arith)
 
-same_test : {A : Type 0} (o : Option A) (f g : A → Bool) → ((x : A) → f x ≡ g x) → holds_of o f ≡ holds_of o g
+pub same_test : {A : Type 0} (o : Option A) (f g : A → Bool) → ((x : A) → f x ≡ g x) → holds_of o f ≡ holds_of o g
 same_test None f g same = refl
 same_test (Some x) f g same = same x
 
@@ -162,11 +249,15 @@ pub record Something (p : Profile) (words calls : List ℕ) (entries : List Entr
   pub to_last : a + 4 * word_count u ≡ p.units_from + 4 * done → a ≡ p.units_from + 4 * last
   pub from_last : a ≡ p.units_from + 4 * last → a + 4 * word_count u ≡ p.units_from + 4 * done
   pub within : a + 4 * word_count u ≤ p.units_from + 4 * done
+  pub behind : Behind entries done ((a - p.units_from) / 4) (word_count u)
 
 module _ (p : Profile) (laid : LaidOut p) where
   unit_on : (words : List ℕ) (a : ℕ) → is_start p words a ≡ true → unit_at p words a ≡ recognised (drop ((a - 0x40000000) / 4) words) a
   unfolding unit_at
   unit_on words a e = rw e refl
+
+  pub start_round : (words : List ℕ) (a : ℕ) → is_start p words a ≡ true → a % 4 ≡ 0
+  start_round words a e = (start_parts p laid words a e).round
 
   start_is : (words : List ℕ) (a : ℕ) → p.units_from ≤ a → a % 4 ≡ 0 → is_start p words a ≡ is_marked (slice_get (unit_starts p words) ((a - p.units_from) / 4))
   unfolding is_start
@@ -201,6 +292,13 @@ module _ (p : Profile) (laid : LaidOut p) where
         subst (λ (ws : List ℕ). Looks calls s.units ws p.units_from k (or_inside (slice_get entries k))) (sym s.words_are)
         (subst (λ (es : List Entry). Looks calls s.units (spelled s.units p.units_from ++ s.past) p.units_from k (or_inside (slice_get es k))) (sym s.entries_are)
         (lookup calls s.units p.units_from s.past s.room s.stand s.none k))
+
+    spans : (k : ℕ) (e : Entry) (u : U.Unit) → HasUnit calls s.units (unit_words p words) p.units_from k e u → Behind entries done k (word_count u)
+    spans k e u h =
+        subst (λ (es : List Entry). Behind es done k (word_count u)) (sym s.entries_are)
+        (subst (λ (n : ℕ). Behind (entries_of calls s.units p.units_from ++ inside s.room) n k (word_count u)) (sym s.done_is)
+        (behind calls s.units p.units_from s.past s.room s.stand k u (ap (λ ws. slice_get (starts 0 ws p.units_from) k) (sym s.words_are) ∙ h.mark)
+        (ap (λ ws. recognised (drop k ws) (p.units_from + 4 * k)) (sym s.words_are) ∙ h.is) h.within))
 
     -- the split covers what is done
     pub marks_done : length (unit_starts p words) ≡ done
@@ -252,6 +350,7 @@ module _ (p : Profile) (laid : LaidOut p) where
                           to_last = λ e. let there : (a - p.units_from) / 4 ≡ last_of s.units = h.to_last (omega arith) in omega arith;
                           from_last = λ e. let end : (a - p.units_from) / 4 + word_count u ≡ width s.units = h.from_last (omega arith) in omega arith;
                           within = omega arith;
+                          behind = spans ((a - p.units_from) / 4) _ u h;
                         },
                       )
                 ]
@@ -368,51 +467,145 @@ module _ (p : Profile) (laid : LaidOut p) where
           | inr (u, h) ↦ h.start ∙ sym (unit_is calls u a) ∙ ap is_unit (sym h.entry)
         ]
 
-    gate_told : (a : ℕ) → gate_label p words a ≡ gate_at p t a
+    gate_told : (a : ℕ) → option_and_then gate_of (unit_at p words a) ≡ gate_at p t a
     gate_told a =
         elim (at_address a) [
           | inl n ↦ ap (option_and_then gate_of) (no_unit p laid words a n.start) ∙ ap gate_in (sym n.entry)
           | inr (u, h) ↦ ap (option_and_then gate_of) h.is ∙ gate_is calls u a ∙ ap gate_in (sym h.entry)
         ]
 
-    has_told : (a : ℕ) → has_unit p words a ≡ starts_at p t a
+    has_told : (a : ℕ) → is_some (unit_at p words a) ≡ starts_at p t a
     has_told a =
         elim (at_address a) [
           | inl n ↦ ap is_some (no_unit p laid words a n.start) ∙ ap is_unit (sym n.entry)
           | inr (u, h) ↦ ap is_some h.is ∙ sym (unit_is calls u a) ∙ ap is_unit (sym h.entry)
         ]
 
-    borne_told : (which : TargetWord) (a label : ℕ) → is_borne (has_unit p words) (gate_label p words) which a label ≡ is_borne (starts_at p t) (gate_at p t) which a label
-    borne_told First a label = ap (λ o. is_label o label) (gate_told a)
-    borne_told Second a label =
-        ap (λ b. b && is_label (gate_label p words (a + 4)) label) (has_told a)
-        ∙ ap (λ o. starts_at p t a && is_label o label) (gate_told (a + 4))
-    borne_told Third a label =
-        ap (λ b. b && is_label (gate_label p words (a + 8)) label) (has_told a)
-        ∙ ap (λ o. starts_at p t a && is_label o label) (gate_told (a + 8))
-
-    barred_told : (graph : GraphParts) → calls ≡ numbers_in graph → (a : ℕ) → holds_of (unit_at p words a) (λ unit. not (admitted_in graph unit)) ≡ is_barred_at p t graph a
-    barred_told graph same a =
-        let barred : Entry → Bool = is_barred graph.version (is_some (calls_in graph.lines)) in
+    enters_told : (a : ℕ) → is_enter (unit_at p words a) ≡ enters_at p t a
+    enters_told a =
         elim (at_address a) [
-          | inl n ↦ ap (λ o. holds_of o (λ unit. not (admitted_in graph unit))) (no_unit p laid words a n.start) ∙ ap barred (sym n.entry)
+          | inl n ↦ ap is_enter (no_unit p laid words a n.start) ∙ ap entries.is_enter (sym n.entry)
+          | inr (u, h) ↦ ap is_enter h.is ∙ enter_is calls u a ∙ ap entries.is_enter (sym h.entry)
+        ]
+
+    gate_there_told : (a : ℕ) → is_gate_there (unit_at p words a) ≡ is_some (gate_at p t a)
+    gate_there_told a = by (unit_at p words a) ∙ ap is_some (gate_told a)
+      where
+        by : (o : Option U.Unit) → is_gate_there o ≡ is_some (option_and_then gate_of o)
+        by None = refl
+        by (Some u) = gate_there_is u
+
+    fresh_told : (leaves : List kinds.Leaf) (a : ℕ) → is_fresh (unit_at p words) leaves a ≡ fresh_at p t leaves a
+    fresh_told leaves a =
+        ap (λ b. is_some (leaf_of leaves a) || (b || (is_gate_there (unit_at p words a) && is_enter (unit_at p words (a + 4))))) (enters_told a)
+        ∙ ap (λ b. is_some (leaf_of leaves a) || (enters_at p t a || (b && is_enter (unit_at p words (a + 4))))) (gate_there_told a)
+        ∙ ap (λ b. is_some (leaf_of leaves a) || (enters_at p t a || (is_some (gate_at p t a) && b))) (enters_told (a + 4))
+
+    done_within : t.done ≤ length words - prologue_count p
+    done_within =
+        let most = length-starts 0 (unit_words p words) p.units_from in
+        let left : length (unit_words p words) ≡ length words - prologue_count p = length-drop (prologue_count p) words in
+        let marks : length (unit_starts p words) ≡ t.done = marks_done words calls t.entries t.done t.last w.split in
+        omega (arith, most, left, marks)
+
+    -- where the unit at an address ends
+    next_told : (a : ℕ) (u : U.Unit) → Something p words calls t.entries t.done t.last a u → next_at p t a ≡ after_unit u a
+    next_told a u h =
+        let count : t.fed / 4 ≡ length words = w.count in
+        let most = done_within in
+        let some = some_word u in
+        let low = h.low in
+        let within = h.within in
+        let even : a % 4 ≡ 0 = start_round words a h.start in
+        let all : t.done ≡ end_of p t = omega arith in
+        let next = next_is t.entries t.done ((a - p.units_from) / 4) (word_count u) some (omega arith) h.behind in
+        ap (λ n. p.units_from + 4 * entries.next_in t.entries n ((a - p.units_from) / 4)) (sym all) ∙ ap (λ n. p.units_from + 4 * n) next ∙ omega arith
+
+    behind_told : (leaves : List kinds.Leaf) (l : Option kinds.Leaf) (a : ℕ) (u : U.Unit) → Something p words calls t.entries t.done t.last a u →
+        is_right_behind (unit_at p words) leaves l a u ≡ is_right_behind_at p t leaves l a
+    behind_told leaves (Some l) a u h = ap (λ n. in_leaf n l) (sym (next_told a u h))
+    behind_told leaves None a u h =
+        or_same (ap (λ b. b && is_enter (unit_at p words (a + 4))) (gate_there_is u ∙ ap is_some (gate_is calls u a ∙ ap gate_in (sym h.entry))) ∙ ap (λ b. is_some (gate_at p t a) && b) (enters_told (a + 4)))
+        (ap not (fresh_told leaves (after_unit u a) ∙ ap (fresh_at p t leaves) (sym (next_told a u h))))
+
+    wrong_told : (leaves : List kinds.Leaf) (a : ℕ) → holds_of (unit_at p words a) (goes_wrong p words leaves a) ≡ goes_wrong_at p t leaves a
+    wrong_told leaves a =
+        elim (at_address a) [
+          | inl n ↦ ap (λ o. holds_of o (goes_wrong p words leaves a)) (no_unit p laid words a n.start) ∙ ap (λ e. entries.goes_on e && not (is_right_behind_at p t leaves (leaf_of leaves a) a)) (sym n.entry)
           | inr (u, h) ↦
-              ap (λ o. holds_of o (λ unit. not (admitted_in graph unit))) h.is
-              ∙ bars graph.version (calls_in graph.lines) u a ∙ ap (λ ns. barred (entry_of_unit ns u a)) (sym same) ∙ ap barred (sym h.entry)
+              ap (λ o. holds_of o (goes_wrong p words leaves a)) h.is
+              ∙ ap (λ b. b && not (is_right_behind (unit_at p words) leaves (leaf_of leaves a) a u)) (goes_is calls u a ∙ ap entries.goes_on (sym h.entry))
+              ∙ ap (λ b. entries.goes_on (entry_at p t.entries a) && not b) (behind_told leaves (leaf_of leaves a) a u h)
         ]
 
-    astray_told : (lines : List GraphLine) (a : ℕ) → holds_of (unit_at p words a) (is_astray lines a) ≡ holds_of (gate_at p t a) (λ label. is_outside lines label a)
-    astray_told lines a =
+    end_told : (a : ℕ) (line : GraphLine) → lacks_end p words a line ≡ lacks_end_at p t a line
+    end_told a (Calls numbers) = refl
+    end_told a (Leaf from to) =
+        ap (λ b. (from == a) && not (b && (is_start p words to || (to == CODE_START + 4 * length words)))) (start_told from)
+        ∙ ap (λ b. (from == a) && not (starts_at p t from && (b || (to == CODE_START + 4 * length words)))) (start_told to)
+        ∙ ap (λ n. (from == a) && not (starts_at p t from && (starts_at p t to || (to == CODE_START + 4 * n)))) (sym w.count)
+    end_told a (Class sort label targets) = refl
+    end_told a (Site address kind label) = refl
+    end_told a (Edge from to) = refl
+    end_told a (Call from to) = refl
+
+    reached_told : (leaves : List kinds.Leaf) (l : Option kinds.Leaf) (x : ℕ) → may_be_reached (unit_at p words) leaves l x ≡ may_be_reached_at p t leaves l x
+    reached_told leaves None x = ap not (fresh_told leaves x)
+    reached_told leaves (Some l) x = refl
+
+    go_told : (leaves : List kinds.Leaf) (a x : ℕ) → may_go p words leaves a x ≡ may_go_at p t leaves a x
+    go_told leaves a x =
+        ap (λ b. b && may_be_reached (unit_at p words) leaves (leaf_of leaves a) x) (start_told x)
+        ∙ ap (λ b. starts_at p t x && b) (reached_told leaves (leaf_of leaves a) x)
+
+    go_call_told : (saves : Bool) (leaves : List kinds.Leaf) (a x : ℕ) → may_call_to saves p words leaves a x ≡ may_call_at p saves t leaves a x
+    go_call_told true leaves a x =
+        ap (λ b. b && may_be_called (unit_at p words) leaves x) (start_told x)
+        ∙ ap (λ b. starts_at p t x && (b || list_any (begins_at x) leaves)) (enters_told x)
+    go_call_told false leaves a x = go_told leaves a x
+
+    misses_told : (f g : ℕ → Bool) (o other : Option ℕ) → o ≡ other → ((x : ℕ) → f x ≡ g x) → holds_of o (λ x. not (f x)) ≡ holds_of other (λ x. not (g x))
+    misses_told f g o other e same = ap (λ q. holds_of q (λ x. not (f x))) e ∙ same_test other _ _ (λ x. ap not (same x))
+
+    borne_told : (leaves : List kinds.Leaf) (which : TargetWord) (a label : ℕ) → is_borne (signs_in p words leaves) which a label ≡ is_borne (signs_at p t leaves) which a label
+    borne_told leaves First a label =
+        ap (λ o. is_label o label && not (is_fresh (unit_at p words) leaves a)) (gate_told a)
+        ∙ ap (λ b. is_label (gate_at p t a) label && not b) (fresh_told leaves a)
+    borne_told leaves Second a label =
+        ap (λ b. b && is_label (option_and_then gate_of (unit_at p words (a + 4))) label) (has_told a)
+        ∙ ap (λ o. starts_at p t a && is_label o label) (gate_told (a + 4))
+    borne_told leaves Third a label =
+        ap (λ o. is_label o label && is_enter (unit_at p words (a + 12))) (gate_told (a + 8))
+        ∙ ap (λ b. is_label (gate_at p t (a + 8)) label && b) (enters_told (a + 12))
+
+    barred_told : (graph : GraphParts) → calls ≡ numbers_in graph → (a : ℕ) → holds_of (unit_at p words a) (λ unit. not (may_stand_at graph a unit)) ≡ (is_barred_at p t graph a || entries.stands_wrong_at p t (leaves_in graph.lines) a)
+    barred_told graph same a =
+        let barred : Entry → Bool = λ e. is_barred graph.version (is_some (calls_in graph.lines)) e || not (may_stand (leaf_of (leaves_in graph.lines) a) e) in
         elim (at_address a) [
-          | inl n ↦ ap (λ o. holds_of o (is_astray lines a)) (no_unit p laid words a n.start) ∙ ap (λ e. holds_of (gate_in e) (λ label. is_outside lines label a)) (sym n.entry)
-          | inr (u, h) ↦ ap (λ o. holds_of o (is_astray lines a)) h.is ∙ astray_is lines calls u a ∙ ap (λ e. holds_of (gate_in e) (λ label. is_outside lines label a)) (sym h.entry)
+          | inl n ↦ ap (λ o. holds_of o (λ unit. not (may_stand_at graph a unit))) (no_unit p laid words a n.start) ∙ inside_stands (leaf_of (leaves_in graph.lines) a) ∙ ap barred (sym n.entry)
+          | inr (u, h) ↦
+              ap (λ o. holds_of o (λ unit. not (may_stand_at graph a unit))) h.is
+              ∙ not_and (admitted_in graph u) _
+              ∙ or_same (bars graph.version (calls_in graph.lines) u a) (ap not (stands_is (numbers_in graph) (leaf_of (leaves_in graph.lines) a) u a))
+              ∙ ap (λ ns. barred (entry_of_unit ns u a)) (sym same) ∙ ap barred (sym h.entry)
+        ]
+      where
+        inside_stands : (l : Option kinds.Leaf) → false ≡ (false || not (may_stand l E.Inside))
+        inside_stands None = refl
+        inside_stands (Some l) = refl
+
+    astray_told : (graph : GraphParts) (a : ℕ) → holds_of (unit_at p words a) (is_astray graph a) ≡ holds_of (gate_at p t a) (λ label. is_outside graph.version graph.lines label a)
+    astray_told graph a =
+        elim (at_address a) [
+          | inl n ↦ ap (λ o. holds_of o (is_astray graph a)) (no_unit p laid words a n.start) ∙ ap (λ e. holds_of (gate_in e) (λ label. is_outside graph.version graph.lines label a)) (sym n.entry)
+          | inr (u, h) ↦ ap (λ o. holds_of o (is_astray graph a)) h.is ∙ astray_is graph calls u a ∙ ap (λ e. holds_of (gate_in e) (λ label. is_outside graph.version graph.lines label a)) (sym h.entry)
         ]
 
-    lacks_told : (a : ℕ) (line : GraphLine) → lacks_gate (has_unit p words) (gate_label p words) a line ≡ lacks_gate (starts_at p t) (gate_at p t) a line
-    lacks_told a line =
-        same_test (class_in line) (λ (c : ClassLine). is_among a c.targets && not (is_borne (has_unit p words) (gate_label p words) (read_of c.sort) a c.label))
-        (λ (c : ClassLine). is_among a c.targets && not (is_borne (starts_at p t) (gate_at p t) (read_of c.sort) a c.label))
-        (λ (c : ClassLine). ap (λ b. is_among a c.targets && not b) (borne_told (read_of c.sort) a c.label))
+    lacks_told : (version : GraphVersion) (leaves : List kinds.Leaf) (a : ℕ) (line : GraphLine) → lacks_gate version (signs_in p words leaves) a line ≡ lacks_gate version (signs_at p t leaves) a line
+    lacks_told version leaves a line =
+        same_test (class_in line) (λ (c : ClassLine). is_among a c.targets && not (is_borne (signs_in p words leaves) (read_of version c.sort) a c.label))
+        (λ (c : ClassLine). is_among a c.targets && not (is_borne (signs_at p t leaves) (read_of version c.sort) a c.label))
+        (λ (c : ClassLine). ap (λ b. is_among a c.targets && not b) (borne_told leaves (read_of version c.sort) a c.label))
 
     unused_told : (a : ℕ) (line : GraphLine) → is_unused (place_at p words a) line ≡ is_unused_at p t a line
     unused_told a (Calls numbers) = refl
@@ -430,9 +623,6 @@ module _ (p : Profile) (laid : LaidOut p) where
     lone_told a (Edge from to) = refl
     lone_told a (Call from to) = refl
 
-    misses_told : (o other : Option ℕ) → o ≡ other → holds_of o (λ x. not (is_start p words x)) ≡ misses_start p t other
-    misses_told o other e = ap (λ q. holds_of q (λ x. not (is_start p words x))) e ∙ same_test other _ _ (λ x. ap not (start_told x))
-
     prologue_told : (a : ℕ) → fails_prologue p words a ≡ fails_prologue p t.prologue a
     prologue_told a =
         elim (cases_lt ((a - CODE_START) / 4) (prologue_count p)) [
@@ -443,13 +633,6 @@ module _ (p : Profile) (laid : LaidOut p) where
         off : (low high round x y : Bool) → high ≡ false → ((low && high) && round && x) ≡ ((low && high) && round && y)
         off true high round x y e = rw e refl
         off false high round x y e = refl
-
-    done_within : t.done ≤ length words - prologue_count p
-    done_within =
-        let most = length-starts 0 (unit_words p words) p.units_from in
-        let left : length (unit_words p words) ≡ length words - prologue_count p = length-drop (prologue_count p) words in
-        let marks : length (unit_starts p words) ≡ t.done = marks_done words calls t.entries t.done t.last w.split in
-        omega (arith, most, left, marks)
 
     short_told : nat_le (CODE_START + 4 * length words) p.units_from ≡ nat_le (t.fed / 4) (prologue_count p)
     short_told =
@@ -506,7 +689,9 @@ module _ (p : Profile) (laid : LaidOut p) where
         or_same (swap (a == p.units_from + 4 * length (unit_starts p words)) (nat_lt (length (unit_starts p words)) (length (unit_words p words)))
         ∙ ap (λ n. nat_lt n (length (unit_words p words)) && (a == p.units_from + 4 * n)) (marks_done words calls t.entries t.done t.last w.split)
         ∙ ap (λ n. nat_lt t.done n && (a == p.units_from + 4 * t.done)) left) (barred_told graph same a)
-    fails_told R.Target graph same a = or_same (misses_told _ _ (edge_told a)) (misses_told _ _ (call_told a))
+    fails_told R.Leaf graph same a = or_same (same_any _ _ graph.lines (end_told a)) (wrong_told (leaves_in graph.lines) a)
+    fails_told R.Target graph same a =
+        or_same (misses_told _ _ _ _ (edge_told a) (go_told (leaves_in graph.lines) a)) (misses_told _ _ _ _ (call_told a) (go_call_told p.callee_saves (leaves_in graph.lines) a))
     fails_told R.Unlisted graph same a =
         or_same (ap (λ o. holds_of o (λ target. not (is_edge_to (line_at graph.lines a) target))) (edge_told a))
         (ap (λ o. holds_of o (λ target. not (is_call_to (line_at graph.lines a) target))) (call_told a))
@@ -514,8 +699,8 @@ module _ (p : Profile) (laid : LaidOut p) where
     fails_told R.Site graph same a =
         or_same (ap (λ o. holds_of o (λ (asked : Asks). not (is_site_with (line_at graph.lines a) asked && is_some (targets_for graph.lines asked.kind asked.which asked.label)))) (site_told a))
         (same_test (line_at graph.lines a) _ _ (lone_told a))
-    fails_told R.Gate graph same a = same_any _ _ graph.lines (lacks_told a)
-    fails_told R.Astray graph same a = astray_told graph.lines a
+    fails_told R.Gate graph same a = same_any _ _ graph.lines (lacks_told graph.version (leaves_in graph.lines) a)
+    fails_told R.Astray graph same a = astray_told graph a
     fails_told R.End graph same a = or_same (bad_end_told a) (ap (λ b. (a == p.units_from) && b) short_told)
 
   -- whether something starts at an address from the first unit on

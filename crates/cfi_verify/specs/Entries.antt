@@ -1,25 +1,28 @@
 -- What the listing of a code says of an address, and of each rule there.
-use Rattle.std.specs.Prelude.{◌≡◌, ℕ, ◌+◌, ◌-◌, ◌*◌, ◌/◌, ◌%◌, ◌==◌, nat_lt, nat_le, ◌&&◌, ◌||◌, not, Bool, true, false, List, length, take, slice_get, Option, Some, None, is_some, if◌then◌else◌}
+use Rattle.std.specs.Prelude.{◌≡◌, ℕ, ◌+◌, ◌-◌, ◌*◌, ◌/◌, ◌%◌, ◌==◌, nat_lt, nat_le, min, ◌&&◌, ◌||◌, not, Bool, true, false, List, length, take, slice_get, Option, Some, None, is_some, if◌then◌else◌}
 use Rattle.std.specs.List.{list_any}
 use Rattle.rv_word.specs.declared.version.GraphVersion.{GraphVersion}
-use Rattle.rv_word.specs.MemoryMap.{Profile, START}
+use Rattle.rv_word.specs.MemoryMap.{CODE_START, Profile, START}
 use Rattle.cfi_graph.specs.declared.line.GraphLine.{GraphLine}
-use Rattle.cfi_graph.specs.declared.line.GraphLine.TheVariants.{Site, Edge, Call}
+use Rattle.cfi_graph.specs.declared.line.GraphLine.TheVariants.{Leaf, Site, Edge, Call}
 use Rattle.cfi_graph.specs.declared.line.SiteKind.TheVariants as K
-use Rattle.cfi_graph.specs.Graph.{GraphParts, calls_in}
+use Rattle.cfi_graph.specs.Graph.{GraphParts, calls_in, has_leaves}
 use Rattle.cfi_unit.specs.declared.target_word.TargetWord.TheVariants.{First, Third}
 use Rattle.cfi_unit.specs.Recognise.{led_to, near_to}
+use Rattle.cfi_pending.specs.Kinds as kinds
+use Rattle.cfi_pending.specs.Kinds.{begins_at, in_leaf, leaf_of}
 use Rattle.cfi_reader.specs.declared.entry.Entry.{Entry}
 use Rattle.cfi_reader.specs.declared.entry.Entry.TheVariants as E
-use Rattle.cfi_reader.specs.Entries.{is_unit, numbers_or_none}
+use Rattle.cfi_reader.specs.Entries.{is_quiet, is_started, is_unit, numbers_or_none}
 use Rattle.cfi_scan.specs.Pieces.{Listed, prologue_count}
 use Rattle.cfi_scan.specs.Stream.{IsSplitUp}
-use Rattle.cfi_rules.specs.Lines.{holds_of, is_outside, line_at, targets_for}
+use Rattle.cfi_rules.specs.Lines.{holds_of, is_outside, jump_word, leaves_in, line_at, targets_for}
 use Rattle.cfi_rules.specs.Split.{entry_of, unit_words}
-use Rattle.cfi_rules.specs.Rules.{fails_prologue, is_edge_to, is_call_to, is_site_with, jump_word, lacks_gate, same_word, asks}
+use Rattle.cfi_rules.specs.Rules.{Signs, asks, fails_prologue, is_call_to, is_edge_to, is_site_with, lacks_gate, same_word}
 use Rattle.cfi_rules.specs.declared.asks.Asks.{Asks}
 use Rattle.cfi_rules.specs.declared.reject.Rule.{Rule}
 use Rattle.cfi_rules.specs.declared.reject.Rule.TheVariants as R
+use Rattle.least.specs.First.{first_below}
 
 -- where there is no entry, no unit starts
 abbrev pub or_inside : Option Entry → Entry
@@ -51,19 +54,71 @@ site_in (E.LeanIjump label) = Some (asks K.Jump First label)
 site_in (E.LeanIcall label) = Some (asks K.Call Third label)
 site_in _ = None
 
--- a graph does not admit a unit with this entry: it is one of images whose callees save sites; its version has no such computed jump; it has a list and the unit is a
--- bare call of the system, or one that is guarded otherwise; it has no list and the unit is guarded
+-- no unit with this entry stands in code whose graph has this version: it is one of other images, by who saves the sites of calls, or a
+-- computed jump whose check reads another word
+abbrev pub is_of_others : GraphVersion → Entry → Bool
+is_of_others version (E.Ijump which label) = has_leaves version || not (same_word which (jump_word version))
+is_of_others version (E.Call field) = has_leaves version
+is_of_others version (E.Icall label) = has_leaves version
+is_of_others version E.Stores = has_leaves version
+is_of_others version (E.LinkCall field) = not (has_leaves version)
+is_of_others version E.Enter = not (has_leaves version)
+is_of_others version (E.LeanIjump label) = not (has_leaves version)
+is_of_others version (E.LeanIcall label) = not (has_leaves version)
+is_of_others version E.LeafReturn = not (has_leaves version)
+is_of_others version E.LeanStores = not (has_leaves version)
+is_of_others version _ = false
+
+-- nor where the graph has a list of system calls a bare call, or one that is guarded otherwise, and nor where it has none a guarded one
+abbrev pub may_not_call : Bool → Entry → Bool
+may_not_call has_list E.Ecall = has_list
+may_not_call has_list (E.Guarded same) = not (has_list && same)
+may_not_call has_list _ = false
+
+-- a graph does not admit a unit with this entry
 abbrev pub is_barred : GraphVersion → Bool → Entry → Bool
-is_barred version has_list (E.Ijump which label) = not (same_word which (jump_word version))
-is_barred version has_list E.Ecall = has_list
-is_barred version has_list (E.Guarded same) = not (has_list && same)
-is_barred version has_list (E.LinkCall field) = true
-is_barred version has_list E.Enter = true
-is_barred version has_list (E.LeanIjump label) = true
-is_barred version has_list (E.LeanIcall label) = true
-is_barred version has_list E.LeafReturn = true
-is_barred version has_list E.LeanStores = true
-is_barred version has_list _ = false
+is_barred version has_list entry = is_of_others version entry || may_not_call has_list entry
+
+-- a unit with this entry may stand in a leaf, and outside of all leaves
+abbrev pub stands_within : Entry → Bool
+stands_within (E.Gate label) = false
+stands_within (E.Call field) = false
+stands_within (E.LinkCall field) = false
+stands_within E.Enter = false
+stands_within (E.Ijump which label) = false
+stands_within (E.Icall label) = false
+stands_within (E.LeanIjump label) = false
+stands_within (E.LeanIcall label) = false
+stands_within E.WritesLink = false
+stands_within E.Return = false
+stands_within _ = true
+
+abbrev pub stands_outside : Entry → Bool
+stands_outside E.LeafReturn = false
+stands_outside _ = true
+
+abbrev pub may_stand : Option kinds.Leaf → Entry → Bool
+may_stand (Some leaf) entry = stands_within entry
+may_stand None entry = stands_outside entry
+
+-- it may go on to the one behind it, or a call come back there
+abbrev pub goes_on : Entry → Bool
+goes_on E.Inside = false
+goes_on (E.Jump field) = false
+goes_on E.Stop = false
+goes_on E.Break = false
+goes_on E.Return = false
+goes_on E.LeafReturn = false
+goes_on (E.Call field) = false
+goes_on (E.Ijump which label) = false
+goes_on (E.Icall label) = false
+goes_on (E.LeanIjump label) = false
+goes_on _ = true
+
+-- it saves a site
+abbrev pub is_enter : Entry → Bool
+is_enter E.Enter = true
+is_enter _ = false
 
 -- the label of a gate
 abbrev pub gate_in : Entry → Option ℕ
@@ -73,6 +128,14 @@ gate_in _ = None
 -- the numbers of a graph's list of system calls: none, where it has no list
 abbrev pub numbers_in : GraphParts → List ℕ
 numbers_in graph = numbers_or_none (calls_in graph.lines)
+
+-- where the unit at a word ends: at the next word where one starts, or at the end of all, both in words
+abbrev pub next_by : ℕ → ℕ → Option ℕ → ℕ
+next_by k end None = end
+next_by k end (Some j) = k + 1 + j
+
+unfoldable pub next_in : List Entry → ℕ → ℕ → ℕ
+next_in entries end k = next_by k end (first_below (λ j. is_started (slice_get entries (k + 1 + j))) (end - (k + 1)))
 
 module _ (p : Profile) where
   -- a listing tells of the words of a code, under some numbers of system calls: it has those of the prologue and an entry for each other one
@@ -110,15 +173,80 @@ module _ (p : Profile) where
   abbrev pub misses_start : Listed → Option ℕ → Bool
   misses_start t target = holds_of target (λ x. not (starts_at t x))
 
+  abbrev pub misses_start_at : Listed → ℕ → Bool
+  misses_start_at t a = misses_start t (edge_at t a) || misses_start t (call_at t a)
+
+  -- what stands there saves a site
+  abbrev pub enters_at : Listed → ℕ → Bool
+  enters_at t a = is_enter (entry_at t.entries a)
+
+  -- a start is fresh
+  abbrev pub fresh_at : Listed → List kinds.Leaf → ℕ → Bool
+  fresh_at t leaves a = is_some (leaf_of leaves a) || (enters_at t a || (is_some (gate_at t a) && enters_at t (a + 4)))
+
+  abbrev pub signs_at : Listed → List kinds.Leaf → Signs
+  signs_at t leaves = record { starts = starts_at t; gate = gate_at t; fresh = fresh_at t leaves; enters = enters_at t }
+
+  -- where the last unit ends, in words behind the prologue, and where the unit at an address does
+  abbrev pub end_of : Listed → ℕ
+  end_of t = min t.done (count_of t)
+
+  abbrev pub next_at : Listed → ℕ → ℕ
+  next_at t a = p.units_from + 4 * next_in t.entries (end_of t) ((a - p.units_from) / 4)
+
   -- the rules, in the words of specs/Rules
   abbrev pub is_barred_at : Listed → GraphParts → ℕ → Bool
   is_barred_at t graph a = is_barred graph.version (is_some (calls_in graph.lines)) (entry_at t.entries a)
 
-  abbrev pub fails_unit_at : Listed → GraphParts → ℕ → Bool
-  fails_unit_at t graph a = (nat_lt t.done (count_of t) && (a == p.units_from + 4 * t.done)) || is_barred_at t graph a
+  -- of a unit there that is of a transfer, a gate or a system call it is so
+  abbrev pub is_barred_busy_at : Listed → GraphParts → ℕ → Bool
+  is_barred_busy_at t graph a = is_barred_at t graph a && not (is_quiet (entry_at t.entries a))
 
-  abbrev pub fails_target_at : Listed → ℕ → Bool
-  fails_target_at t a = misses_start t (edge_at t a) || misses_start t (call_at t a)
+  abbrev pub stands_wrong_at : Listed → List kinds.Leaf → ℕ → Bool
+  stands_wrong_at t leaves a = not (may_stand (leaf_of leaves a) (entry_at t.entries a))
+
+  abbrev pub fails_unit_at : Listed → GraphParts → ℕ → Bool
+  fails_unit_at t graph a =
+      (nat_lt t.done (count_of t) && (a == p.units_from + 4 * t.done)) || (is_barred_at t graph a || stands_wrong_at t (leaves_in graph.lines) a)
+
+  -- a leaf is of whole units
+  abbrev pub is_whole : Listed → ℕ → ℕ → Bool
+  is_whole t from to = starts_at t from && (starts_at t to || (to == CODE_START + 4 * (t.fed / 4)))
+
+  abbrev pub lacks_end_at : Listed → ℕ → GraphLine → Bool
+  lacks_end_at t a (Leaf from to) = (from == a) && not (is_whole t from to)
+  lacks_end_at t a other = false
+
+  -- what stands behind a unit is of its kind
+  abbrev pub is_right_behind_at : Listed → List kinds.Leaf → Option kinds.Leaf → ℕ → Bool
+  is_right_behind_at t leaves (Some leaf) a = in_leaf (next_at t a) leaf
+  is_right_behind_at t leaves None a = (is_some (gate_at t a) && enters_at t (a + 4)) || not (fresh_at t leaves (next_at t a))
+
+  abbrev pub goes_wrong_at : Listed → List kinds.Leaf → ℕ → Bool
+  goes_wrong_at t leaves a = goes_on (entry_at t.entries a) && not (is_right_behind_at t leaves (leaf_of leaves a) a)
+
+  abbrev pub fails_leaf_at : Listed → List GraphLine → ℕ → Bool
+  fails_leaf_at t lines a = list_any (lacks_end_at t a) lines || goes_wrong_at t (leaves_in lines) a
+
+  -- a direct target is of its kind
+  abbrev pub may_be_reached_at : Listed → List kinds.Leaf → Option kinds.Leaf → ℕ → Bool
+  may_be_reached_at t leaves (Some leaf) x = in_leaf x leaf
+  may_be_reached_at t leaves None x = not (fresh_at t leaves x)
+
+  abbrev pub may_be_called_at : Listed → List kinds.Leaf → ℕ → Bool
+  may_be_called_at t leaves x = enters_at t x || list_any (begins_at x) leaves
+
+  abbrev pub may_go_at : Listed → List kinds.Leaf → ℕ → ℕ → Bool
+  may_go_at t leaves a x = starts_at t x && may_be_reached_at t leaves (leaf_of leaves a) x
+
+  abbrev pub may_call_at : Bool → Listed → List kinds.Leaf → ℕ → ℕ → Bool
+  may_call_at true t leaves a x = starts_at t x && may_be_called_at t leaves x
+  may_call_at false t leaves a x = may_go_at t leaves a x
+
+  abbrev pub fails_target_at : Listed → List GraphLine → ℕ → Bool
+  fails_target_at t lines a =
+      holds_of (edge_at t a) (λ x. not (may_go_at t (leaves_in lines) a x))
+      || holds_of (call_at t a) (λ x. not (may_call_at p.callee_saves t (leaves_in lines) a x))
 
   abbrev pub fails_unlisted_at : Listed → List GraphLine → ℕ → Bool
   fails_unlisted_at t lines a =
@@ -142,11 +270,11 @@ module _ (p : Profile) where
       holds_of (site_at t a) (λ asked. not (is_site_with (line_at lines a) asked && is_some (targets_for lines asked.kind asked.which asked.label)))
       || holds_of (line_at lines a) (is_lone_at t a)
 
-  abbrev pub fails_gate_at : Listed → List GraphLine → ℕ → Bool
-  fails_gate_at t lines a = list_any (lacks_gate (starts_at t) (gate_at t) a) lines
+  abbrev pub fails_gate_at : Listed → GraphParts → ℕ → Bool
+  fails_gate_at t graph a = list_any (lacks_gate graph.version (signs_at t (leaves_in graph.lines)) a) graph.lines
 
-  abbrev pub fails_astray_at : Listed → List GraphLine → ℕ → Bool
-  fails_astray_at t lines a = holds_of (gate_at t a) (λ label. is_outside lines label a)
+  abbrev pub fails_astray_at : Listed → GraphParts → ℕ → Bool
+  fails_astray_at t graph a = holds_of (gate_at t a) (λ label. is_outside graph.version graph.lines label a)
 
   -- the last unit ends the code and is no stop
   abbrev pub is_bad_end_at : Listed → ℕ → Bool
@@ -160,10 +288,11 @@ module _ (p : Profile) where
   abbrev pub fails_at : Rule → Listed → GraphParts → ℕ → Bool
   fails_at R.Prologue t graph a = fails_prologue p t.prologue a
   fails_at R.Unit t graph a = fails_unit_at t graph a
-  fails_at R.Target t graph a = fails_target_at t a
+  fails_at R.Leaf t graph a = fails_leaf_at t graph.lines a
+  fails_at R.Target t graph a = fails_target_at t graph.lines a
   fails_at R.Unlisted t graph a = fails_unlisted_at t graph.lines a
   fails_at R.Unused t graph a = fails_unused_at t graph.lines a
   fails_at R.Site t graph a = fails_site_at t graph.lines a
-  fails_at R.Gate t graph a = fails_gate_at t graph.lines a
-  fails_at R.Astray t graph a = fails_astray_at t graph.lines a
+  fails_at R.Gate t graph a = fails_gate_at t graph a
+  fails_at R.Astray t graph a = fails_astray_at t graph a
   fails_at R.End t graph a = fails_end_at t a

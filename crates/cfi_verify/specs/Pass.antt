@@ -5,22 +5,29 @@ use Rattle.cfi_graph.specs.declared.line.GraphLine.{GraphLine}
 use Rattle.cfi_graph.specs.declared.line.Key.TheVariants.{Address}
 use Rattle.cfi_graph.specs.Graph.{GraphParts, key_below, key_of}
 use Rattle.cfi_scan.specs.Pieces.{Listed, prologue_count}
-use Rattle.cfi_verify.specs.Entries.{count_of, entry_at, is_barred_at, gate_at, is_stop_entry, starts_at, fails_at, fails_target_at, fails_unlisted_at, fails_unused_at, fails_site_at, fails_astray_at}
-use Rattle.cfi_rules.specs.Lines.{line_at}
+use Rattle.cfi_verify.specs.Entries.{count_of, entry_at, is_barred_at, is_barred_busy_at, is_stop_entry, fails_at, fails_leaf_at, fails_target_at, misses_start_at, signs_at, stands_wrong_at, fails_unlisted_at, fails_unused_at, fails_site_at, fails_astray_at}
+use Rattle.cfi_rules.specs.Lines.{leaves_in, line_at}
 use Rattle.cfi_rules.specs.Rules.{lacks_gate}
 use Rattle.cfi_rules.specs.declared.reject.Rule.{Rule}
 use Rattle.cfi_rules.specs.declared.reject.Rule.TheVariants as R
 
 module _ (p : Profile) where
   -- none of the rules fails at an address that ask for its transfer, its gate and its line: of Unit, that
-  -- the graph admits the unit there
+  -- the graph admits the unit there, if it is of one of these; of Target, that units start at its targets
   pub record HoldsAt (t : Listed) (graph : GraphParts) (a : ℕ) : Type 0 where
-    pub unit : is_barred_at p t graph a ≡ false
-    pub target : fails_target_at p t a ≡ false
+    pub unit : is_barred_busy_at p t graph a ≡ false
+    pub target : misses_start_at p t a ≡ false
     pub unlisted : fails_unlisted_at p t graph.lines a ≡ false
     pub unused : fails_unused_at p t graph.lines a ≡ false
     pub site : fails_site_at p t graph.lines a ≡ false
-    pub astray : fails_astray_at p t graph.lines a ≡ false
+    pub astray : fails_astray_at p t graph a ≡ false
+
+  -- and none of what the rules ask for by kinds of starts
+  pub record KindHoldsAt (t : Listed) (graph : GraphParts) (a : ℕ) : Type 0 where
+    pub unit : is_barred_at p t graph a ≡ false
+    pub stands : stands_wrong_at p t (leaves_in graph.lines) a ≡ false
+    pub leaf : fails_leaf_at p t graph.lines a ≡ false
+    pub target : fails_target_at p t graph.lines a ≡ false
 
   -- a rule that is asked address by address fails at no word of the prologue
   abbrev pub HoldsEarly : Listed → GraphParts → Rule → Type 0
@@ -36,7 +43,7 @@ module _ (p : Profile) where
   pub record HasPassed (t : Listed) (graph : GraphParts) (count next : ℕ) : Type 0 where
     pub words : (k : ℕ) → k < next → HoldsAt t graph (p.units_from + 4 * k)
     pub lines_before : (i : ℕ) (line : GraphLine) → i < count → slice_get graph.lines i ≡ Some line → key_below (key_of line) (Address (p.units_from + 4 * next)) ≡ true
-    pub gates : (i : ℕ) (line : GraphLine) → i < count → slice_get graph.lines i ≡ Some line → (a : ℕ) → lacks_gate (starts_at p t) (gate_at p t) a line ≡ false
+    pub gates : (i : ℕ) (line : GraphLine) → i < count → slice_get graph.lines i ≡ Some line → (a : ℕ) → lacks_gate graph.version (signs_at p t (leaves_in graph.lines)) a line ≡ false
 
   -- at none of these words a line stands
   abbrev pub NoneStands : List GraphLine → ℕ → ℕ → Type 0

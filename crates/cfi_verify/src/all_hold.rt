@@ -1,11 +1,13 @@
 //! One pass that tells whether all rules hold, so that the first that fails is looked for only where one does.
 
 ghost use Rattle.std.specs.Prelude.{◌≡◌, ◌+◌, ◌*◌, ◌<◌, ◌≤◌, ◌^◌, ℕ, IfSome, List, None, Some, false, length, true};
+ghost use Rattle.cfi_graph.specs.Graph.{has_leaves};
 ghost use Rattle.cfi_reader.specs.Entries.{is_quiet};
-ghost use Rattle.cfi_verify.specs.Entries.{Tells, count_of, entry_at, fails_gate_at, gate_at, numbers_in, starts_at};
-ghost use Rattle.cfi_rules.specs.Lines.{line_at};
-ghost use Rattle.cfi_verify.specs.Pass.{HasPassed, HoldsAt, HoldsEarly, NoneStands, ends_in_stop};
+ghost use Rattle.cfi_verify.specs.Entries.{Tells, count_of, entry_at, fails_gate_at, numbers_in, signs_at};
+ghost use Rattle.cfi_rules.specs.Lines.{leaves_in, line_at};
+ghost use Rattle.cfi_verify.specs.Pass.{HasPassed, HoldsAt, HoldsEarly, KindHoldsAt, NoneStands, ends_in_stop};
 ghost use Rattle.cfi_rules.specs.Rules.{Holds, lacks_gate};
+ghost use Rattle.cfi_verify.specs.Leaves.{ArePast};
 ghost use Rattle.cfi_verify.specs.Scan.{profile_in};
 ghost use Rattle.cfi_rules.specs.declared.reject.Rule.{Rule};
 
@@ -24,10 +26,12 @@ impl<'a> Starts<'a> {
         ensures { result ≡ true → (words : List ℕ) → Tells (profile_in self.now) (numbers_in self.now.graph) self.now.listing words → (rule : Rule) → Holds (profile_in self.now) words self.now.graph rule }
     {
         let _count = self.count();
+        // Tells the proof that the profile and the graph agree on who saves the sites of calls.
+        let _leaves = self.has_leaves();
         if !self.prologue_holds() || !self.ends_in_stop() {
             return false;
         }
-        self.lines_hold()
+        self.lines_hold() && self.kinds_hold()
     }
 
     /// Whether no rule that is asked address by address fails at a word of the prologue.
@@ -65,7 +69,7 @@ impl<'a> Starts<'a> {
     /// stands.
     fn lines_hold(&self) -> bool
         ensures words { result ≡ true → (k : ℕ) → k < count_of (profile_in self.now) self.now.listing → HoldsAt (profile_in self.now) self.now.listing self.now.graph ((profile_in self.now).units_from + 4 * k) }
-        ensures gates { result ≡ true → (a : ℕ) → fails_gate_at (profile_in self.now) self.now.listing self.now.graph.lines a ≡ false }
+        ensures gates { result ≡ true → (a : ℕ) → fails_gate_at (profile_in self.now) self.now.listing self.now.graph a ≡ false }
     {
         let mut next = 0;
         for k in 0..self.graph().lines() {
@@ -102,7 +106,7 @@ impl<'a> Starts<'a> {
 
     /// `next`, if each target of a class has the class's gate.
     fn after_class(&self, line: &GraphLine, next: u64) -> Option<u64>
-        ensures { IfSome result (λ after. (after ≡ next) × ((a : ℕ) → lacks_gate (starts_at (profile_in self.now) self.now.listing) (gate_at (profile_in self.now) self.now.listing) a line.now ≡ false)) }
+        ensures { IfSome result (λ after. (after ≡ next) × ((a : ℕ) → lacks_gate self.now.graph.version (signs_at (profile_in self.now) self.now.listing (leaves_in self.now.graph.lines)) a line.now ≡ false)) }
     {
         match self.target_without_gate(line) {
             Some(_) => None,
@@ -120,7 +124,12 @@ impl<'a> Starts<'a> {
         match line {
             GraphLine::Edge(_, to) => self.edge_at(address) == Some(*to) && self.is_start(*to),
             GraphLine::Call(_, to) => match self.entry_at(address) {
-                Entry::Call(field) => led(address + 28, field) == *to && self.is_start(*to),
+                Entry::Call(field) => {
+                    !self.has_leaves() && led(address + 28, field) == *to && self.is_start(*to)
+                }
+                Entry::LinkCall(field) => {
+                    self.has_leaves() && led(address, field) == *to && self.is_start(*to)
+                }
                 _ => false,
             },
             GraphLine::Site(..) => {
@@ -166,10 +175,55 @@ impl<'a> Starts<'a> {
     {
         match self.word(index) {
             Entry::Gate(label) => !self.is_outside(label.bits(), self.units_from() + 4 * index),
-            Entry::Inside | Entry::Stop | Entry::Other => true,
+            Entry::Inside
+            | Entry::Stop
+            | Entry::Other
+            | Entry::WritesLink
+            | Entry::Return
+            | Entry::Break
+            | Entry::Stores => true,
+            Entry::Enter | Entry::LeafReturn | Entry::LeanStores => self.has_leaves(),
             Entry::Ecall => !self.has_list(),
             Entry::Guarded(same) => self.has_list() && same,
             _ => false,
+        }
+    }
+
+    /// Whether at each word after the prologue holds what the rules ask by kinds of starts. Where callers save the
+    /// sites of calls, all starts are of one kind.
+    fn kinds_hold(&self) -> bool
+        ensures { result ≡ true → has_leaves self.now.graph.version ≡ true → (k : ℕ) → k < count_of (profile_in self.now) self.now.listing → KindHoldsAt (profile_in self.now) self.now.listing self.now.graph ((profile_in self.now).units_from + 4 * k) }
+    {
+        if !self.has_leaves() {
+            return true;
+        }
+        let _count = self.count();
+        let mut line = 0;
+        for index in 0..self.count_after() {
+            let address = self.units_from() + 4 * index;
+            line = self.line_from(line, address);
+            if !self.kind_holds(line, address) {
+                return false;
+            }
+        }
+        true
+    }
+
+    /// The same at one word, where the lines before a line stand before that of its leaf.
+    fn kind_holds(&self, line: u64, address: u64) -> bool
+        requires low { (profile_in self.now).units_from ≤ address }
+        requires small { address < 2 ^ 32 }
+        requires passed { ArePast self.now.graph.lines line address }
+        ensures { result ≡ true → KindHoldsAt (profile_in self.now) self.now.listing self.now.graph address }
+    {
+        match self.entry_at(address) {
+            Entry::Inside => !self.lacks_end(line, address),
+            _ => {
+                !self.is_barred(address)
+                    && !self.stands_wrong(line, address)
+                    && !self.fails_leaf(line, address)
+                    && !self.fails_target(line, address)
+            }
         }
     }
 }

@@ -15,9 +15,10 @@ use least::first_below_u64;
 use rv_word::memory_map::CODE_START;
 
 /// The rules in the order in which they are asked.
-pub(crate) const RULES: [Rule; 9] = [
+pub(crate) const RULES: [Rule; 10] = [
     Rule::Prologue,
     Rule::Unit,
+    Rule::Leaf,
     Rule::Target,
     Rule::Unlisted,
     Rule::Unused,

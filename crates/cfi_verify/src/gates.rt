@@ -2,8 +2,8 @@
 
 ghost use Rattle.std.specs.Prelude.{◌≡◌, ◌&&◌, not};
 ghost use Rattle.least.specs.Least.{IsLeast};
-ghost use Rattle.cfi_rules.specs.Lines.{is_among};
-ghost use Rattle.cfi_verify.specs.Entries.{fails_gate_at, gate_at, starts_at};
+ghost use Rattle.cfi_rules.specs.Lines.{is_among, leaves_in};
+ghost use Rattle.cfi_verify.specs.Entries.{fails_gate_at, signs_at};
 ghost use Rattle.cfi_rules.specs.Rules.{is_borne, is_label, lacks_gate};
 ghost use Rattle.cfi_verify.specs.Scan.{profile_in};
 
@@ -26,7 +26,7 @@ fn is_label(gate: Option<u32>, label: u32) -> bool
 impl<'a> Starts<'a> {
     /// The least target of a class whose word that is to bear the class's label does not.
     pub(crate) fn first_without_gate(&self) -> Option<u64>
-        ensures { IsLeast (fails_gate_at (profile_in self.now) self.now.listing self.now.graph.lines) result }
+        ensures { IsLeast (fails_gate_at (profile_in self.now) self.now.listing self.now.graph) result }
     {
         let graph = self.graph();
         let mut least = None;
@@ -37,11 +37,15 @@ impl<'a> Starts<'a> {
     }
 
     pub(crate) fn target_without_gate(&self, line: &GraphLine) -> Option<u64>
-        ensures { IsLeast (λ a. lacks_gate (starts_at (profile_in self.now) self.now.listing) (gate_at (profile_in self.now) self.now.listing) a line.now) result }
+        ensures { IsLeast (λ a. lacks_gate self.now.graph.version (signs_at (profile_in self.now) self.now.listing (leaves_in self.now.graph.lines)) a line.now) result }
     {
         match line.class() {
             Some(class) => {
-                self.without_gate(read_of(class.sort()), class.label(), class.targets())
+                self.without_gate(
+                    read_of(self.graph().version(), class.sort()),
+                    class.label(),
+                    class.targets(),
+                )
             }
             None => None,
         }
@@ -49,7 +53,7 @@ impl<'a> Starts<'a> {
 
     /// The least of some addresses whose word of this place does not bear a label.
     fn without_gate(&self, which: TargetWord, label: u32, targets: &[u64]) -> Option<u64>
-        ensures { IsLeast (λ a. is_among a targets.now && not (is_borne (starts_at (profile_in self.now) self.now.listing) (gate_at (profile_in self.now) self.now.listing) which a label)) result }
+        ensures { IsLeast (λ a. is_among a targets.now && not (is_borne (signs_at (profile_in self.now) self.now.listing (leaves_in self.now.graph.lines)) which a label)) result }
     {
         let mut least = None;
         for target in targets {
@@ -60,16 +64,19 @@ impl<'a> Starts<'a> {
         least
     }
 
-    /// Whether this word of the target at an address bears a label, and a unit starts at the address.
+    /// Whether this word of the target at an address bears a label: a first one is of a saved start, a second one
+    /// stands behind a unit's start, a third one directly before what saves a site.
     fn is_borne(&self, which: TargetWord, address: u64, label: u32) -> bool
-        ensures { result ≡ is_borne (starts_at (profile_in self.now) self.now.listing) (gate_at (profile_in self.now) self.now.listing) which address label }
+        ensures { result ≡ is_borne (signs_at (profile_in self.now) self.now.listing (leaves_in self.now.graph.lines)) which address label }
     {
         match which {
-            TargetWord::First => is_label(self.gate_at(address), label),
-            TargetWord::Second => self.is_start(address)
-                && is_label(self.gate_behind(address, 1), label),
-            TargetWord::Third => self.is_start(address)
-                && is_label(self.gate_behind(address, 2), label),
+            TargetWord::First => is_label(self.gate_at(address), label) && !self.is_fresh(address),
+            TargetWord::Second => {
+                self.is_start(address) && is_label(self.gate_past(address, 4), label)
+            }
+            TargetWord::Third => {
+                is_label(self.gate_past(address, 8), label) && self.enters_past(address, 12)
+            }
         }
     }
 }

@@ -1,4 +1,4 @@
-//! The verifier: whether an image of either version and a graph meet the ten rules, and if not, which rule
+//! The verifier: whether an image of either version and a graph meet the rules, and if not, which rule
 //! fails first and where. An accepted pair is safe, whatever is written into data while it runs, and however
 //! many of its version's harts run.
 #![tactic(auto)]
@@ -15,6 +15,8 @@ mod all_hold;
 mod code;
 mod first;
 mod gates;
+mod kinds;
+mod leaves;
 mod lines;
 mod pieces;
 mod place;

@@ -1,17 +1,19 @@
 //! Look-ups among a graph's lines.
 
-ghost use Rattle.std.specs.Prelude.{◌≡◌, ◌-◌, ◌&&◌, IfSome, IsTrue, false, map, nat_le, nat_lt};
+ghost use Rattle.std.specs.Prelude.{◌≡◌, ◌-◌, ◌<◌, ◌≤◌, ◌&&◌, IfSome, IsTrue, false, map, nat_le, nat_lt};
 ghost use Rattle.std.specs.List.{list_all};
 ghost use Rattle.std.specs.Option.{option_copied};
 ghost use Rattle.cfi_graph.specs.Graph.{is_rising, key_below, key_of, targets_rise};
-ghost use Rattle.cfi_rules.specs.Lines.{class_with, is_among, is_beside, is_range, line_at, line_with, read_of, serves, targets_for};
+ghost use Rattle.cfi_rules.specs.Lines.{call_word, class_with, is_among, is_beside, is_range, line_at, line_with, read_of, serves, targets_for};
 
 use cfi_graph::{Class, Graph, GraphLine, Key, SiteKind, Sort};
-use cfi_rules::Asks;
+use cfi_rules::{Asks, jump_word};
 use cfi_unit::TargetWord;
+use rv_word::GraphVersion;
 
-/// The line with a key that is no range, if there is one: keys rise, so its place is halved in.
-pub(crate) fn line_with(graph: &Graph, key: Key) -> Option<&GraphLine>
+/// The line with a key that is no range, if there is one: it is sought where it likely stands and right behind. Keys rise, so
+/// else its place is halved in.
+fn line_with(graph: &Graph, key: Key, likely: u64) -> Option<&GraphLine>
     requires exact { is_range key ≡ false }
     requires ordered { IsTrue (is_rising key_below (map key_of graph.now.lines)) }
     ensures { option_copied result ≡ line_with graph.now.lines key }
@@ -19,7 +21,7 @@ pub(crate) fn line_with(graph: &Graph, key: Key) -> Option<&GraphLine>
     let mut low = 0;
     let mut high = graph.lines();
     while low < high {
-        let middle = low + (high - low) / 2;
+        let middle = sought_at(low, high, likely);
         let line = graph.line(middle);
         let found = line.key();
         if found.is_below(key) {
@@ -33,12 +35,26 @@ pub(crate) fn line_with(graph: &Graph, key: Key) -> Option<&GraphLine>
     None
 }
 
+/// The place that is sought next of those from one on and before another.
+fn sought_at(low: u64, high: u64, likely: u64) -> u64
+    requires { low < high }
+    ensures from { low ≤ result }
+    ensures before { result < high }
+{
+    let next = if low < likely { likely } else { low };
+    if next < high && next - likely < 2 {
+        next
+    } else {
+        low + (high - low) / 2
+    }
+}
+
 /// The line at an address: the first that is not a class's.
 pub(crate) fn line_at(graph: &Graph, address: u64) -> Option<&GraphLine>
     requires { IsTrue (is_rising key_below (map key_of graph.now.lines)) }
     ensures { option_copied result ≡ line_at graph.now.lines address }
 {
-    line_with(graph, Key::Address(address))
+    line_with(graph, Key::Address(address), graph.lines())
 }
 
 /// The class with a label.
@@ -55,17 +71,29 @@ fn found_class(graph: &Graph, label: u32) -> Option<Class<'_>>
     requires { IsTrue (is_rising key_below (map key_of graph.now.lines)) }
     ensures { result ≡ class_with graph.now.lines label }
 {
-    line_with(graph, Key::Label(label))?.class()
+    // Classes stand first, and most graphs number them from 1.
+    let likely = u64::from(label).saturating_sub(1);
+    line_with(graph, Key::Label(label), likely)?.class()
+}
+
+/// Which word of its destination a computed call's check reads, in code whose graph has this version.
+fn call_word(version: GraphVersion) -> TargetWord
+    ensures { result ≡ call_word version }
+{
+    match version {
+        GraphVersion::OneLabel | GraphVersion::TwoLabels => TargetWord::First,
+        GraphVersion::CalleeSaves => TargetWord::Third,
+    }
 }
 
 /// Which word of each of its targets bears a class's label.
-pub(crate) fn read_of(sort: Sort) -> TargetWord
-    ensures { result ≡ read_of sort }
+pub(crate) fn read_of(version: GraphVersion, sort: Sort) -> TargetWord
+    ensures { result ≡ read_of version sort }
 {
     match sort {
         Sort::Both => TargetWord::First,
-        Sort::Calls => TargetWord::First,
-        Sort::Jumps => TargetWord::Second,
+        Sort::Calls => call_word(version),
+        Sort::Jumps => jump_word(version),
     }
 }
 
@@ -76,6 +104,8 @@ fn serves(sort: Sort, kind: SiteKind, which: TargetWord) -> bool
     match (sort, kind, which) {
         (Sort::Both, _, TargetWord::First) => true,
         (Sort::Calls, SiteKind::Call, TargetWord::First) => true,
+        (Sort::Calls, SiteKind::Call, TargetWord::Third) => true,
+        (Sort::Jumps, SiteKind::Jump, TargetWord::First) => true,
         (Sort::Jumps, SiteKind::Jump, TargetWord::Second) => true,
         _ => false,
     }
@@ -97,11 +127,11 @@ pub(crate) fn targets_for(graph: &Graph, asked: Asks) -> Option<&[u64]>
 }
 
 /// Whether at an address stands no word of a class's targets that is to bear its label.
-pub(crate) fn is_beside(class: &Class<'_>, address: u64) -> bool
+pub(crate) fn is_beside(version: GraphVersion, class: &Class<'_>, address: u64) -> bool
     requires { IsTrue (is_rising nat_lt class.now.targets) }
-    ensures { result ≡ is_beside class.now address }
+    ensures { result ≡ is_beside version class.now address }
 {
-    match read_of(class.sort()) {
+    match read_of(version, class.sort()) {
         TargetWord::First => !is_among(address, class.targets()),
         TargetWord::Second => !is_after(address, 4, class.targets()),
         TargetWord::Third => !is_after(address, 8, class.targets()),

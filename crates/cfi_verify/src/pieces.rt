@@ -1,7 +1,7 @@
 ghost use Rattle.std.specs.Prelude.{◌≡◌, ◌+◌, ◌/◌, ◌<◌, ◌≤◌, ◌^◌, ◌++◌, ℕ, List, IfErr, IfOk, length};
 ghost use Rattle.std.specs.List.{concat};
 ghost use Rattle.rv_word.specs.Image.{Contents};
-ghost use Rattle.rv_word.specs.MemoryMap.{profile_of};
+ghost use Rattle.rv_word.specs.MemoryMap.{profile_under, profile_with};
 ghost use Rattle.cfi_scan.specs.Pieces.{HasSeen};
 ghost use Rattle.cfi_verify.specs.Answer.{IsCause};
 ghost use Rattle.cfi_verify.specs.Entries.{Tells, numbers_in};
@@ -17,7 +17,7 @@ use rv_word::{Bytes, End, ImageVersion};
 use std::alloc::Global;
 use std::sync::ledger::Ledger;
 
-/// Asks the ten rules of the code of an image of a version, which comes in pieces, and of a graph. However
+/// Asks the eleven rules of the code of an image of a version, which comes in pieces, and of a graph. However
 /// the code is cut, the answer is that on the whole, and each word is read at most once: a step is the
 /// reading of a word.
 pub fn scan_pieces<'a, L: Ledger>(
@@ -28,9 +28,9 @@ pub fn scan_pieces<'a, L: Ledger>(
     steps: &mut Steps<L>,
 ) -> Result<Starts<'a>, End<Reject>>
     requires small { length (concat pieces.now) < 2 ^ 32 }
-    ensures version { IfOk result (λ s. s.listing.version ≡ version) }
-    ensures accepted { (image : Contents) → image.code ≡ concat pieces.now → IfOk result (λ s. (s.graph ≡ graph.now) × Tells (profile_of version) (numbers_in graph.now) s.listing (code_words image.code) × IsWellFormed (profile_of version) image graph.now) }
-    ensures rejected { (image : Contents) → image.code ≡ concat pieces.now → IfErr result (IsCause (profile_of version) image graph.now) }
+    ensures versions { IfOk result (λ s. s.listing.versions ≡ record { image = version; graph = graph.now.version }) }
+    ensures accepted { (image : Contents) → image.code ≡ concat pieces.now → IfOk result (λ s. (s.graph ≡ graph.now) × Tells (profile_under graph.now.version version) (numbers_in graph.now) s.listing (code_words image.code) × IsWellFormed (profile_under graph.now.version version) image graph.now) }
+    ensures rejected { (image : Contents) → image.code ≡ concat pieces.now → IfErr result (IsCause (profile_under graph.now.version version) image graph.now) }
     ensures cost { steps.new ≤ steps.old + length (concat pieces.now) / 4 }
 {
     let mut scan = Scan::new(alloc, version, graph)?;
@@ -44,8 +44,8 @@ pub fn scan_pieces<'a, L: Ledger>(
 /// Feeds pieces in their order.
 fn feed_pieces<L: Ledger>(scan: &mut Scan<'_>, pieces: &[Bytes], steps: &mut Steps<L>)
     requires small { scan.old.seen.fed + length (concat pieces.now) < 2 ^ 32 }
-    ensures seen { (bytes : List ℕ) → HasSeen (profile_of scan.old.seen.version) scan.old.seen bytes → HasSeen (profile_of scan.old.seen.version) scan.new.seen (bytes ++ concat pieces.now) }
-    ensures version { scan.new.seen.version ≡ scan.old.seen.version }
+    ensures seen { (bytes : List ℕ) → HasSeen (profile_with scan.old.seen.versions) scan.old.seen bytes → HasSeen (profile_with scan.old.seen.versions) scan.new.seen (bytes ++ concat pieces.now) }
+    ensures versions { scan.new.seen.versions ≡ scan.old.seen.versions }
     ensures graph { scan.new.graph ≡ scan.old.graph }
     ensures fed { scan.new.seen.fed ≡ scan.old.seen.fed + length (concat pieces.now) }
     ensures cost { steps.new + scan.old.seen.fed / 4 ≡ steps.old + scan.new.seen.fed / 4 }

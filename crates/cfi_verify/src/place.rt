@@ -1,7 +1,7 @@
 //! Where the unit at an address leads, and what it asks of the graph.
 
-ghost use Rattle.std.specs.Prelude.{◌≡◌, ◌+◌, ◌*◌, ◌<◌, ◌≤◌, ◌^◌, true};
-ghost use Rattle.cfi_verify.specs.Entries.{call_at, edge_at, gate_at, gate_in, site_at, starts_at};
+ghost use Rattle.std.specs.Prelude.{◌≡◌, ◌+◌, ◌%◌, ◌<◌, ◌≤◌, ◌^◌};
+ghost use Rattle.cfi_verify.specs.Entries.{call_at, edge_at, enters_at, gate_at, gate_in, is_enter, site_at};
 ghost use Rattle.cfi_verify.specs.Scan.{profile_in};
 
 use crate::starts::Starts;
@@ -86,13 +86,27 @@ impl<'a> Starts<'a> {
         gate_in(self.entry_at(address))
     }
 
-    /// The label of the gate so many words behind an address, where a unit starts.
-    pub(crate) fn gate_behind(&self, address: u64, words: u64) -> Option<u32>
-        requires begun { starts_at (profile_in self.now) self.now.listing address ≡ true }
-        requires few { words ≤ 2 }
-        ensures { result ≡ gate_at (profile_in self.now) self.now.listing (address + 4 * words) }
+    /// The label of the gate so many bytes past an address.
+    pub(crate) fn gate_past(&self, address: u64, bytes: u64) -> Option<u32>
+        requires few { bytes ≤ 12 }
+        requires round { bytes % 4 ≡ 0 }
+        ensures { result ≡ gate_at (profile_in self.now) self.now.listing (address + bytes) }
     {
-        let index = (address - self.units_from()) / 4;
-        gate_in(self.word(index + words))
+        gate_in(self.entry_past(address, bytes))
     }
+
+    /// Whether what stands so many bytes past an address saves a site.
+    pub(crate) fn enters_past(&self, address: u64, bytes: u64) -> bool
+        requires few { bytes ≤ 12 }
+        requires round { bytes % 4 ≡ 0 }
+        ensures { result ≡ enters_at (profile_in self.now) self.now.listing (address + bytes) }
+    {
+        is_enter(self.entry_past(address, bytes))
+    }
+}
+
+fn is_enter(entry: Entry) -> bool
+    ensures { result ≡ is_enter entry }
+{
+    matches!(entry, Entry::Enter)
 }

@@ -1,14 +1,14 @@
-//! The words of the prologue, by version.
+//! The words of the prologue, by versions.
 
 ghost use Rattle.std.specs.Prelude.{◌≡◌, ◌<◌, length};
 ghost use Rattle.std.specs.Option.{option_copied};
-ghost use Rattle.rv_word.specs.MemoryMap.{profile_of};
+ghost use Rattle.rv_word.specs.MemoryMap.{lean_profile_of, profile_of, profile_with};
 ghost use Rattle.cfi_scan.specs.Pieces.{prologue_count};
 ghost use Rattle.cfi_rules.specs.Rules.{fits_table, is_link, prologue_word_fits};
 
 use rv_code::decode;
 use rv_instr::Instr;
-use rv_word::ImageVersion;
+use rv_word::{GraphVersion, ImageVersion, Versions};
 
 /// The words in version 1. Word 13 is the opening's `jal x1` to the entry, which may lead anywhere.
 const PROLOGUE: [u32; 16] = [
@@ -54,14 +54,72 @@ const PROLOGUE_OF_HARTS: [u32; 20] = [
     0x0000_0073,
 ];
 
-/// Whether a word may be the word with this index of a version's prologue.
-pub(crate) fn is_prologue_word(version: ImageVersion, index: usize, word: Option<u32>) -> bool
+/// Those in lean images for one hart. Here it is word 8.
+const LEAN_PROLOGUE: [u32; 11] = [
+    0x0010_0073,
+    0x0010_0073,
+    0x0010_0073,
+    0x1000_0137,
+    0x1000_0237,
+    0xfff2_0213,
+    0x6000_01b7,
+    0x0081_8193,
+    0x00c0_00ef,
+    0x05d0_0893,
+    0x0000_0073,
+];
+
+/// Those in lean images for several harts. Here it is word 12.
+const LEAN_PROLOGUE_OF_HARTS: [u32; 15] = [
+    0x0010_0073,
+    0x0010_0073,
+    0x0010_0073,
+    0x1000_0137,
+    0x1000_0237,
+    0xfff2_0213,
+    0x0145_1f93,
+    0x41f1_0133,
+    0x6000_01b7,
+    0x0105_1f93,
+    0x01f1_81b3,
+    0x0081_8193,
+    0x00c0_00ef,
+    0x05d0_0893,
+    0x0000_0073,
+];
+
+/// Whether a word may be the word with this index of the prologue of a pair of versions.
+pub(crate) fn is_prologue_word(versions: Versions, index: usize, word: Option<u32>) -> bool
+    requires { index < prologue_count (profile_with versions) }
+    ensures { result ≡ prologue_word_fits (profile_with versions) index word }
+{
+    match versions.graph {
+        GraphVersion::OneLabel | GraphVersion::TwoLabels => {
+            is_full_word(versions.image, index, word)
+        }
+        GraphVersion::CalleeSaves => is_lean_word(versions.image, index, word),
+    }
+}
+
+/// The same where callers save the sites of calls.
+fn is_full_word(version: ImageVersion, index: usize, word: Option<u32>) -> bool
     requires { index < prologue_count (profile_of version) }
     ensures { result ≡ prologue_word_fits (profile_of version) index word }
 {
     match version {
         ImageVersion::OneHart => fits_table(&PROLOGUE, 13, index, word),
         ImageVersion::EightHarts => fits_table(&PROLOGUE_OF_HARTS, 17, index, word),
+    }
+}
+
+/// And where callees do.
+fn is_lean_word(version: ImageVersion, index: usize, word: Option<u32>) -> bool
+    requires { index < prologue_count (lean_profile_of version) }
+    ensures { result ≡ prologue_word_fits (lean_profile_of version) index word }
+{
+    match version {
+        ImageVersion::OneHart => fits_table(&LEAN_PROLOGUE, 8, index, word),
+        ImageVersion::EightHarts => fits_table(&LEAN_PROLOGUE_OF_HARTS, 12, index, word),
     }
 }
 

@@ -8,14 +8,14 @@ ghost use Rattle.cfi_verify.specs.Entries.{
   fails_at,
   fails_end_at,
   fails_site_at,
-  fails_target_at,
   fails_unit_at,
   fails_unlisted_at,
   fails_unused_at,
   is_bad_end_at,
   is_barred_at,
+  is_of_others,
   is_stop_entry,
-  misses_start,
+  may_not_call,
 };
 ghost use Rattle.cfi_graph.specs.Graph.{calls_in};
 ghost use Rattle.cfi_rules.specs.Lines.{holds_of, is_outside, line_at};
@@ -48,7 +48,8 @@ impl<'a> Starts<'a> {
         match rule {
             Rule::Prologue => self.fails_prologue(address),
             Rule::Unit => self.fails_unit(address),
-            Rule::Target => self.fails_target(address),
+            Rule::Leaf => self.fails_leaf(self.line_of(address), address),
+            Rule::Target => self.fails_target(self.line_of(address), address),
             Rule::Unlisted => self.fails_unlisted(address),
             Rule::Unused => self.fails_unused(address),
             Rule::Site => self.fails_site(address),
@@ -66,7 +67,7 @@ impl<'a> Starts<'a> {
         }
         let index = ((address - CODE_START) / 4) as usize;
         !is_prologue_word(
-            self.version(),
+            self.versions(),
             index,
             self.listing().prologue().get(index).copied(),
         )
@@ -86,22 +87,42 @@ impl<'a> Starts<'a> {
         let done = self.listing().done() as u64;
         done < self.count_after() && address == self.units_from() + 4 * done
             || self.is_barred(address)
+            || self.stands_wrong(self.line_of(address), address)
     }
 
     /// Whether the graph does not admit the unit at an address.
     pub(crate) fn is_barred(&self, address: u64) -> bool
         ensures { result ≡ is_barred_at (profile_in self.now) self.now.listing self.now.graph address }
     {
-        match self.entry_at(address) {
-            Entry::Ijump(which, _) => !same_word(which, jump_word(self.graph().version())),
-            Entry::Ecall => self.has_list(),
-            Entry::Guarded(same) => !(self.has_list() && same),
+        self.is_of_others(self.entry_at(address)) || self.may_not_call(self.entry_at(address))
+    }
+
+    /// Whether no unit with this entry stands in code whose graph has the graph's version.
+    fn is_of_others(&self, entry: Entry) -> bool
+        ensures { result ≡ is_of_others self.now.graph.version entry }
+    {
+        match entry {
+            Entry::Ijump(which, _) => {
+                self.has_leaves() || !same_word(which, jump_word(self.graph().version()))
+            }
+            Entry::Call(_) | Entry::Icall(_) | Entry::Stores => self.has_leaves(),
             Entry::LinkCall(_)
             | Entry::Enter
             | Entry::LeanIjump(_)
             | Entry::LeanIcall(_)
             | Entry::LeafReturn
-            | Entry::LeanStores => true,
+            | Entry::LeanStores => !self.has_leaves(),
+            _ => false,
+        }
+    }
+
+    /// Whether the graph's list of system calls, or that it has none, does not admit a unit with this entry.
+    fn may_not_call(&self, entry: Entry) -> bool
+        ensures { result ≡ may_not_call (is_some (calls_in self.now.graph.lines)) entry }
+    {
+        match entry {
+            Entry::Ecall => self.has_list(),
+            Entry::Guarded(same) => !(self.has_list() && same),
             _ => false,
         }
     }
@@ -111,22 +132,6 @@ impl<'a> Starts<'a> {
         ensures { result ≡ is_some (calls_in self.now.graph.lines) }
     {
         self.graph().calls().is_some()
-    }
-
-    fn misses_start(&self, target: Option<u64>) -> bool
-        ensures { result ≡ misses_start (profile_in self.now) self.now.listing target }
-    {
-        match target {
-            Some(target) => !self.is_start(target),
-            None => false,
-        }
-    }
-
-    fn fails_target(&self, address: u64) -> bool
-        requires { address < 2 ^ 32 }
-        ensures { result ≡ fails_target_at (profile_in self.now) self.now.listing address }
-    {
-        self.misses_start(self.edge_at(address)) || self.misses_start(self.call_at(address))
     }
 
     fn lacks_edge(&self, address: u64, target: Option<u64>) -> bool
@@ -184,7 +189,7 @@ impl<'a> Starts<'a> {
     }
 
     fn fails_astray(&self, address: u64) -> bool
-        ensures { result ≡ fails_astray_at (profile_in self.now) self.now.listing self.now.graph.lines address }
+        ensures { result ≡ fails_astray_at (profile_in self.now) self.now.listing self.now.graph address }
     {
         match self.gate_at(address) {
             Some(label) => self.is_outside(label, address),
@@ -194,10 +199,10 @@ impl<'a> Starts<'a> {
 
     /// Whether a label is a class's, and at an address stands no word of its targets that is to bear it.
     pub(crate) fn is_outside(&self, label: u32, address: u64) -> bool
-        ensures { result ≡ is_outside self.now.graph.lines label address }
+        ensures { result ≡ is_outside self.now.graph.version self.now.graph.lines label address }
     {
         match self.class_with(label) {
-            Some(class) => is_beside(&class, address),
+            Some(class) => is_beside(self.graph().version(), &class, address),
             None => false,
         }
     }

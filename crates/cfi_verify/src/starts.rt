@@ -3,22 +3,25 @@
 ghost use Rattle.std.specs.Prelude.{◌≡◌, ◌+◌, ◌*◌, ◌/◌, ◌%◌, ◌≤◌, IfSome, IsTrue, nat_lt};
 ghost use Rattle.std.specs.Option.{option_copied};
 ghost use Rattle.rv_word.specs.MemoryMap.{CODE_SIZE, CODE_START};
-ghost use Rattle.cfi_graph.specs.Graph.{IsGraph, is_rising};
+ghost use Rattle.cfi_graph.specs.Graph.{IsGraph, has_leaves, is_rising};
+ghost use Rattle.cfi_pending.specs.Kinds.{leaf_of};
 ghost use Rattle.cfi_scan.specs.Pieces.{prologue_count};
 ghost use Rattle.cfi_reader.specs.declared.entry.Entry.TheVariants as E;
 ghost use Rattle.cfi_verify.specs.Entries.{entry_at, or_inside, starts_at};
-ghost use Rattle.cfi_rules.specs.Lines.{class_with, line_at, targets_for};
+ghost use Rattle.cfi_rules.specs.Lines.{class_with, leaves_in, line_at, targets_for};
+ghost use Rattle.cfi_verify.specs.Leaves.{ArePast};
 ghost use Rattle.cfi_verify.specs.Scan.{AreStarts, profile_in};
 ghost use Rattle.cfi_rules.specs.Split.{entry_of};
 
-use crate::lines;
+use crate::leaves::LeafRange;
+use crate::{leaves, lines};
 use cfi_graph::{Class, Graph, GraphLine};
 use cfi_rules::Asks;
 use cfi_scan::{Entry, Listing};
 use rv_code::decode;
 use rv_instr::Instr;
 use rv_word::memory_map::CODE_START;
-use rv_word::{ImageVersion, sext};
+use rv_word::{GraphVersion, Versions, sext};
 use std::marker::Model;
 
 /// Where the units of a code start, of which kind each is, and the graph.
@@ -57,11 +60,22 @@ impl<'a> Starts<'a> {
         self.listing.fed() / 4
     }
 
-    /// The version of the image.
-    pub(crate) fn version(&self) -> ImageVersion
-        ensures { result ≡ self.now.listing.version }
+    /// The versions of the image and the graph.
+    pub(crate) fn versions(&self) -> Versions
+        ensures { result ≡ self.now.listing.versions }
     {
-        self.listing.version()
+        self.listing.versions()
+    }
+
+    /// Whether callees save the sites of calls: then the graph has leaves.
+    pub(crate) fn has_leaves(&self) -> bool
+        ensures by_graph { result ≡ has_leaves self.now.graph.version }
+        ensures by_profile { result ≡ (profile_in self.now).callee_saves }
+    {
+        match self.graph.version() {
+            GraphVersion::OneLabel | GraphVersion::TwoLabels => false,
+            GraphVersion::CalleeSaves => true,
+        }
     }
 
     /// How many words the prologue has.
@@ -76,7 +90,7 @@ impl<'a> Starts<'a> {
     /// Where the first unit stands.
     pub(crate) fn units_from(&self) -> u64
         ensures at { result ≡ (profile_in self.now).units_from }
-        ensures low { CODE_START + 64 ≤ result }
+        ensures low { CODE_START + 44 ≤ result }
         ensures high { result ≤ CODE_START + 80 }
         ensures round { result % 4 ≡ 0 }
     {
@@ -126,6 +140,21 @@ impl<'a> Starts<'a> {
         }
     }
 
+    /// The entry of the word so many bytes past an address.
+    #[tactic(auto, unfolding(crate::specs::Entries::entry_at))]
+    pub(crate) fn entry_past(&self, address: u64, bytes: u64) -> Entry
+        requires few { bytes ≤ 12 }
+        requires round { bytes % 4 ≡ 0 }
+        ensures { result ≡ entry_at (profile_in self.now) self.now.listing.entries (address + bytes) }
+    {
+        let start = self.units_from() - bytes;
+        if address >= start && address % 4 == 0 {
+            or_inside(self.listing.entry(((address - start) / 4) as usize))
+        } else {
+            Entry::Inside
+        }
+    }
+
     /// The entry of a word, counted from the first after the prologue.
     #[tactic(auto, unfolding(crate::specs::Entries::entry_at))]
     pub(crate) fn word(&self, index: u64) -> Entry
@@ -157,6 +186,34 @@ impl<'a> Starts<'a> {
             Instr::Jal(_, field) => Some(call.wrapping_add(sext(u64::from(field.bits()) * 2, 21))),
             _ => None,
         }
+    }
+
+    /// The first line that does not stand before that of any leaf in which an address lies; in a graph without
+    /// leaves the first of all serves.
+    pub(crate) fn line_of(&self, address: u64) -> u64
+        ensures { ArePast self.now.graph.lines result address }
+    {
+        if self.has_leaves() {
+            leaves::line_of(self.graph, address)
+        } else {
+            0
+        }
+    }
+
+    /// The same, by going on from a line before which all do.
+    pub(crate) fn line_from(&self, from: u64, address: u64) -> u64
+        requires { ArePast self.now.graph.lines from address }
+        ensures { ArePast self.now.graph.lines result address }
+    {
+        leaves::line_from(self.graph, from, address)
+    }
+
+    /// The leaf in which an address lies, looked for from a line before which none is its line.
+    pub(crate) fn leaf_from(&self, from: u64, address: u64) -> Option<LeafRange>
+        requires { ArePast self.now.graph.lines from address }
+        ensures { result ≡ leaf_of (leaves_in self.now.graph.lines) address }
+    {
+        leaves::leaf_from(self.graph, from, address)
     }
 
     /// The line at an address.

@@ -1,7 +1,6 @@
 ghost use Rattle.std.specs.Prelude.{◌≡◌, ◌+◌, ◌<◌, ◌^◌, ◌++◌, ℕ, List, length, IfErr, IfOk, IfSome, IsTrue, OnOk, Some, is_some, nat_lt};
 ghost use Rattle.std.specs.Option.{option_copied};
-ghost use Rattle.rv_word.specs.Image.{image_profile};
-ghost use Rattle.rv_word.specs.MemoryMap.{profile_of};
+ghost use Rattle.rv_word.specs.MemoryMap.{profile_with};
 ghost use Rattle.cfi_graph.specs.Graph.{calls_in, is_rising};
 ghost use Rattle.cfi_confined.specs.Confined.{IsConfined};
 ghost use Rattle.cfi_rules.specs.Along.{IsSafe};
@@ -9,7 +8,7 @@ ghost use Rattle.cfi_verify.specs.Answer.{IsCause};
 ghost use Rattle.cfi_rules.specs.Laws.{AreBytes};
 ghost use Rattle.cfi_rules.specs.Lines.{targets_for};
 ghost use Rattle.cfi_rules.specs.Listed.{IsListed};
-ghost use Rattle.cfi_rules.specs.Rules.{IsWellFormed};
+ghost use Rattle.cfi_rules.specs.Rules.{IsWellFormed, pair_profile};
 ghost use Rattle.cfi_scan.specs.Pieces.{HasSeen};
 ghost use Rattle.cfi_verify.specs.Scan.{starts_prologue};
 ghost use Rattle.cfi_rules.specs.Split.{code_words, entry_of, is_handler, place_at, unit_at};
@@ -33,7 +32,7 @@ use std::sync::ledger::{Blank, Ledger};
 /// How many bytes of a code are fed at a time.
 const PAGE: usize = 4_096;
 
-/// An image and a graph that meet the ten rules.
+/// An image and a graph that meet the eleven rules.
 #[derive(Drop)]
 pub struct Checked<'a> {
     image: &'a Image<'a>,
@@ -54,7 +53,7 @@ impl<'a> Checked<'a> {
     /// The image.
     pub fn image(&self) -> &'a Image<'a>
         ensures value { result.now ≡ self.now.image }
-        ensures well_formed { IsWellFormed (image_profile self.now.image) self.now.image self.now.graph }
+        ensures well_formed { IsWellFormed (pair_profile self.now.image self.now.graph) self.now.image self.now.graph }
     {
         self.image
     }
@@ -62,14 +61,14 @@ impl<'a> Checked<'a> {
     /// The graph.
     pub fn graph(&self) -> &'a Graph
         ensures value { result.now ≡ self.now.graph }
-        ensures well_formed { IsWellFormed (image_profile self.now.image) self.now.image self.now.graph }
+        ensures well_formed { IsWellFormed (pair_profile self.now.image self.now.graph) self.now.image self.now.graph }
     {
         self.starts.graph()
     }
 
     /// Tells a proof that the pair is confined; nothing is computed.
     pub fn is_confined(&self)
-        ensures { IsConfined (image_profile self.now.image) self.now.image self.now.graph }
+        ensures { IsConfined (pair_profile self.now.image self.now.graph) self.now.image self.now.graph }
     {
         are_bytes(self.image);
         // Tells the proof that the pair meets the rules, and that the graph is one.
@@ -79,7 +78,7 @@ impl<'a> Checked<'a> {
 
     /// Tells a proof that the pair is safe; nothing is computed.
     pub fn is_safe(&self)
-        ensures { IsSafe (image_profile self.now.image) self.now.image self.now.graph }
+        ensures { IsSafe (pair_profile self.now.image self.now.graph) self.now.image self.now.graph }
     {
         are_bytes(self.image);
         // Tells the proof that the pair meets the rules.
@@ -90,7 +89,7 @@ impl<'a> Checked<'a> {
     /// Tells a proof that the program makes no system calls but those of the graph's list, where it has one;
     /// nothing is computed.
     pub fn is_listed(&self)
-        ensures { (calls : List ℕ) → calls_in self.now.graph.lines ≡ Some calls → IsListed (image_profile self.now.image) self.now.image calls }
+        ensures { (calls : List ℕ) → calls_in self.now.graph.lines ≡ Some calls → IsListed (pair_profile self.now.image self.now.graph) self.now.image calls }
     {
         are_bytes(self.image);
         // Tells the proof that the pair meets the rules.
@@ -100,7 +99,7 @@ impl<'a> Checked<'a> {
 
     /// The unit that starts at an address; `None` at the prologue and inside a unit.
     pub fn unit_at(&self, address: u64) -> Option<Unit>
-        ensures { result ≡ unit_at (image_profile self.now.image) (code_words self.now.image.code) address }
+        ensures { result ≡ unit_at (pair_profile self.now.image self.now.graph) (code_words self.now.image.code) address }
     {
         if self.starts.is_start(address) {
             unit_of(self.image.code(), address)
@@ -111,21 +110,21 @@ impl<'a> Checked<'a> {
 
     /// Where the opening's call leads.
     fn entry(&self) -> Option<u64>
-        ensures { result ≡ entry_of (image_profile self.now.image) (code_words self.now.image.code) }
+        ensures { result ≡ entry_of (pair_profile self.now.image self.now.graph) (code_words self.now.image.code) }
     {
         self.starts.entry()
     }
 
     /// Where the first unit stands.
     fn units_from(&self) -> u64
-        ensures { result ≡ (image_profile self.now.image).units_from }
+        ensures { result ≡ (pair_profile self.now.image self.now.graph).units_from }
     {
         self.starts.units_from()
     }
 
     /// The prologue's closing, to which the program's entry returns.
     pub fn closing(&self) -> u64
-        ensures { result ≡ (image_profile self.now.image).closing }
+        ensures { result ≡ (pair_profile self.now.image self.now.graph).closing }
     {
         self.starts.closing()
     }
@@ -133,7 +132,7 @@ impl<'a> Checked<'a> {
     /// What stands at an address, the prologue's parts among it; `None` where nothing starts.
     #[tactic(auto, unfolding(cfi_rules::specs::Split::place_at))]
     pub fn place_at(&self, address: u64) -> Option<Place>
-        ensures { result ≡ place_at (image_profile self.now.image) (code_words self.now.image.code) address }
+        ensures { result ≡ place_at (pair_profile self.now.image self.now.graph) (code_words self.now.image.code) address }
     {
         if is_handler(address) {
             return Some(Place::Handler);
@@ -149,7 +148,7 @@ impl<'a> Checked<'a> {
 
     /// Whether something starts at an address: `place_at` without reading what it is.
     pub fn is_place(&self, address: u64) -> bool
-        ensures { result ≡ is_some (place_at (image_profile self.now.image) (code_words self.now.image.code) address) }
+        ensures { result ≡ is_some (place_at (pair_profile self.now.image self.now.graph) (code_words self.now.image.code) address) }
     {
         let start = self.units_from();
         if address >= start {
@@ -160,7 +159,7 @@ impl<'a> Checked<'a> {
 
     /// Whether a part of the prologue starts at an address.
     fn is_prologue(&self, address: u64) -> bool
-        ensures { result ≡ starts_prologue (image_profile self.now.image) (code_words self.now.image.code) address }
+        ensures { result ≡ starts_prologue (pair_profile self.now.image self.now.graph) (code_words self.now.image.code) address }
     {
         is_handler(address)
             || address == self.closing()
@@ -190,18 +189,18 @@ fn is_handler(address: u64) -> bool
     address == BAD_TARGET || address == BAD_RETURN || address == DEEP
 }
 
-/// Asks the ten rules of an image and a graph, in their order. Takes time in proportion to the code
+/// Asks the eleven rules of an image and a graph, in their order. Takes time in proportion to the code
 /// and the graph, but for searches among the graph's lines, and memory as a scan does.
 pub fn verify<'a>(
     alloc: Global,
     image: &'a Image<'a>,
     graph: &'a Graph,
 ) -> Result<Checked<'a>, End<Reject>>
-    ensures accepted { IfOk result (λ c. (c.image ≡ image.now) × (c.graph ≡ graph.now) × IsWellFormed (image_profile image.now) image.now graph.now) }
-    ensures confined { OnOk result (IsConfined (image_profile image.now) image.now graph.now) }
-    ensures safe { OnOk result (IsSafe (image_profile image.now) image.now graph.now) }
-    ensures listed { OnOk result ((calls : List ℕ) → calls_in graph.now.lines ≡ Some calls → IsListed (image_profile image.now) image.now calls) }
-    ensures rejected { IfErr result (IsCause (image_profile image.now) image.now graph.now) }
+    ensures accepted { IfOk result (λ c. (c.image ≡ image.now) × (c.graph ≡ graph.now) × IsWellFormed (pair_profile image.now graph.now) image.now graph.now) }
+    ensures confined { OnOk result (IsConfined (pair_profile image.now graph.now) image.now graph.now) }
+    ensures safe { OnOk result (IsSafe (pair_profile image.now graph.now) image.now graph.now) }
+    ensures listed { OnOk result ((calls : List ℕ) → calls_in graph.now.lines ≡ Some calls → IsListed (pair_profile image.now graph.now) image.now calls) }
+    ensures rejected { IfErr result (IsCause (pair_profile image.now graph.now) image.now graph.now) }
 {
     are_bytes(image);
     // Computes nothing: it tells the proof that the graph is one.
@@ -224,8 +223,8 @@ fn feed_code<L: Ledger>(scan: &mut Scan<'_>, code: &[u8], blank: Blank)
     requires parts { blank.parts ≡ L.parts }
     requires some { 0 < L.parts }
     requires small { scan.old.seen.fed + length code.now < 2 ^ 32 }
-    ensures seen { (bytes : List ℕ) → HasSeen (profile_of scan.old.seen.version) scan.old.seen bytes → HasSeen (profile_of scan.old.seen.version) scan.new.seen (bytes ++ code.now) }
-    ensures version { scan.new.seen.version ≡ scan.old.seen.version }
+    ensures seen { (bytes : List ℕ) → HasSeen (profile_with scan.old.seen.versions) scan.old.seen bytes → HasSeen (profile_with scan.old.seen.versions) scan.new.seen (bytes ++ code.now) }
+    ensures versions { scan.new.seen.versions ≡ scan.old.seen.versions }
     ensures graph { scan.new.graph ≡ scan.old.graph }
 {
     let mut steps = Steps::<L>::new(blank);

@@ -3,3 +3,4 @@ pub mod Reach
 pub mod Sites
 pub mod Unique
 pub mod Led
+pub mod Openings

@@ -1,11 +1,11 @@
 -- Where in a code things stand.
-use Rattle.std.proofs.Common.{◌≡◌, ℕ, ◌*◌, ◌-◌, ◌/◌, ◌^◌, ◌<◌, ◌≤◌, ◌⊎◌, inl, inr, List, length, drop, Some, None, sym, ap, ◌∙◌, arith}
+use Rattle.std.proofs.Common.{◌≡◌, ℕ, ◌*◌, ◌-◌, ◌/◌, ◌^◌, ◌<◌, ◌≤◌, ◌⊎◌, inl, inr, List, length, drop, Option, Some, None, sym, ap, ◌∙◌, arith}
 use Rattle.std.specs.Prelude.{◌==◌, ◌||◌, true, option_map}
 use Rattle.std.proofs.lemmas.Bool.{eqb-true, or_cases}
 use Rattle.rv_word.specs.Image.{Contents, IsImageSize}
 use Rattle.rv_word.specs.MemoryMap.{CODE_START, Profile}
 use Rattle.rv_word.proofs.Cases.{cases_Option, chosen}
-use Rattle.rv_word.proofs.Versions.{LaidOut}
+use Rattle.rv_word.proofs.Profiles.{LaidOut}
 use Rattle.cfi_unit.specs.declared.unit.Unit as U
 use Rattle.cfi_unit.specs.declared.place.Place.{Place}
 use Rattle.cfi_unit.specs.declared.place.Place.TheVariants.{Handler as handler, Opening as opening, Closing as closing, Body as body}
@@ -25,6 +25,14 @@ handler_lies a e =
         | inr h ↦ let is = eqb-true a DEEP h in (omega arith, omega arith)
       ]
     ]
+
+no_opening : (entry : Option ℕ) (u : U.Unit) → option_map opening entry ≡ Some (body u) → ⊥
+no_opening None u e = absurd (cc)
+no_opening (Some entry) u e = absurd (cc)
+
+own_body : (o : Option U.Unit) (u : U.Unit) → option_map body o ≡ Some (body u) → o ≡ Some u
+own_body None u e = absurd (cc)
+own_body (Some w) u e = cc
 
 module _ (p : Profile) (laid : LaidOut p) where
   pub unit_within : (words : List ℕ) (a : ℕ) (u : U.Unit) → unit_at p words a ≡ Some u → IsInUnits p words a
@@ -59,6 +67,24 @@ module _ (p : Profile) (laid : LaidOut p) where
           ]
         ]
       ]
+
+  -- a unit that stands starts there, from where units begin on
+  pub body_unit : (words : List ℕ) (a : ℕ) (u : U.Unit) → place_at p words a ≡ Some (body u) → unit_at p words a ≡ Some u
+  unfolding place_at
+  body_unit words a u e =
+      elim (chosen (is_handler a) (Some handler) _ (Some (body u)) e) [
+        | inl h ↦ let k = h.1 in absurd (cc)
+        | inr o ↦ elim (chosen (a == OPENING) (option_map opening (entry_of p words)) _ (Some (body u)) o.1) [
+          | inl h ↦ absurd (no_opening (entry_of p words) u h.1)
+          | inr c ↦ elim (chosen (a == p.closing) (Some closing) _ (Some (body u)) c.1) [
+            | inl h ↦ let k = h.1 in absurd (cc)
+            | inr b ↦ own_body (unit_at p words a) u b.1
+          ]
+        ]
+      ]
+
+  pub body_low : (words : List ℕ) (a : ℕ) (u : U.Unit) → place_at p words a ≡ Some (body u) → p.units_from ≤ a
+  body_low words a u e = (unit_within words a u (body_unit words a u e)).low
 
   pub place_from : (words : List ℕ) (a : ℕ) (place : Place) → place_at p words a ≡ Some place → CODE_START ≤ a
   place_from words a place e =

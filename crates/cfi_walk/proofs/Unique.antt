@@ -1,39 +1,43 @@
 -- An address fixes the step to it: no site and no target of a class is a handler.
-use Rattle.std.proofs.Common.{◌≡◌, ℕ, ◌<◌, inl, inr, List, [], ◌∷◌, sym, ap, subst, ◌∙◌, arith}
+use Rattle.std.proofs.Common.{◌≡◌, ℕ, ◌+◌, ◌<◌, Bool, true, false, Some, refl, inl, inr, List, [], ◌∷◌, sym, ap, subst, ◌∙◌, arith}
 use Rattle.std.proofs.lemmas.Bool.{false≢true}
 use Rattle.rv_word.specs.Image.{Contents}
+use Rattle.rv_word.specs.declared.version.GraphVersion.{GraphVersion}
 use Rattle.rv_word.specs.MemoryMap.{Profile}
 use Rattle.rv_word.proofs.Cases.{cases_Option}
-use Rattle.rv_word.proofs.Versions.{LaidOut, laid_out}
+use Rattle.rv_word.proofs.Profiles.{LaidOut, laid_out}
 use Rattle.cfi_graph.specs.declared.line.GraphLine.{GraphLine}
 use Rattle.cfi_graph.specs.declared.line.SiteKind.{SiteKind}
 use Rattle.cfi_graph.specs.declared.line.SiteKind.TheVariants as K
 use Rattle.cfi_graph.specs.Graph.{GraphParts}
 use Rattle.cfi_unit.specs.declared.target_word.TargetWord.{TargetWord}
-use Rattle.cfi_unit.specs.declared.target_word.TargetWord.TheVariants.{First}
+use Rattle.cfi_unit.specs.declared.target_word.TargetWord.TheVariants.{First, Third}
 use Rattle.cfi_unit.specs.declared.place.Place.{Place}
 use Rattle.cfi_unit.specs.declared.place.Place.TheVariants.{Handler as handler, Opening as opening, Closing as closing, Body as body}
+use Rattle.cfi_unit.specs.declared.unit.Unit as U
 use Rattle.cfi_unit.specs.Flow.{Flow, flow_of}
 use Rattle.cfi_unit.specs.UnitWords.{BAD_TARGET, DEEP, after_unit}
 use Rattle.cfi_unit.proofs.Flows.{entered, linked_back, linking_call, linking_computed_call, Suits, suits, untested, direct_call, guarded_call, computed_jump, computed_call, turned_back}
-use Rattle.cfi_rules.specs.Lines.{holds_of, is_among, targets_for}
-use Rattle.cfi_rules.specs.Rules.{IsWellFormed}
+use Rattle.cfi_rules.specs.Lines.{holds_of, is_among, leaves_in, targets_for}
+use Rattle.cfi_rules.specs.Rules.{IsWellFormed, asked_by}
 use Rattle.cfi_rules.specs.Split.{code_words}
-use Rattle.cfi_rules.specs.Walk.{InClass, CallGoes, ComputedCallGoes, FlowGoes, ReturnGoes, Goes}
+use Rattle.cfi_rules.specs.Walk.{InClass, CallGoes, ComputedCallGoes, ComputedLinkGoes, FlowGoes, LeafGoes, OpeningGoes, ReturnGoes, Goes}
 use Rattle.cfi_rules.specs.Walks.{WalkState}
-use Rattle.cfi_rules.proofs.RuleFacts.{target_bears, unit_borne}
+use Rattle.cfi_rules.proofs.RuleFacts.{Reads, landing, target_bears, unit_borne, unit_reads}
+use Rattle.cfi_rules.proofs.Served.{read_by}
 use Rattle.cfi_walk.specs.Laws.{AreSites, StepIsUnique}
-use Rattle.cfi_walk.proofs.Reach.{unit_within}
-use Rattle.cfi_walk.proofs.Sites.{either_kept, exit_kept, jump_kept}
+use Rattle.cfi_walk.proofs.Reach.{body_unit, unit_within}
+use Rattle.cfi_walk.proofs.Sites.{either_kept, exit_kept, jump_kept, save_kept}
 
-class_above : (p : Profile) → LaidOut p → (image : Contents) (graph : GraphParts) → IsWellFormed p image graph → (kind : SiteKind) (which : TargetWord) (label v : ℕ) → InClass graph.lines kind which label v → DEEP < v
-class_above p laid image graph formed kind which label v inside =
+class_above : (p : Profile) → LaidOut p → (image : Contents) (graph : GraphParts) → IsWellFormed p image graph → (kind : SiteKind) (which : TargetWord) (label v : ℕ) →
+    which ≡ read_by graph.version kind → InClass graph.lines kind which label v → DEEP < landing which v
+class_above p laid image graph formed kind which label v reads inside =
     elim (cases_Option (targets_for graph.lines kind which label)) [
       | inl none ↦ absurd (false≢true (sym (ap (λ o. holds_of o (is_among v)) none) ∙ inside))
       | inr (ts, some) ↦
-          let borne = target_bears p image graph formed kind which v label ts some (sym (ap (λ o. holds_of o (is_among v)) some) ∙ inside) in
-          let unit = unit_borne p (code_words image.code) which v label borne in
-          let low = (unit_within p laid (code_words image.code) v unit.0 unit.1).low in
+          let borne = target_bears p image graph formed kind which v label ts reads some (sym (ap (λ o. holds_of o (is_among v)) some) ∙ inside) in
+          let unit = unit_borne p (code_words image.code) (leaves_in graph.lines) v label which borne in
+          let low = (unit_within p laid (code_words image.code) (landing which v) unit.0 unit.1).low in
           omega arith
     ]
 
@@ -43,20 +47,37 @@ call_same site target pending v a b (inl (room, t, s)) (inr (full, to)) = absurd
 call_same site target pending v a b (inr (full, to)) (inl (room, t, s)) = absurd (omega arith)
 call_same site target pending v a b (inr g) (inr h) = g.1.1 ∙ sym h.1.1
 
-module _ (p : Profile) (lines : List GraphLine) (above : (kind : SiteKind) (which : TargetWord) (label v : ℕ) → InClass lines kind which label v → DEEP < v) where
-  never : (kind : SiteKind) (which : TargetWord) (label v : ℕ) → InClass lines kind which label v → v ≡ BAD_TARGET → ⊥
-  never kind which label v inside e = let high = above kind which label v inside in omega arith
+opening_same : (callee : Bool) (site target : ℕ) (pending : List ℕ) (v : ℕ) (a b : List ℕ) → OpeningGoes callee site target pending v a → OpeningGoes callee site target pending v b → a ≡ b
+opening_same false site target pending v a b g h = call_same site target pending v a b g h
+opening_same true site target pending v a b g h = g.2 ∙ sym h.2
 
-  computed_call_same : (site label : ℕ) (pending : List ℕ) (v : ℕ) (a b : List ℕ) → ComputedCallGoes lines site label pending v a → ComputedCallGoes lines site label pending v b → a ≡ b
-  computed_call_same site label pending v a b (inl g) (inl h) = g.1 ∙ sym h.1
-  computed_call_same site label pending v a b (inl g) (inr (inl h)) = absurd (never K.Call First label v h.1 g.0)
-  computed_call_same site label pending v a b (inl g) (inr (inr h)) = g.1 ∙ sym h.2.1
-  computed_call_same site label pending v a b (inr (inl g)) (inl h) = absurd (never K.Call First label v g.1 h.0)
-  computed_call_same site label pending v a b (inr (inl g)) (inr (inl h)) = g.2 ∙ sym h.2
-  computed_call_same site label pending v a b (inr (inl (room, i, s))) (inr (inr (full, t, to))) = absurd (omega arith)
-  computed_call_same site label pending v a b (inr (inr g)) (inl h) = g.2.1 ∙ sym h.1
-  computed_call_same site label pending v a b (inr (inr (full, t, to))) (inr (inl (room, i, s))) = absurd (omega arith)
-  computed_call_same site label pending v a b (inr (inr g)) (inr (inr h)) = g.2.1 ∙ sym h.2.1
+module _ (p : Profile) (version : GraphVersion) (lines : List GraphLine)
+    (above : (kind : SiteKind) (which : TargetWord) (label v : ℕ) → which ≡ read_by version kind → InClass lines kind which label v → DEEP < landing which v) where
+  never : (label v : ℕ) → First ≡ read_by version K.Call → InClass lines K.Call First label v → v ≡ BAD_TARGET → ⊥
+  never label v reads inside e = let high = above K.Call First label v reads inside in omega arith
+
+  computed_call_same : (site label : ℕ) (pending : List ℕ) (v : ℕ) (a b : List ℕ) → First ≡ read_by version K.Call →
+      ComputedCallGoes lines site label pending v a → ComputedCallGoes lines site label pending v b → a ≡ b
+  computed_call_same site label pending v a b reads (inl g) (inl h) = g.1 ∙ sym h.1
+  computed_call_same site label pending v a b reads (inl g) (inr (inl h)) = absurd (never label v reads h.1 g.0)
+  computed_call_same site label pending v a b reads (inl g) (inr (inr h)) = g.1 ∙ sym h.2.1
+  computed_call_same site label pending v a b reads (inr (inl g)) (inl h) = absurd (never label v reads g.1 h.0)
+  computed_call_same site label pending v a b reads (inr (inl g)) (inr (inl h)) = g.2 ∙ sym h.2
+  computed_call_same site label pending v a b reads (inr (inl (room, i, s))) (inr (inr (full, t, to))) = absurd (omega arith)
+  computed_call_same site label pending v a b reads (inr (inr g)) (inl h) = g.2.1 ∙ sym h.1
+  computed_call_same site label pending v a b reads (inr (inr (full, t, to))) (inr (inl (room, i, s))) = absurd (omega arith)
+  computed_call_same site label pending v a b reads (inr (inr g)) (inr (inr h)) = g.2.1 ∙ sym h.2.1
+
+  -- past the gate of a target no handler stands
+  past_handlers : (label t v : ℕ) → Third ≡ read_by version K.Call → InClass lines K.Call Third label t → v ≡ t + 8 → v ≡ BAD_TARGET → ⊥
+  past_handlers label t v reads inside there bad = let high = above K.Call Third label t reads inside in omega arith
+
+  computed_link_same : (site label : ℕ) (pending : List ℕ) (v : ℕ) (a b : List ℕ) → Third ≡ read_by version K.Call →
+      ComputedLinkGoes lines Third site label pending v a → ComputedLinkGoes lines Third site label pending v b → a ≡ b
+  computed_link_same site label pending v a b reads (inl g) (inl h) = g.1 ∙ sym h.1
+  computed_link_same site label pending v a b reads (inl g) (inr (t, inside, (few, there, s))) = absurd (past_handlers label t v reads inside there g.0)
+  computed_link_same site label pending v a b reads (inr (t, inside, (few, there, s))) (inl h) = absurd (past_handlers label t v reads inside there h.0)
+  computed_link_same site label pending v a b reads (inr (t, i, g)) (inr (u, k, h)) = g.2 ∙ sym h.2
 
   return_same : (pending : List ℕ) (v : ℕ) (a b : List ℕ) → AreSites pending → ReturnGoes pending v a → ReturnGoes pending v b → a ≡ b
   return_same [] v a b s g h = g.1 ∙ sym h.1
@@ -65,23 +86,29 @@ module _ (p : Profile) (lines : List GraphLine) (above : (kind : SiteKind) (whic
   return_same (site ∷ pending) v a b (low, s) (inr (bad, g)) (inl (to, h)) = absurd (omega arith)
   return_same (site ∷ pending) v a b s (inr g) (inr h) = g.1 ∙ sym h.1
 
-  flow_same : (f : Flow) → Suits f → (following : ℕ) (pending : List ℕ) (v : ℕ) (a b : List ℕ) → AreSites pending → FlowGoes lines f following pending v a → FlowGoes lines f following pending v b → a ≡ b
-  flow_same f (untested exit act is) following pending v a b s g h = exit_kept exit following pending v a is g ∙ sym (exit_kept exit following pending v b is h)
-  flow_same f (direct_call target) following pending v a b s g h = call_same following target pending v a b g h
-  flow_same f (guarded_call numbers) following pending v a b s g h = either_kept following BAD_TARGET pending v a g ∙ sym (either_kept following BAD_TARGET pending v b h)
-  flow_same f (computed_jump which rs1 imm label) following pending v a b s g h = jump_kept lines which label pending v a g ∙ sym (jump_kept lines which label pending v b h)
-  flow_same f (computed_call rs1 imm label) following pending v a b s g h = computed_call_same following label pending v a b g h
-  flow_same f turned_back following pending v a b s g h = return_same pending v a b s g h
-  flow_same f (linking_call target) following pending v a b s g h = absurd g
-  flow_same f entered following pending v a b s g h = absurd g
-  flow_same f (linking_computed_call rs1 imm label) following pending v a b s g h = absurd g
-  flow_same f linked_back following pending v a b s g h = absurd g
+  leaf_same : (pending : List ℕ) (v : ℕ) (a b : List ℕ) → LeafGoes pending v a → LeafGoes pending v b → a ≡ b
+  leaf_same [] v a b g h = absurd g
+  leaf_same (site ∷ pending) v a b g h = g.1 ∙ sym h.1
 
-  place_same : (place : Place) (at : ℕ) (pending : List ℕ) (v : ℕ) (a b : List ℕ) → AreSites pending → Goes p lines place at pending v a → Goes p lines place at pending v b → a ≡ b
-  place_same handler at pending v a b s g h = absurd g
-  place_same (opening entry) at pending v a b s g h = call_same p.closing entry pending v a b g h
-  place_same closing at pending v a b s g h = absurd g
-  place_same (body unit) at pending v a b s g h = flow_same (flow_of unit) (suits unit) (after_unit unit at) pending v a b s g h
+  flow_same : (f : Flow) → Suits f → Reads version (asked_by f.test f.sites) → (following : ℕ) (pending : List ℕ) (v : ℕ) (a b : List ℕ) → AreSites pending →
+      FlowGoes lines f following pending v a → FlowGoes lines f following pending v b → a ≡ b
+  flow_same f (untested exit act is) reads following pending v a b s g h = exit_kept exit following pending v a is g ∙ sym (exit_kept exit following pending v b is h)
+  flow_same f (direct_call target) reads following pending v a b s g h = call_same following target pending v a b g h
+  flow_same f (guarded_call numbers) reads following pending v a b s g h = either_kept following BAD_TARGET pending v a g ∙ sym (either_kept following BAD_TARGET pending v b h)
+  flow_same f (computed_jump which rs1 imm label) reads following pending v a b s g h = jump_kept lines which label pending v a g ∙ sym (jump_kept lines which label pending v b h)
+  flow_same f (computed_call rs1 imm label) reads following pending v a b s g h = computed_call_same following label pending v a b reads g h
+  flow_same f turned_back reads following pending v a b s g h = return_same pending v a b s g h
+  flow_same f (linking_call target) reads following pending v a b s g h = g.2 ∙ sym h.2
+  flow_same f entered reads following pending v a b s g h = save_kept following pending v a g ∙ sym (save_kept following pending v b h)
+  flow_same f (linking_computed_call rs1 imm label) reads following pending v a b s g h = computed_link_same following label pending v a b reads g h
+  flow_same f linked_back reads following pending v a b s g h = leaf_same pending v a b g h
+
+  place_same : (place : Place) → ((unit : U.Unit) → place ≡ body unit → Reads version (asked_by (flow_of unit).test (flow_of unit).sites)) →
+      (at : ℕ) (pending : List ℕ) (v : ℕ) (a b : List ℕ) → AreSites pending → Goes p lines place at pending v a → Goes p lines place at pending v b → a ≡ b
+  place_same handler reads at pending v a b s g h = absurd g
+  place_same (opening entry) reads at pending v a b s g h = opening_same p.callee_saves p.closing entry pending v a b g h
+  place_same closing reads at pending v a b s g h = absurd g
+  place_same (body unit) reads at pending v a b s g h = flow_same (flow_of unit) (suits unit) (reads unit refl) (after_unit unit at) pending v a b s g h
 
 abbrev state : ℕ → List ℕ → WalkState
 state at pending = record { at = at; pending = pending }
@@ -94,6 +121,8 @@ one_step p image graph walk pc next other is formed sites (place, stands, at, go
     let same : place' ≡ place = cc in
     let moved = subst (λ (q : Place). Goes p graph.lines q walk.at walk.pending pc other.pending) same goes' in
     let after : next.pending ≡ other.pending =
-    place_same p graph.lines (class_above p (laid_out p is) image graph formed) place walk.at walk.pending pc next.pending other.pending sites goes moved in
+    place_same p graph.version graph.lines (class_above p (laid_out p is) image graph formed) place
+    (λ unit body_is. unit_reads p image graph formed walk.at unit (body_unit p (laid_out p is) (code_words image.code) walk.at unit (stands ∙ ap Some body_is)))
+    walk.at walk.pending pc next.pending other.pending sites goes moved in
     let address : next.at ≡ other.at = at ∙ sym at' in
     states next other address after

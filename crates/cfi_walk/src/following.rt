@@ -1,5 +1,5 @@
 ghost use Rattle.std.specs.Prelude.{◌≡◌, false, true};
-ghost use Rattle.rv_word.specs.Image.{image_profile};
+ghost use Rattle.cfi_rules.specs.Rules.{pair_profile};
 ghost use Rattle.cfi_rules.specs.Split.{code_words};
 ghost use Rattle.cfi_rules.specs.Walks.{AreSteps, IsStep, IsWalked, WalkState, walk_start};
 ghost use Rattle.cfi_walk.specs.Laws.{AreSites};
@@ -22,9 +22,9 @@ pub enum Followed {
 /// Goes on to `pc` where a step of the walk leads there, and otherwise leaves the walk as it is. Takes
 /// no memory.
 pub fn follow(checked: &Checked<'_>, walk: &mut Walk, pc: u64) -> Followed
-    ensures yes { result ≡ Yes → IsStep (image_profile checked.now.image) (code_words checked.now.image.code) checked.now.graph.lines walk.old pc walk.new }
+    ensures yes { result ≡ Yes → IsStep (pair_profile checked.now.image checked.now.graph) (code_words checked.now.image.code) checked.now.graph.lines walk.old pc walk.new }
     ensures unchanged { result ≡ No → walk.new ≡ walk.old }
-    ensures no { result ≡ No → (next : WalkState) → IsStep (image_profile checked.now.image) (code_words checked.now.image.code) checked.now.graph.lines walk.old pc next → ⊥ }
+    ensures no { result ≡ No → (next : WalkState) → IsStep (pair_profile checked.now.image checked.now.graph) (code_words checked.now.image.code) checked.now.graph.lines walk.old pc next → ⊥ }
 {
     // Tells the proof the bounds on the code's length.
     let _ = checked.image().code().len();
@@ -43,16 +43,16 @@ pub fn follow(checked: &Checked<'_>, walk: &mut Walk, pc: u64) -> Followed
 /// Goes on to each of these addresses, one after another, and tells whether a step led to each. Stays where there is
 /// no step to the next. Takes no memory.
 pub fn follow_all(checked: &Checked<'_>, walk: &mut Walk, addresses: &[u64]) -> bool
-    ensures yes { result ≡ true → LeadTo (image_profile checked.now.image) (code_words checked.now.image.code) checked.now.graph.lines walk.old addresses.now walk.new }
-    ensures no { result ≡ false → StopAt (image_profile checked.now.image) (code_words checked.now.image.code) checked.now.graph.lines walk.old addresses.now walk.new }
+    ensures yes { result ≡ true → LeadTo (pair_profile checked.now.image checked.now.graph) (code_words checked.now.image.code) checked.now.graph.lines walk.old addresses.now walk.new }
+    ensures no { result ≡ false → StopAt (pair_profile checked.now.image checked.now.graph) (code_words checked.now.image.code) checked.now.graph.lines walk.old addresses.now walk.new }
 
     // So the answer tells whether the addresses are steps, where an address fixes the step.
-    ensures steps { result ≡ true → AreSteps (image_profile checked.now.image) (code_words checked.now.image.code) checked.now.graph.lines walk.old addresses.now }
+    ensures steps { result ≡ true → AreSteps (pair_profile checked.now.image checked.now.graph) (code_words checked.now.image.code) checked.now.graph.lines walk.old addresses.now }
     ensures only { result ≡ false → AreSites walk.old.pending →
-        AreSteps (image_profile checked.now.image) (code_words checked.now.image.code) checked.now.graph.lines walk.old addresses.now → ⊥ }
+        AreSteps (pair_profile checked.now.image checked.now.graph) (code_words checked.now.image.code) checked.now.graph.lines walk.old addresses.now → ⊥ }
 
     // From the opening on the walk of each hart in each run is followed.
-    ensures runs { walk.old ≡ walk_start → IsWalked (image_profile checked.now.image) checked.now.image addresses.now → result ≡ true }
+    ensures runs { walk.old ≡ walk_start → IsWalked (pair_profile checked.now.image checked.now.graph) checked.now.image addresses.now → result ≡ true }
 {
     checked.is_safe();
     // Tells the proof that the pair meets the rules.

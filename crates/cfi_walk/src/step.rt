@@ -1,14 +1,19 @@
 //! One step of the graph walk.
 
-ghost use Rattle.std.specs.Prelude.{◌<◌, ◌^◌, ◌⊎◌};
-ghost use Rattle.rv_word.specs.Image.{image_profile};
+ghost use Rattle.std.specs.Prelude.{◌≡◌, ◌<◌, ◌^◌, ◌⊎◌};
+ghost use Rattle.cfi_rules.specs.Rules.{pair_profile};
 ghost use Rattle.cfi_rules.specs.Walk.{
   CallGoes,
   ComputedCallGoes,
+  ComputedLinkGoes,
   Goes,
   GoesPast,
   JumpGoes,
+  LeafGoes,
+  LinkGoes,
+  OpeningGoes,
   ReturnGoes,
+  SaveGoes,
   To,
 };
 ghost use Rattle.cfi_walk.specs.Moves.{IsAnswer};
@@ -19,8 +24,9 @@ use cfi_graph::SiteKind;
 use cfi_unit::handlers::{self, BAD_RETURN, BAD_TARGET, DEEP};
 use cfi_unit::{Place, SystemOp, TargetWord, Unit, size};
 use cfi_verify::{Asks, Checked};
+use rv_word::GraphVersion;
 
-/// How many sites may be pending.
+/// How many sites the shadow stack holds.
 const MOST_PENDING: usize = handlers::MOST_PENDING as usize;
 
 /// The step to one address.
@@ -44,12 +50,35 @@ fn to_either(walk: &Walk, first: u64, second: u64, pc: u64) -> Option<Move>
 fn call(walk: &Walk, site: u64, target: u64, pc: u64) -> Option<Move>
     ensures { IsAnswer (λ newer. CallGoes site target walk.now.pending pc newer) walk.now.pending result }
 {
-    if walk.depth() == MOST_PENDING {
+    let depth = walk.depth();
+    if depth == MOST_PENDING {
         to(walk, DEEP, pc)
-    } else if pc == target {
+    } else if depth < MOST_PENDING && pc == target {
         Some(Move::Push(site))
     } else {
         None
+    }
+}
+
+/// A call that leaves its site in x1.
+fn link(walk: &Walk, site: u64, target: u64, pc: u64) -> Option<Move>
+    ensures { IsAnswer (λ newer. LinkGoes site target walk.now.pending pc newer) walk.now.pending result }
+{
+    if walk.depth() <= MOST_PENDING && pc == target {
+        Some(Move::Push(site))
+    } else {
+        None
+    }
+}
+
+/// What saves the newest site.
+fn saved(walk: &Walk, past: u64, pc: u64) -> Option<Move>
+    ensures { IsAnswer (λ newer. SaveGoes past walk.now.pending pc newer) walk.now.pending result }
+{
+    if walk.depth() <= MOST_PENDING {
+        to(walk, past, pc)
+    } else {
+        to(walk, DEEP, pc)
     }
 }
 
@@ -85,14 +114,41 @@ fn computed_call(checked: &Checked<'_>, walk: &Walk, site: u64, label: u32, pc: 
         which: TargetWord::First,
         label,
     };
-    if walk.depth() == MOST_PENDING {
+    let depth = walk.depth();
+    if depth == MOST_PENDING {
         return if has_target(checked, asked) {
             to(walk, DEEP, pc)
         } else {
             None
         };
     }
-    if is_in_class(checked, asked, pc) {
+    if depth < MOST_PENDING && is_in_class(checked, asked, pc) {
+        Some(Move::Push(site))
+    } else {
+        None
+    }
+}
+
+/// A computed call that leaves its site in x1: it leads past the gate of its target.
+fn computed_link(
+    checked: &Checked<'_>,
+    walk: &Walk,
+    which: TargetWord,
+    site: u64,
+    label: u32,
+    pc: u64,
+) -> Option<Move>
+    ensures { IsAnswer (λ newer. ComputedLinkGoes checked.now.graph.lines which site label walk.now.pending pc newer) walk.now.pending result }
+{
+    if pc == BAD_TARGET {
+        return Some(Move::Keep);
+    }
+    let asked = Asks {
+        kind: SiteKind::Call,
+        which,
+        label,
+    };
+    if walk.depth() <= MOST_PENDING && pc >= 8 && is_in_class(checked, asked, pc - 8) {
         Some(Move::Push(site))
     } else {
         None
@@ -108,6 +164,17 @@ fn returned(walk: &Walk, pc: u64) -> Option<Move>
         }
     }
     to(walk, BAD_RETURN, pc)
+}
+
+/// A return from a function that calls nothing.
+fn returned_from_leaf(walk: &Walk, pc: u64) -> Option<Move>
+    ensures { IsAnswer (λ newer. LeafGoes walk.now.pending pc newer) walk.now.pending result }
+{
+    if walk.newest()? == pc {
+        Some(Move::Pop)
+    } else {
+        None
+    }
 }
 
 /// The step from a unit, with the address after it.
@@ -133,7 +200,24 @@ fn from_unit(checked: &Checked<'_>, walk: &Walk, unit: &Unit, past: u64, pc: u64
         Unit::LeanIjump(_, _, label) => {
             computed_jump(checked, walk, TargetWord::First, label.bits(), pc)
         }
-        Unit::LinkCall(_) | Unit::Enter | Unit::LeanIcall(..) | Unit::LeafReturn => None,
+        Unit::LinkCall(target) => link(walk, past, *target, pc),
+        Unit::Enter => saved(walk, past, pc),
+        Unit::LeanIcall(_, _, label) => {
+            computed_link(checked, walk, TargetWord::Third, past, label.bits(), pc)
+        }
+        Unit::LeafReturn => returned_from_leaf(walk, pc),
+    }
+}
+
+/// The step from the opening, by who saves the sites of calls.
+fn opened(checked: &Checked<'_>, walk: &Walk, entry: u64, pc: u64) -> Option<Move>
+    ensures { IsAnswer (λ newer. OpeningGoes (pair_profile checked.now.image checked.now.graph).callee_saves (pair_profile checked.now.image checked.now.graph).closing entry walk.now.pending pc newer) walk.now.pending result }
+{
+    let closing = checked.closing();
+    match checked.graph().version() {
+        GraphVersion::CalleeSaves => link(walk, closing, entry, pc),
+        GraphVersion::OneLabel => call(walk, closing, entry, pc),
+        GraphVersion::TwoLabels => call(walk, closing, entry, pc),
     }
 }
 
@@ -141,12 +225,12 @@ fn from_unit(checked: &Checked<'_>, walk: &Walk, unit: &Unit, past: u64, pc: u64
 /// the place at which the walk stands.
 pub(crate) fn step(checked: &Checked<'_>, walk: &Walk, place: &Place, pc: u64) -> Option<Move>
     requires { walk.now.at < 2 ^ 32 }
-    ensures { IsAnswer (λ newer. Goes (image_profile checked.now.image) checked.now.graph.lines place.now walk.now.at walk.now.pending pc newer) walk.now.pending result }
+    ensures { IsAnswer (λ newer. Goes (pair_profile checked.now.image checked.now.graph) checked.now.graph.lines place.now walk.now.at walk.now.pending pc newer) walk.now.pending result }
 {
     match place {
         Place::Handler => None,
         Place::Closing => None,
-        Place::Opening(entry) => call(walk, checked.closing(), *entry, pc),
+        Place::Opening(entry) => opened(checked, walk, *entry, pc),
         Place::Body(unit) => {
             let past = walk.address() + u64::from(size(unit));
             from_unit(checked, walk, unit, past, pc)

@@ -1,14 +1,13 @@
 ghost use Rattle.std.specs.Prelude.{◌≡◌, ◌<◌, ◌≤◌, ◌∷◌, IfOk, drop, length, slice_get};
-ghost use Rattle.cfi_unit.specs.Shadow.{MOST_PENDING};
 ghost use Rattle.cfi_rules.specs.Walks.{walk_start};
-ghost use Rattle.cfi_walk.specs.Moves.{HasRoom, after};
+ghost use Rattle.cfi_walk.specs.Moves.{HasRoom, MOST_SITES, after};
 
 use rv_word::NoMemory;
 use rv_word::profile::START;
 use std::alloc::Global;
 use std::marker::Model;
 
-/// How many sites a walk makes room for: one more than may be pending.
+/// How many sites a walk makes room for: those that the shadow stack holds, and one in x1.
 const ROOM: usize = 8192;
 
 /// What a step does with the pending sites.
@@ -30,14 +29,14 @@ pub struct Walk {
 
 impl Model for Walk {
     ghost use Rattle.std.specs.Prelude.{◌≤◌, reverse, vec_capacity, vec_len};
-    ghost use Rattle.cfi_unit.specs.Shadow.{MOST_PENDING};
     ghost use Rattle.cfi_rules.specs.Walks.{WalkState};
+    ghost use Rattle.cfi_walk.specs.Moves.{MOST_SITES};
 
     ghost Value = { WalkState };
 
     ghost view = { λ w. record { at = w.address; pending = reverse w.pending.items } };
 
-    ghost invariant = { λ w. (vec_len w.pending ≤ MOST_PENDING) × (MOST_PENDING ≤ vec_capacity w.pending) };
+    ghost invariant = { λ w. (vec_len w.pending ≤ MOST_SITES) × (MOST_SITES ≤ vec_capacity w.pending) };
 }
 
 impl Walk {
@@ -61,7 +60,7 @@ impl Walk {
     /// How many sites are pending.
     pub fn depth(&self) -> usize
         ensures value { result ≡ length self.now.pending }
-        ensures most { length self.now.pending ≤ MOST_PENDING }
+        ensures most { length self.now.pending ≤ MOST_SITES }
     {
         self.pending.len()
     }
@@ -74,7 +73,7 @@ impl Walk {
     }
 
     fn push(&mut self, site: u64)
-        requires { length self.old.pending < MOST_PENDING }
+        requires { length self.old.pending < MOST_SITES }
         ensures { self.new ≡ record { at = self.old.at; pending = site ∷ self.old.pending } }
     {
         self.pending.push_reserved(site);

@@ -90,6 +90,7 @@ pub short_accepted : IsAccepted short
 unfolding AreGates decoded instr_at words_from units_of followers code_from words_of code_of labels_of label_at site_label site_number empty_classes tagged
 short_accepted = record {
   profile = inl refl;
+  version = refl;
   sound = sound;
   words = λ k below. ltb-true (item_of short.layout.program k).word (2 ^ 32) (each (λ n. nat_lt (item_of short.layout.program n).word (2 ^ 32)) refl k below);
   last = (3, refl, refl);
@@ -120,6 +121,7 @@ pub short_of_harts_accepted : IsAccepted short_of_harts
 unfolding AreGates decoded instr_at words_from units_of followers code_from words_of code_of labels_of label_at site_label site_number empty_classes tagged
 short_of_harts_accepted = record {
   profile = inr refl;
+  version = refl;
   sound = sound;
   words = short_accepted.words;
   last = (3, refl, refl);
@@ -225,6 +227,7 @@ pub pointer_accepted : IsAccepted pointer
 unfolding AreGates decoded instr_at words_from units_of followers code_from words_of code_of labels_of label_at site_label site_number empty_classes tagged
 pointer_accepted = record {
   profile = inl refl;
+  version = refl;
   sound = pointer_sound;
   words = λ k below. ltb-true (item_of pointer.layout.program k).word (2 ^ 32) (each_of (λ n. nat_lt (item_of pointer.layout.program n).word (2 ^ 32)) refl k below);
   last = (12, refl, refl);

@@ -13,12 +13,12 @@ use Rattle.cfi_map.specs.LabelOf.{site_label}
 use Rattle.cfi_map.specs.Placement.{whole_at}
 use Rattle.cfi_unit.specs.declared.target_word.TargetWord.{TargetWord}
 use Rattle.cfi_unit.specs.declared.unit.Unit as U
-use Rattle.cfi_rules.specs.Rules.{jump_word}
 use Rattle.cfi_unit.specs.Members.{MOST_MEMBERS}
 use Rattle.cfi_unit.specs.declared.members.Member.{Member}
 use Rattle.cfi_runs.specs.Distances.{level, lowest}
 use Rattle.cfi_runs.specs.GroupStores.{members_from}
 use Rattle.cfi_runs.proofs.Distances.{lowest_least}
+use Rattle.cfi_rules.specs.Lines.{jump_word}
 use Rattle.cfi_writer.specs.Accepted.{IsAccepted}
 use Rattle.cfi_writer.specs.Chosen.{instr_if}
 use Rattle.cfi_writer.specs.Units.{Choice, behind, group_at, instr_of, is_later_at, later_from, low_at, member_at, offset_at, unit_here, unit_of}

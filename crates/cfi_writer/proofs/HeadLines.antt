@@ -1,5 +1,5 @@
 -- The line of system calls before those of classes: what is asked of classes is asked behind it, and it tells the list.
-use Rattle.std.proofs.Common.{◌≡◌, ℕ, zero, suc, true, List, [], ◌∷◌, ◌++◌, Option, Some, None, map, refl, ap}
+use Rattle.std.proofs.Common.{◌≡◌, ℕ, zero, suc, true, List, [], ◌∷◌, ◌++◌, Option, Some, None, map, refl, ap, ◌∙◌}
 use Rattle.std.specs.Prelude.{option_and_then, slice_get, nat_lt}
 use Rattle.std.specs.List.{list_all}
 use Rattle.std.proofs.lemmas.Bool.{and_from, and_parts}
@@ -13,7 +13,7 @@ use Rattle.cfi_graph.specs.Graph.{ClassLine, IsGraph, are_calls, calls_in, class
 use Rattle.cfi_map.specs.GraphAtMap.{call_lines, class_lines}
 use Rattle.cfi_map.specs.LabelOf.{Tagged, tagged}
 use Rattle.cfi_unit.specs.declared.target_word.TargetWord.{TargetWord}
-use Rattle.cfi_rules.specs.Lines.{class_with, if_serves, targets_for}
+use Rattle.cfi_rules.specs.Lines.{class_with, if_serves, leaves_in, targets_for}
 use Rattle.cfi_rules.specs.Placed.{is_head}
 use Rattle.cfi_writer.specs.Laws.{written_classes, written_heads}
 use Rattle.cfi_writer.specs.Units.{Choice}
@@ -79,6 +79,23 @@ call_told (Some numbers) lines none = refl
 
 pub heads_told : (m : Choice) → calls_in (written_heads m) ≡ m.layout.closed.calls
 heads_told m = call_told m.layout.closed.calls (written_classes m) (classes_tell m.layout.gates m.labels (tagged m.layout.closed.sides))
+
+-- and none is of a leaf
+no_leaves : (gates labels : List ℕ) (ts : List Tagged) → leaves_in (class_lines gates labels ts) ≡ []
+unfolding class_lines leaves_in
+no_leaves gates [] [] = refl
+no_leaves gates (l ∷ labels) [] = refl
+no_leaves gates [] (t ∷ ts) = refl
+no_leaves gates (l ∷ labels) (t ∷ ts) = no_leaves gates labels ts
+
+call_no_leaves : (calls : Option (List ℕ)) (lines : List GraphLine) → leaves_in (call_lines calls ++ lines) ≡ leaves_in lines
+unfolding leaves_in
+call_no_leaves None lines = refl
+call_no_leaves (Some numbers) lines = refl
+
+pub heads_no_leaves : (m : Choice) → leaves_in (written_heads m) ≡ []
+heads_no_leaves m =
+    call_no_leaves m.layout.closed.calls (written_classes m) ∙ no_leaves m.layout.gates m.labels (tagged m.layout.closed.sides)
 
 -- and with it they are a graph's
 first_of_all : (line : GraphLine) → is_class line ≡ true → key_below Head (key_of line) ≡ true

@@ -15,7 +15,7 @@ use Rattle.rv_code.specs.Decode.{decoded}
 use Rattle.obj_program.specs.Program.{count, is_end, item_of, no_item}
 use Rattle.obj_program.proofs.Read.{read_there}
 use Rattle.cfi_graph.specs.declared.line.SiteKind.{SiteKind}
-use Rattle.cfi_graph.specs.Graph.{ClassLine, class_in}
+use Rattle.cfi_graph.specs.Graph.{ClassLine, class_in, has_leaves}
 use Rattle.cfi_class.specs.Classes.{has}
 use Rattle.cfi_closed.specs.Closed.{is_target_of}
 use Rattle.cfi_map.specs.GraphAtMap.{gate, gate_to, words_at}
@@ -29,8 +29,8 @@ use Rattle.cfi_unit.specs.declared.unit.Unit.TheVariants as V
 use Rattle.cfi_unit.specs.declared.target_word.TargetWord.{TargetWord}
 use Rattle.cfi_unit.specs.declared.target_word.TargetWord.TheVariants.{First, Second, Third}
 use Rattle.cfi_unit.specs.UnitWords.{Reaches, past}
-use Rattle.cfi_rules.specs.Lines.{class_with, is_among, is_word_of, read_of, targets_for}
-use Rattle.cfi_rules.specs.Rules.{admits, jump_word, site_of}
+use Rattle.cfi_rules.specs.Lines.{class_with, is_among, is_word_of, jump_word, read_of, targets_for}
+use Rattle.cfi_rules.specs.Rules.{admits, site_of}
 use Rattle.cfi_rules.specs.Sound.{Bears, IsSound, StartsIn, target_of}
 use Rattle.cfi_rules.specs.Split.{unit_in}
 use Rattle.cfi_rules.specs.declared.asks.Asks.{Asks}
@@ -42,7 +42,7 @@ use Rattle.cfi_writer.specs.Units.{Choice, Group, entered_at, entry_gate, group_
 use Rattle.cfi_writer.proofs.CodeRoom.{target_entered}
 use Rattle.cfi_writer.proofs.Grouping.{entered_first, other_first}
 use Rattle.cfi_writer.proofs.ClassLines.{targets_of}
-use Rattle.cfi_writer.proofs.HeadLines.{heads_all, heads_class, heads_serve, heads_told, heads_with}
+use Rattle.cfi_writer.proofs.HeadLines.{heads_all, heads_class, heads_no_leaves, heads_serve, heads_told, heads_with}
 use Rattle.cfi_writer.proofs.Fitting.{IsInCode, reach}
 use Rattle.cfi_writer.proofs.InstrAt.{gate_number}
 use Rattle.cfi_writer.proofs.Labelled.{used_in}
@@ -117,9 +117,9 @@ lead_asks : (o : Option ℕ) → is_some (site_of (body (lead_unit o))) ≡ fals
 lead_asks None = refl
 lead_asks (Some label) = refl
 
-lead_admitted : (version : GraphVersion) (calls : Option (List ℕ)) (o : Option ℕ) → admits version calls (lead_unit o) ≡ true
-lead_admitted version calls None = is_free calls version (lead_unit None) refl (λ numbers. refl) refl
-lead_admitted version calls (Some label) = is_free calls version (lead_unit (Some label)) refl (λ numbers. refl) refl
+lead_admitted : (version : GraphVersion) (calls : Option (List ℕ)) (o : Option ℕ) → has_leaves version ≡ false → admits version calls (lead_unit o) ≡ true
+lead_admitted version calls None full = is_free calls version (lead_unit None) refl (λ numbers. refl) full refl refl
+lead_admitted version calls (Some label) full = is_free calls version (lead_unit (Some label)) refl (λ numbers. refl) full refl refl
 
 gate_of : U.Unit → Option ℕ
 gate_of (V.Gate label) = Some label
@@ -178,7 +178,7 @@ module _ (m : Choice) (ok : IsAccepted m) where
       subst (λ (b : ℕ). StartsIn m.layout.profile (units m) b) same (starts m ok t there (entered_first m ok.groups t (target_is_entered m k t below some)))
 
   labelled_sides : AreLabelled m.layout.closed.version m.labels m.layout.closed.sides
-  labelled_sides = record { sorts = ok.sorts; counted = ok.counted; rising = ok.labels_rise; apart = ok.apart; site_classes = ok.site_classes }
+  labelled_sides = record { full = ok.version; sorts = ok.sorts; counted = ok.counted; rising = ok.labels_rise; apart = ok.apart; site_classes = ok.site_classes }
 
   -- a class with the label of a site serves it
   site_given : (k : ℕ) (site : SiteKind) → k < count m.layout.program → site_kind (item_of m.layout.program k).kind ≡ Some site →
@@ -215,23 +215,23 @@ module _ (m : Choice) (ok : IsAccepted m) where
 
   -- each target of a class bears its label
   gated : (j a : ℕ) (class : ClassLine) → option_and_then class_in (slice_get (written_classes m) j) ≡ Some class → IsTrue (is_among a class.targets) →
-      Bears m.layout.profile (units m) (read_of class.sort) a class.label
+      Bears m.layout.profile (units m) (read_of m.layout.closed.version class.sort) a class.label
   gated j a class e among =
       let at = targets_bear m.layout.closed.version m.layout.gates m.labels m.layout.closed.sides labelled_sides j a class e among in
       let below = ok.members at.index at.class at.place at.side at.there at.inside in
-      let word : gate m.layout at.place + 4 * at.index ≡ a + past (read_of class.sort) =
+      let word : gate m.layout at.place + 4 * at.index ≡ a + past (read_of m.layout.closed.version class.sort) =
       ap (λ (n : ℕ). n + 4 * at.index) at.gate_is ∙ ap (λ (n : ℕ). a + n) (sym at.word) in
-      bears m.layout.profile (units m) (read_of class.sort) a class.label (subst (StartsIn m.layout.profile (units m)) at.gate_is (starts m ok at.place below (entered_first m ok.groups at.place (target_entered m at.place at.target))))
+      bears m.layout.profile (units m) (read_of m.layout.closed.version class.sort) a class.label (subst (StartsIn m.layout.profile (units m)) at.gate_is (starts m ok at.place below (entered_first m ok.groups at.place (target_entered m at.place at.target))))
       (ap (unit_in (units m) m.layout.profile.units_from) (sym word)
       ∙ lead_there m ok at.place at.index (V.Gate class.label) below (to_lead m at.place at.index (Some class.label) at.target at.label))
 
   -- a word with a class's label is that of one of its targets
   astray_gate : (k j label : ℕ) (line : ClassLine) → slice_get (labels_of m.labels m.layout.closed.sides k) j ≡ Some (Some label) →
-      class_with (written_classes m) label ≡ Some line → is_word_of (read_of line.sort) (gate m.layout k + 4 * j) line.targets ≡ true
+      class_with (written_classes m) label ≡ Some line → is_word_of (read_of m.layout.closed.version line.sort) (gate m.layout k + 4 * j) line.targets ≡ true
   astray_gate k j label line some e =
       let (word, among) = gates_listed m.layout.closed.version m.layout.gates m.labels m.layout.closed.sides labelled_sides k j label line some e in
-      ap (λ (n : ℕ). is_word_of (read_of line.sort) (gate m.layout k + n) line.targets) (sym word)
-      ∙ word_listed (read_of line.sort) (gate m.layout k) line.targets among
+      ap (λ (n : ℕ). is_word_of (read_of m.layout.closed.version line.sort) (gate m.layout k + n) line.targets) (sym word)
+      ∙ word_listed (read_of m.layout.closed.version line.sort) (gate m.layout k) line.targets among
 
   -- and no `lui x0` of the program has a class's label
   no_own : (k label : ℕ) (line : ClassLine) → k < count m.layout.program → unit_here m k ≡ V.Gate label →
@@ -251,21 +251,21 @@ module _ (m : Choice) (ok : IsAccepted m) where
       (ok.labels index there).free (inl (subst (λ (n : ℕ). Contains (used_labels m.layout.program) n) (sym number ∙ sym label_is) used))
 
   strays : (k label a : ℕ) (line : ClassLine) → k < count m.layout.program → IsUnit m k a (V.Gate label) → class_with (written_classes m) label ≡ Some line →
-      IsTrue (is_word_of (read_of line.sort) a line.targets)
+      IsTrue (is_word_of (read_of m.layout.closed.version line.sort) a line.targets)
   strays k label a line below (lead_word j get here) asked =
       let (o, at, same) = from_lead m k j (V.Gate label) get in
-      ap (λ (b : ℕ). is_word_of (read_of line.sort) b line.targets) here ∙ astray_gate k j label line (at ∙ ap Some (lead_label o label same)) asked
+      ap (λ (b : ℕ). is_word_of (read_of m.layout.closed.version line.sort) b line.targets) here ∙ astray_gate k j label line (at ∙ ap Some (lead_label o label same)) asked
   strays k label a line below (own here unit_is) asked = absurd (no_own k label line below (sym unit_is) asked)
 
   -- each unit is admitted in the graph
   admitted : (k a : ℕ) (u : U.Unit) → k < count m.layout.program → IsUnit m k a u → IsTrue (admits m.layout.closed.version m.layout.closed.calls u)
   admitted k a u below (lead_word j get here) =
       let (o, at, same) = from_lead m k j u get in
-      subst (λ (v : U.Unit). admits m.layout.closed.version m.layout.closed.calls v ≡ true) same (lead_admitted m.layout.closed.version m.layout.closed.calls o)
+      subst (λ (v : U.Unit). admits m.layout.closed.version m.layout.closed.calls v ≡ true) same (lead_admitted m.layout.closed.version m.layout.closed.calls o ok.version)
   admitted k a u below (own here unit_is) =
       subst (λ (v : U.Unit). admits m.layout.closed.version m.layout.closed.calls v ≡ true) (sym unit_is)
       (unit_admitted m.layout.closed.version m.layout.closed.calls (item_of m.layout.program k).kind (instr_of m k) (whole_at m.whole k) (gate_to m.layout (item_of m.layout.program k).target)
-      (site_label m.labels m.layout.closed.sides k) (group_at m k) (right m ok k below))
+      (site_label m.labels m.layout.closed.sides k) (group_at m k) (right m ok k below) ok.version)
 
   -- the last unit is a stop
   last_stops : last_or None (units m) ≡ Some V.Stop
@@ -283,6 +283,9 @@ module _ (m : Choice) (ok : IsAccepted m) where
 
   sound_code : IsSound m.layout.profile m.layout.closed.version (entry_gate m) (units m) (written_heads m)
   sound_code = record {
+    full = ok.profile;
+    version_full = ok.version;
+    no_leaves = heads_no_leaves m;
     fit = units_fit m ok;
     ahead = units_ahead m ok;
     admitted = λ a u e.

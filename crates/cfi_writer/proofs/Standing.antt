@@ -6,7 +6,7 @@ use Rattle.std.proofs.lemmas.Bool.{and_from, cases_Bool, cases_eq, not_from_fals
 use Rattle.std.proofs.lemmas.Option.{slice_get_within}
 use Rattle.rv_word.specs.MemoryMap.{CODE_SIZE, CODE_START}
 use Rattle.rv_word.proofs.Cases.{cases_Option}
-use Rattle.rv_word.proofs.Versions.{LaidOut, laid_out}
+use Rattle.rv_word.proofs.Profiles.{LaidOut, laid_out}
 use Rattle.rv_instr.specs.InRange.{IsInstr}
 use Rattle.rv_instr.specs.declared.instr.Instr.{Instr}
 use Rattle.rv_instr.specs.declared.instr.Instr.TheVariants as I
@@ -66,7 +66,7 @@ first_size calls other ecall whole store is_whole = absurd (cc)
 module _ (m : Choice) (ok : IsAccepted m) where
   -- where the parts of its image stand
   pub laid : LaidOut m.layout.profile
-  laid = laid_out m.layout.profile ok.profile
+  laid = laid_out m.layout.profile (inl ok.profile)
 
   pub instr_in_range : (k : ℕ) → k < count m.layout.program → IsInstr (instr_of m k)
   instr_in_range k below = instr_there m.layout.program m.layout.gates (words_at m.layout) k I.Ebreak (ok.words k below) tt
@@ -159,7 +159,7 @@ module _ (m : Choice) (ok : IsAccepted m) where
       let from = at.from in
       let to = at.to in
       let round = at.round in
-      let whole = length-placed_code m.layout.profile ok.profile (entry_gate m) (units m) in
+      let whole = length-placed_code m.layout.profile (inl ok.profile) (entry_gate m) (units m) in
       let room = ok.room in
       let even = laid.round in
       record { from = from; to = omega arith; round = round ∙ even }
@@ -170,7 +170,7 @@ module _ (m : Choice) (ok : IsAccepted m) where
       let low = at.low in
       let high = at.high in
       let all = whole_bytes in
-      let whole = length-placed_code m.layout.profile ok.profile (entry_gate m) (units m) in
+      let whole = length-placed_code m.layout.profile (inl ok.profile) (entry_gate m) (units m) in
       let room = ok.room in
       (low, omega arith, at.round laid.round)
 

@@ -4,6 +4,7 @@ use Rattle.std.specs.Prelude.{◌&&◌, ◌||◌, not}
 use Rattle.std.proofs.lemmas.Bool.{and_from}
 use Rattle.std.proofs.lemmas.Option.{same_Some}
 use Rattle.rv_word.specs.declared.version.GraphVersion.{GraphVersion}
+use Rattle.rv_word.specs.declared.version.GraphVersion.TheVariants.{OneLabel, TwoLabels, CalleeSaves}
 use Rattle.rv_word.proofs.SameNumbers.{same_itself}
 use Rattle.rv_instr.specs.declared.instr.UpperOp.{UpperOp}
 use Rattle.rv_instr.specs.declared.instr.Instr.{Instr}
@@ -13,6 +14,7 @@ use Rattle.obj_input.specs.declared.item_kind.ItemKind.TheVariants as is
 use Rattle.obj_program.specs.Program.{is_end}
 use Rattle.obj_program.specs.Sound.{is_direct}
 use Rattle.obj_program.specs.Suits.{names_reserved, suits}
+use Rattle.cfi_graph.specs.Graph.{has_leaves}
 use Rattle.cfi_graph.specs.declared.line.SiteKind.{SiteKind}
 use Rattle.cfi_graph.specs.declared.line.SiteKind.TheVariants as K
 use Rattle.cfi_map.specs.GraphAtMap.{line_of_kind}
@@ -26,9 +28,12 @@ use Rattle.cfi_unit.specs.declared.unit.Unit.TheVariants as V
 use Rattle.cfi_unit.specs.declared.unit.SystemOp.TheVariants as S
 use Rattle.cfi_unit.specs.declared.target_word.TargetWord.{TargetWord}
 use Rattle.cfi_unit.specs.declared.target_word.TargetWord.TheVariants.{First, Second, Third}
+use Rattle.cfi_unit.specs.Flow.{flow_of}
+use Rattle.cfi_unit.specs.Templates.{is_full}
 use Rattle.cfi_unit.specs.UnitWords.{word_count}
+use Rattle.cfi_rules.specs.Lines.{jump_word}
 use Rattle.cfi_rules.specs.Placed.{line_of}
-use Rattle.cfi_rules.specs.Rules.{admits, asks, gate_of, is_of_version, jump_word, may_call, same_word, site_of}
+use Rattle.cfi_rules.specs.Rules.{admits, asks, gate_of, is_of_version, may_call, same_word, site_of, test_is_of_version}
 use Rattle.cfi_rules.specs.Sound.{target_of}
 use Rattle.cfi_rules.specs.declared.asks.Asks.{Asks}
 use Rattle.cfi_writer.specs.SideLaws.{word_read}
@@ -168,29 +173,39 @@ same_read First = refl
 same_read Second = refl
 same_read Third = refl
 
+-- a unit of code whose callers save sites is of a version of such code, where its jump reads the version's word
+of_full : (version : GraphVersion) (unit : U.Unit) → has_leaves version ≡ false → is_full unit ≡ true →
+    test_is_of_version version (flow_of unit).test (flow_of unit).sites ≡ true → is_of_version version unit ≡ true
+of_full OneLabel unit full stands reads = and_from (is_full unit) (test_is_of_version OneLabel (flow_of unit).test (flow_of unit).sites) stands reads
+of_full TwoLabels unit full stands reads = and_from (is_full unit) (test_is_of_version TwoLabels (flow_of unit).test (flow_of unit).sites) stands reads
+of_full CalleeSaves unit full stands reads = absurd (cc)
+
 -- and what is no system call may stand with any list
 pub is_free : (calls : Option (List ℕ)) (version : GraphVersion) (unit : U.Unit) → may_call None unit ≡ true → ((numbers : List ℕ) → may_call (Some numbers) unit ≡ true) →
-    is_of_version version unit ≡ true → admits version calls unit ≡ true
-is_free None version unit none some of = and_from (is_of_version version unit) (may_call None unit) of none
-is_free (Some numbers) version unit none some of = and_from (is_of_version version unit) (may_call (Some numbers) unit) of (some numbers)
+    has_leaves version ≡ false → is_full unit ≡ true → test_is_of_version version (flow_of unit).test (flow_of unit).sites ≡ true → admits version calls unit ≡ true
+is_free None version unit none some full stands reads = and_from (is_of_version version unit) (may_call None unit) (of_full version unit full stands reads) none
+is_free (Some numbers) version unit none some full stands reads =
+    and_from (is_of_version version unit) (may_call (Some numbers) unit) (of_full version unit full stands reads) (some numbers)
 
-call_admitted : (version : GraphVersion) (calls : Option (List ℕ)) → admits version calls (call_unit calls) ≡ true
-call_admitted version None = refl
-call_admitted version (Some numbers) = same_itself numbers
+call_admitted : (version : GraphVersion) (calls : Option (List ℕ)) → has_leaves version ≡ false → admits version calls (call_unit calls) ≡ true
+call_admitted version None full =
+    and_from (is_of_version version (V.System S.Ecall)) (may_call None (V.System S.Ecall)) (of_full version (V.System S.Ecall) full refl refl) refl
+call_admitted version (Some numbers) full =
+    and_from (is_of_version version (V.Guarded numbers)) (may_call (Some numbers) (V.Guarded numbers)) (of_full version (V.Guarded numbers) full refl refl) (same_itself numbers)
 
-pub unit_admitted : (version : GraphVersion) (calls : Option (List ℕ)) (kind : ItemKind) (i : Instr) (whole : Bool) (target label : ℕ) (group : Group) → is_right kind i ≡ true →
+pub unit_admitted : (version : GraphVersion) (calls : Option (List ℕ)) (kind : ItemKind) (i : Instr) (whole : Bool) (target label : ℕ) (group : Group) → is_right kind i ≡ true → has_leaves version ≡ false →
     admits version calls (unit_of calls kind i whole target (jump_word version) label group) ≡ true
-unit_admitted version calls is.Ijump (I.Jalr rd rs1 imm) whole target label group right = is_free calls version (V.Ijump (jump_word version) rs1 imm label) refl (λ numbers. refl) (same_read (jump_word version))
-unit_admitted version calls is.Icall (I.Jalr rd rs1 imm) whole target label group right = is_free calls version (V.Icall rs1 imm label) refl (λ numbers. refl) refl
-unit_admitted version calls is.Branch (I.Branch op rs1 rs2 imm) true target label group right = is_free calls version (V.Branch (inverse op) rs1 rs2 target) refl (λ numbers. refl) refl
-unit_admitted version calls is.Branch (I.Branch op rs1 rs2 imm) false target label group right = is_free calls version (V.Near op rs1 rs2 target) refl (λ numbers. refl) refl
-unit_admitted version calls is.Jump i whole target label group right = is_free calls version (V.Jump target) refl (λ numbers. refl) refl
-unit_admitted version calls is.Call i whole target label group right = is_free calls version (V.Call target) refl (λ numbers. refl) refl
-unit_admitted version calls is.Gate (I.Upper op rd imm) whole target label group right = is_free calls version (V.Gate imm) refl (λ numbers. refl) refl
-unit_admitted version calls is.Plain i whole target label group right = is_free calls version (V.Plain i) refl (λ numbers. refl) refl
-unit_admitted version calls is.Store (I.Store op rs1 rs2 imm) whole target label group right = is_free calls version (V.Stores Shifts rs1 group.mask group.members) refl (λ numbers. refl) refl
-unit_admitted version calls is.System I.Ecall whole target label group right = call_admitted version calls
-unit_admitted version calls is.System I.Ebreak whole target label group right = is_free calls version (V.System S.Ebreak) refl (λ numbers. refl) refl
-unit_admitted version calls is.Return i whole target label group right = is_free calls version V.Return refl (λ numbers. refl) refl
-unit_admitted version calls is.End i whole target label group right = is_free calls version V.Stop refl (λ numbers. refl) refl
-unit_admitted version calls kind i whole target label group right = absurd (cc)
+unit_admitted version calls is.Ijump (I.Jalr rd rs1 imm) whole target label group right full = is_free calls version (V.Ijump (jump_word version) rs1 imm label) refl (λ numbers. refl) full refl (same_read (jump_word version))
+unit_admitted version calls is.Icall (I.Jalr rd rs1 imm) whole target label group right full = is_free calls version (V.Icall rs1 imm label) refl (λ numbers. refl) full refl refl
+unit_admitted version calls is.Branch (I.Branch op rs1 rs2 imm) true target label group right full = is_free calls version (V.Branch (inverse op) rs1 rs2 target) refl (λ numbers. refl) full refl refl
+unit_admitted version calls is.Branch (I.Branch op rs1 rs2 imm) false target label group right full = is_free calls version (V.Near op rs1 rs2 target) refl (λ numbers. refl) full refl refl
+unit_admitted version calls is.Jump i whole target label group right full = is_free calls version (V.Jump target) refl (λ numbers. refl) full refl refl
+unit_admitted version calls is.Call i whole target label group right full = is_free calls version (V.Call target) refl (λ numbers. refl) full refl refl
+unit_admitted version calls is.Gate (I.Upper op rd imm) whole target label group right full = is_free calls version (V.Gate imm) refl (λ numbers. refl) full refl refl
+unit_admitted version calls is.Plain i whole target label group right full = is_free calls version (V.Plain i) refl (λ numbers. refl) full refl refl
+unit_admitted version calls is.Store (I.Store op rs1 rs2 imm) whole target label group right full = is_free calls version (V.Stores Shifts rs1 group.mask group.members) refl (λ numbers. refl) full refl refl
+unit_admitted version calls is.System I.Ecall whole target label group right full = call_admitted version calls full
+unit_admitted version calls is.System I.Ebreak whole target label group right full = is_free calls version (V.System S.Ebreak) refl (λ numbers. refl) full refl refl
+unit_admitted version calls is.Return i whole target label group right full = is_free calls version V.Return refl (λ numbers. refl) full refl refl
+unit_admitted version calls is.End i whole target label group right full = is_free calls version V.Stop refl (λ numbers. refl) full refl refl
+unit_admitted version calls kind i whole target label group right full = absurd (cc)

@@ -22,13 +22,13 @@ use Rattle.cfi_map.specs.Placement.{whole_at}
 use Rattle.cfi_unit.specs.declared.unit.Unit as U
 use Rattle.cfi_unit.specs.UnitWords.{word_count}
 use Rattle.cfi_rules.specs.Placed.{line_of, lines_from}
-use Rattle.cfi_rules.specs.Rules.{jump_word}
 use Rattle.cfi_rules.specs.Sound.{IsSound}
 use Rattle.cfi_rules.specs.Split.{unit_at, unit_in}
 use Rattle.cfi_rules.proofs.PlacedCode.{placed_entry, placed_units, placed_well_formed}
 use Rattle.cfi_rules.proofs.PlacedGraph.{placed_is_graph}
 use Rattle.cfi_unit.proofs.Counts.{some_word}
 use Rattle.cfi_rules.proofs.UnitIn.{length-placed_code, lies}
+use Rattle.cfi_rules.specs.Lines.{jump_word}
 use Rattle.cfi_writer.specs.Accepted.{IsAccepted}
 use Rattle.cfi_writer.specs.Laws.{WrittenEntry, WrittenIsGraph, WrittenIsWellFormed, WrittenLines, WrittenUnits, written_classes, written_code, written_heads}
 use Rattle.cfi_writer.specs.Units.{Choice, entry_gate, group_at, instr_of, is_later_at, lead, lead_unit, unit_here, unit_places, units, units_of}
@@ -134,7 +134,7 @@ module _ (m : Choice) (ok : IsAccepted m) where
 
   length_right : is_code_length size ≡ true
   length_right =
-      let words = length-placed_code m.layout.profile ok.profile (entry_gate m) (units m) in
+      let words = length-placed_code m.layout.profile (inl ok.profile) (entry_gate m) (units m) in
       let low = (laid m ok).low in
       let room = ok.room in
       and_from (size % 4 == 0 && nat_le 4 size) (nat_le size CODE_SIZE)
@@ -157,7 +157,7 @@ module _ (m : Choice) (ok : IsAccepted m) where
       let to = stands.to in
       let round = stands.round in
       let some = some_word u in
-      let words = length-placed_code m.layout.profile ok.profile (entry_gate m) (units m) in
+      let words = length-placed_code m.layout.profile (inl ok.profile) (entry_gate m) (units m) in
       let low = (laid m ok).low in
       let even = (laid m ok).round in
       and_from (gate m.layout k % 4 == 0 && nat_le CODE_START (gate m.layout k)) (nat_lt (gate m.layout k) (CODE_START + size))
@@ -195,10 +195,10 @@ module _ (m : Choice) (ok : IsAccepted m) where
   graph_is : IsGraph (record { version = m.layout.closed.version; code = size; lines = graph_lines m.layout m.labels })
   graph_is =
       subst (λ (lines : List GraphLine). IsGraph (record { version = m.layout.closed.version; code = size; lines = lines })) (sym lines_are)
-      (placed_is_graph m.layout.profile m.layout.closed.version (entry_gate m) (units m) (written_heads m) ok.profile (written_sound m ok) (heads_graph m size ok.calls class_graph))
+      (placed_is_graph m.layout.profile m.layout.closed.version (entry_gate m) (units m) (written_heads m) (inl ok.profile) (written_sound m ok) (heads_graph m size ok.calls class_graph))
 
   units_at : (a : ℕ) → unit_at m.layout.profile (written_code m) a ≡ unit_in (units m) m.layout.profile.units_from a
-  units_at = placed_units m.layout.profile (entry_gate m) (units m) ok.profile (units_fit m ok) (units_ahead m ok)
+  units_at = placed_units m.layout.profile (entry_gate m) (units m) (inl ok.profile) (units_fit m ok) (units_ahead m ok)
 
 pub written_lines : WrittenLines
 written_lines = lines_are
@@ -208,7 +208,7 @@ written_graph = graph_is
 
 pub written_well_formed : WrittenIsWellFormed
 written_well_formed m image graph ok words version lines same_length =
-    placed_well_formed m.layout.profile (entry_gate m) (units m) (written_heads m) image graph ok.profile
+    placed_well_formed m.layout.profile (entry_gate m) (units m) (written_heads m) image graph (inl ok.profile)
     (subst (λ (v : GraphVersion). IsSound m.layout.profile v (entry_gate m) (units m) (written_heads m)) (sym version) (written_sound m ok)) words (lines ∙ lines_are m ok) same_length
 
 pub written_units : WrittenUnits
@@ -235,4 +235,4 @@ written_units m ok = record {
 }
 
 pub written_entry : WrittenEntry
-written_entry m ok = placed_entry m.layout.profile (entry_gate m) (units m) ok.profile (written_sound m ok).entry_reached
+written_entry m ok = placed_entry m.layout.profile (entry_gate m) (units m) (inl ok.profile) (written_sound m ok).entry_reached

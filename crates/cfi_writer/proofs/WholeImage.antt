@@ -1,5 +1,5 @@
 -- A prepared program that is written, with its graph and map.
-use Rattle.std.proofs.Common.{◌≡◌, ℕ, ◌*◌, ◌^◌, ◌<◌, ◌≤◌, List, length, Some, sym, ap, subst, ◌∙◌, arith}
+use Rattle.std.proofs.Common.{inl, ◌≡◌, ℕ, ◌*◌, ◌^◌, ◌<◌, ◌≤◌, List, length, Some, sym, ap, subst, ◌∙◌, arith}
 use Rattle.std.specs.Prelude.{slice_index}
 use Rattle.rv_word.specs.declared.version.GraphVersion.{GraphVersion}
 use Rattle.rv_word.specs.declared.version.ImageVersion.{ImageVersion}
@@ -52,7 +52,7 @@ is_graph m code ok same =
 pub image_size : (m : Choice) (code init : ℕ) → IsAccepted m → code ≡ 4 * length (written_code m) → 4 * length (written_code m) ≤ CODE_SIZE → init ≤ INIT_ROOM →
     IsImageSize code init
 image_size m code init ok same room less =
-    let whole = length-placed_code m.layout.profile ok.profile (entry_gate m) (units m) in
+    let whole = length-placed_code m.layout.profile (inl ok.profile) (entry_gate m) (units m) in
     let low = (laid m ok).low in
     record { some = omega arith; most = omega arith; words = omega arith; data_most = less }
 

@@ -3,13 +3,14 @@
 use Rattle.std.specs.Prelude.{◌≡◌, ℕ, ◌+◌, ◌*◌, ◌^◌, ◌≤◌, ◌<◌, true, false, List, Some, is_some, length, map, slice_get}
 use Rattle.std.specs.List.{All}
 use Rattle.std.specs.List.Sorted.{IsStrictlyIncreasing}
-use Rattle.rv_word.specs.MemoryMap.{CODE_SIZE, IsProfile}
+use Rattle.rv_word.specs.MemoryMap.{CODE_SIZE, IsFullProfile}
 use Rattle.obj_program.specs.AtMap.{instr_at}
 use Rattle.obj_program.specs.Program.{count, is_end, item_of}
 use Rattle.obj_program.specs.Sound.{IsSound}
 use Rattle.cfi_class.specs.Labels.{AreLabels}
 use Rattle.cfi_class.specs.Classes.{IsIn}
 use Rattle.cfi_graph.specs.Calls.{may_be_calls}
+use Rattle.cfi_graph.specs.Graph.{has_leaves}
 use Rattle.cfi_graph.specs.declared.line.SiteKind.{SiteKind}
 use Rattle.cfi_closed.specs.declared.side.Site.{Site}
 use Rattle.cfi_closed.specs.Closed.{Side, has_site, is_of, sorts_of}
@@ -34,8 +35,9 @@ pub record IsSiteOf (sides : List Side) (k : ℕ) (kind : SiteKind) : Type 0 whe
 
 -- what a choice is made of
 pub record IsAccepted (m : Choice) : Type 0 where
-  -- it is written as images of one of the versions
-  pub profile : IsProfile m.layout.profile
+  -- it is written as images of one of the versions, in which callers save the sites of calls
+  pub profile : IsFullProfile m.layout.profile
+  pub version : has_leaves m.layout.closed.version ≡ false
   -- the program is sound, its words have 32 bits, and it ends in a section's end; it is entered at one of its places
   pub sound : IsSound m.layout.program
   pub words : (k : ℕ) → k < count m.layout.program → (item_of m.layout.program k).word < 2 ^ 32

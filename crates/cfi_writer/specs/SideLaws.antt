@@ -1,10 +1,10 @@
 -- How the lines of classes go with the words before places, whatever sides there are: labels are given side by side, and the word of
 -- the side with the index j stands 4 * j behind a target's gate.
-use Rattle.std.specs.Prelude.{◌≡◌, ℕ, ◌*◌, ◌<◌, true, List, [], Some, length, map, option_and_then, slice_get, slice_index, slice_index_or}
+use Rattle.std.specs.Prelude.{◌≡◌, ℕ, ◌*◌, ◌<◌, true, false, List, [], Some, length, map, option_and_then, slice_get, slice_index, slice_index_or}
 use Rattle.std.specs.List.Sorted.{IsStrictlyIncreasing}
 use Rattle.rv_word.specs.declared.version.GraphVersion.{GraphVersion}
 use Rattle.cfi_class.specs.Classes.{IsIn}
-use Rattle.cfi_graph.specs.Graph.{ClassLine, class_in}
+use Rattle.cfi_graph.specs.Graph.{ClassLine, class_in, has_leaves}
 use Rattle.cfi_graph.specs.declared.line.SiteKind.{SiteKind}
 use Rattle.cfi_graph.specs.declared.line.SiteKind.TheVariants as kinds
 use Rattle.cfi_closed.specs.declared.side.Site.{Site}
@@ -14,8 +14,7 @@ use Rattle.cfi_map.specs.LabelOf.{all_classes, labels_of, site_label, site_numbe
 use Rattle.cfi_unit.specs.declared.target_word.TargetWord.{TargetWord}
 use Rattle.cfi_unit.specs.declared.target_word.TargetWord.TheVariants.{First}
 use Rattle.cfi_unit.specs.UnitWords.{past}
-use Rattle.cfi_rules.specs.Lines.{class_with, is_among, read_of, targets_for}
-use Rattle.cfi_rules.specs.Rules.{jump_word}
+use Rattle.cfi_rules.specs.Lines.{class_with, is_among, jump_word, read_of, targets_for}
 use Rattle.cfi_writer.specs.Accepted.{IsSiteOf}
 
 -- the word that the check of a computed transfer of a kind reads, where a jump's reads this one
@@ -23,8 +22,9 @@ abbrev pub word_read : TargetWord → SiteKind → TargetWord
 word_read which kinds.Call = First
 word_read which kinds.Jump = which
 
--- labels of the classes of the sides for a version of graphs
+-- labels of the classes of the sides for a version of graphs of code in which callers save the sites of calls
 pub record AreLabelled (version : GraphVersion) (labels : List ℕ) (sides : List Side) : Type 0 where
+  pub full : has_leaves version ≡ false
   pub sorts : map (λ (s : Side). s.sort) sides ≡ sorts_of version
   pub counted : length labels ≡ length (tagged sides)
   pub rising : IsStrictlyIncreasing labels
@@ -33,7 +33,7 @@ pub record AreLabelled (version : GraphVersion) (labels : List ℕ) (sides : Lis
       site.class ≡ Some c → c < length side.classes
 
 -- a place whose word of a side bears the label of a class that has its gate
-pub record IsBorne (gates labels : List ℕ) (sides : List Side) (a : ℕ) (c : ClassLine) : Type 0 where
+pub record IsBorne (version : GraphVersion) (gates labels : List ℕ) (sides : List Side) (a : ℕ) (c : ClassLine) : Type 0 where
   pub place : ℕ
   pub index : ℕ
   pub side : Side
@@ -42,7 +42,7 @@ pub record IsBorne (gates labels : List ℕ) (sides : List Side) (a : ℕ) (c : 
   pub inside : IsIn side.classes class place
   pub gate_is : slice_index gates place ≡ a
   pub target : is_target sides place ≡ true
-  pub word : past (read_of c.sort) ≡ 4 * index
+  pub word : past (read_of version c.sort) ≡ 4 * index
   pub label : slice_get (labels_of labels sides place) index ≡ Some (Some c.label)
 
 -- each target of a class bears its label, at the word that its checks read
@@ -50,14 +50,14 @@ abbrev pub TargetsBear : Type 0
 TargetsBear =
     (version : GraphVersion) (gates labels : List ℕ) (sides : List Side) → AreLabelled version labels sides → (n a : ℕ) (c : ClassLine) →
     option_and_then class_in (slice_get (class_lines gates labels (tagged sides)) n) ≡ Some c → is_among a c.targets ≡ true →
-    IsBorne gates labels sides a c
+    IsBorne version gates labels sides a c
 
 -- each place that bears a class's label is one of its targets
 abbrev pub GatesListed : Type 0
 GatesListed =
     (version : GraphVersion) (gates labels : List ℕ) (sides : List Side) → AreLabelled version labels sides → (k j label : ℕ) (c : ClassLine) →
     slice_get (labels_of labels sides k) j ≡ Some (Some label) → class_with (class_lines gates labels (tagged sides)) label ≡ Some c →
-    (past (read_of c.sort) ≡ 4 * j) × (is_among (slice_index gates k) c.targets ≡ true)
+    (past (read_of version c.sort) ≡ 4 * j) × (is_among (slice_index gates k) c.targets ≡ true)
 
 -- each site is served by the class whose label it asks for
 abbrev pub SitesServed : Type 0

@@ -24,7 +24,7 @@ use Rattle.cfi_unit.specs.declared.unit.Unit as U
 use Rattle.cfi_unit.specs.declared.unit.Unit.TheVariants as V
 use Rattle.cfi_unit.specs.declared.unit.SystemOp.TheVariants as S
 use Rattle.cfi_unit.specs.Members.{FILLER}
-use Rattle.cfi_rules.specs.Rules.{jump_word}
+use Rattle.cfi_rules.specs.Lines.{jump_word}
 use Rattle.cfi_runs.specs.Distances.{field, level, lowest}
 use Rattle.cfi_runs.specs.GroupStores.{members_from}
 

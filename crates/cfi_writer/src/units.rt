@@ -1,5 +1,6 @@
 //! The unit of each place.
 
+ghost use Rattle.cfi_rules.specs.Lines.{jump_word};
 ghost use Rattle.std.specs.Prelude.{false, ◌≡◌, ◌<◌, ◌^◌, ◌++◌, ◌∷◌, [], IfOk, IfSome, OnOk, map};
 ghost use Rattle.rv_instr.specs.declared.instr.ImmediateOp.TheVariants.{Addi};
 ghost use Rattle.rv_instr.specs.declared.instr.Instr.TheVariants as I;
@@ -7,7 +8,6 @@ ghost use Rattle.obj_program.specs.Program.{count};
 ghost use Rattle.cfi_map.specs.LabelOf.{labels_of};
 ghost use Rattle.cfi_writer.specs.Chosen.{instr_if};
 ghost use Rattle.cfi_map.specs.Groups.{is_store};
-ghost use Rattle.cfi_rules.specs.Rules.{jump_word};
 ghost use Rattle.cfi_writer.specs.Units.{Group, call_unit, inverse, is_later_at, lead, lead_unit, unit_here, unit_of, units};
 
 use crate::chosen::Chosen;

@@ -4,7 +4,7 @@ use Rattle.std.proofs.lemmas.List.{append_assoc, take_at, drop_at, length-replic
 use Rattle.rv_word.specs.declared.version.ImageVersion.{ImageVersion}
 use Rattle.rv_word.specs.MemoryMap.{Profile, IsProfile, profile_of}
 use Rattle.rv_word.specs.Image.{IsImageSize}
-use Rattle.rv_word.proofs.Versions.{laid_out, is_profile}
+use Rattle.rv_word.proofs.Profiles.{laid_out, is_profile}
 use Rattle.elf_image.specs.declared.field.Segment.{Segment}
 use Rattle.elf_image.specs.Header.{data_segment, code_segment, shadow_segment, fields_of, data_start, code_length, data_length, elf_header, program_header}
 use Rattle.elf_image.specs.Spelling.{headers, zeros, spelling}

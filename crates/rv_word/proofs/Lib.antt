@@ -3,5 +3,5 @@ pub mod Arrays
 pub mod Cases
 pub mod Products
 pub mod Division
-pub mod Versions
+pub mod Profiles
 pub mod SameNumbers

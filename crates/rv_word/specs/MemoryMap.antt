@@ -1,8 +1,11 @@
 -- The machine's memory map: three regions, and what each allows. Its addresses and sizes are the
 -- constants of `src/memory_map.rt` and `src/profile.rt`, under the same names.
-use Rattle.std.specs.Prelude.{◌≡◌, ℕ, ◌+◌, ◌*◌, ◌≤◌, nat_le, ◌⊎◌, Bool, ◌&&◌, ◌||◌, Option, Some, None, if◌then◌else◌}
+use Rattle.std.specs.Prelude.{◌≡◌, ℕ, ◌+◌, ◌*◌, ◌≤◌, nat_le, ◌⊎◌, Bool, ◌&&◌, ◌||◌, true, false, Option, Some, None, if◌then◌else◌}
 use Rattle.rv_word.specs.declared.version.ImageVersion.{ImageVersion}
 use Rattle.rv_word.specs.declared.version.ImageVersion.TheVariants.{OneHart, EightHarts}
+use Rattle.rv_word.specs.declared.version.GraphVersion.{GraphVersion}
+use Rattle.rv_word.specs.declared.version.GraphVersion.TheVariants.{OneLabel, TwoLabels, CalleeSaves}
+use Rattle.rv_word.specs.declared.version.Versions.{Versions}
 use Rattle.rv_word.specs.declared.region.Region.{Region}
 use Rattle.rv_word.specs.declared.region.Region.TheVariants.{Data, Code, Shadow}
 use Rattle.rv_word.specs.declared.memory_map.TheConstants as map
@@ -51,18 +54,27 @@ UNITS_START = profile.UNITS_START
 abbrev pub part_of : ℕ → ℕ
 part_of hart = SHADOW_START + PART_SIZE * hart
 
--- what differs between the versions of images: how many harts a run has at most, how many bytes the
--- shadow region has, where the prologue's call of the entry, its closing and the first unit stand
+-- what differs between the versions of images and graphs: how many harts a run has at most, how many bytes the
+-- shadow region has, where the prologue's call of the entry, its closing and the first unit stand, and whether a
+-- function saves the site of its own call
 pub record Profile : Type 0 where
   pub harts : ℕ
   pub shadow_size : ℕ
   pub opening_call : ℕ
   pub closing : ℕ
   pub units_from : ℕ
+  pub callee_saves : Bool
 
 -- images for one hart
 abbrev pub version_1 : Profile
-version_1 = record { harts = 1; shadow_size = map.SHADOW_SIZE; opening_call = OPENING_CALL; closing = CLOSING; units_from = UNITS_START }
+version_1 = record {
+  harts = 1;
+  shadow_size = map.SHADOW_SIZE;
+  opening_call = OPENING_CALL;
+  closing = CLOSING;
+  units_from = UNITS_START;
+  callee_saves = false;
+}
 
 -- images for several harts
 abbrev pub version_2 : Profile
@@ -72,15 +84,57 @@ version_2 = record {
   opening_call = profile.OPENING_CALL_OF_HARTS;
   closing = profile.CLOSING_OF_HARTS;
   units_from = profile.UNITS_START_OF_HARTS;
+  callee_saves = false;
 }
 
--- the profile of a version's images
+-- lean images, under graphs of version 3: for one hart, and for several
+abbrev pub lean_version_1 : Profile
+lean_version_1 = record {
+  harts = 1;
+  shadow_size = map.SHADOW_SIZE;
+  opening_call = profile.LEAN_OPENING_CALL;
+  closing = profile.LEAN_CLOSING;
+  units_from = profile.LEAN_UNITS_START;
+  callee_saves = true;
+}
+
+abbrev pub lean_version_2 : Profile
+lean_version_2 = record {
+  harts = profile.MOST_HARTS;
+  shadow_size = profile.SHADOW_SIZE_OF_HARTS;
+  opening_call = profile.LEAN_OPENING_CALL_OF_HARTS;
+  closing = profile.LEAN_CLOSING_OF_HARTS;
+  units_from = profile.LEAN_UNITS_START_OF_HARTS;
+  callee_saves = true;
+}
+
+-- the profile of a version's images, under a graph of version 1 or 2, and under one of version 3
 abbrev pub profile_of : ImageVersion → Profile
 profile_of OneHart = version_1
 profile_of EightHarts = version_2
 
+abbrev pub lean_profile_of : ImageVersion → Profile
+lean_profile_of OneHart = lean_version_1
+lean_profile_of EightHarts = lean_version_2
+
+-- the profile of an image's version with a graph's
+abbrev pub profile_under : GraphVersion → ImageVersion → Profile
+profile_under OneLabel version = profile_of version
+profile_under TwoLabels version = profile_of version
+profile_under CalleeSaves version = lean_profile_of version
+
+abbrev pub profile_with : Versions → Profile
+profile_with versions = profile_under versions.graph versions.image
+
+-- the profiles of images in which callers save sites, and of lean ones
+abbrev pub IsFullProfile : Profile → Type 0
+IsFullProfile p = (p ≡ version_1) ⊎ (p ≡ version_2)
+
+abbrev pub IsLeanProfile : Profile → Type 0
+IsLeanProfile p = (p ≡ lean_version_1) ⊎ (p ≡ lean_version_2)
+
 abbrev pub IsProfile : Profile → Type 0
-IsProfile p = (p ≡ version_1) ⊎ (p ≡ version_2)
+IsProfile p = IsFullProfile p ⊎ IsLeanProfile p
 
 -- a run may have so many harts
 pub record MayRun (p : Profile) (harts : ℕ) : Type 0 where

@@ -15,7 +15,7 @@ pub use no_memory::NoMemory;
 pub use numbers::{MOST_NUMBERS, Numbers};
 pub use places::Places;
 pub use region::Region;
-pub use version::{GraphVersion, ImageVersion};
+pub use version::{GraphVersion, ImageVersion, Versions};
 
 mod bits;
 mod bytes;

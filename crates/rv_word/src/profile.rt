@@ -1,7 +1,8 @@
-//! Where the parts of an image stand: of version 1, which is for one hart, and of version 2, which is for several.
+//! Where the parts of an image stand: of version 1, which is for one hart, and of version 2, which is for several;
+//! and of each under a graph of version 3.
 //! Definitions have these addresses and sizes from here, by `specs/MemoryMap.antt`.
 
-/// Where a run starts, in both versions: at the prologue's opening.
+/// Where a run starts, in all versions: at the prologue's opening.
 pub const START: u64 = 0x4000_000c;
 /// Where the opening calls the program's entry, in version 1.
 pub const OPENING_CALL: u64 = 0x4000_0034;
@@ -20,3 +21,17 @@ pub const OPENING_CALL_OF_HARTS: u64 = 0x4000_0044;
 pub const CLOSING_OF_HARTS: u64 = 0x4000_0048;
 /// Where the first unit stands, in version 2.
 pub const UNITS_START_OF_HARTS: u64 = 0x4000_0050;
+
+/// Where the opening calls the program's entry, in version 1 under a graph of version 3.
+pub const LEAN_OPENING_CALL: u64 = 0x4000_0020;
+/// Where the program returns to, in version 1 under a graph of version 3.
+pub const LEAN_CLOSING: u64 = 0x4000_0024;
+/// Where the first unit stands, in version 1 under a graph of version 3.
+pub const LEAN_UNITS_START: u64 = 0x4000_002c;
+
+/// Where the opening calls the program's entry, in version 2 under a graph of version 3.
+pub const LEAN_OPENING_CALL_OF_HARTS: u64 = 0x4000_0030;
+/// Where the program returns to, in version 2 under a graph of version 3.
+pub const LEAN_CLOSING_OF_HARTS: u64 = 0x4000_0034;
+/// Where the first unit stands, in version 2 under a graph of version 3.
+pub const LEAN_UNITS_START_OF_HARTS: u64 = 0x4000_003c;

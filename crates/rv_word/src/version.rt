@@ -1,12 +1,13 @@
 //! The versions of images and of graphs, and what those of images differ in.
 
 ghost use Rattle.std.specs.Prelude.{◌≡◌, ◌+◌, ◌≤◌, ◌^◌};
-ghost use Rattle.rv_word.specs.MemoryMap.{CODE_START, profile_of};
-ghost use Rattle.rv_word.specs.Version.{graph_number, image_number};
+ghost use Rattle.rv_word.specs.MemoryMap.{CODE_START, profile_of, profile_with};
+ghost use Rattle.rv_word.specs.Version.{image_number};
 
 use crate::memory_map::SHADOW_SIZE;
 use crate::profile::{
-    CLOSING, CLOSING_OF_HARTS, SHADOW_SIZE_OF_HARTS, UNITS_START, UNITS_START_OF_HARTS,
+    CLOSING, CLOSING_OF_HARTS, LEAN_UNITS_START, LEAN_UNITS_START_OF_HARTS, SHADOW_SIZE_OF_HARTS,
+    UNITS_START, UNITS_START_OF_HARTS,
 };
 
 /// The version of an image, by how many harts may run it.
@@ -27,6 +28,15 @@ pub enum GraphVersion {
     TwoLabels,
     /// Version 3: labels as in version 2; a function saves the site of its own call, and a register holds the mask of stores.
     CalleeSaves,
+}
+
+/// The versions of a pair: where its prologue's parts stand goes by both.
+#[derive(Clone, Copy, Debug, PartialEq, Eq)]
+pub struct Versions {
+    /// The image's.
+    pub image: ImageVersion,
+    /// The graph's.
+    pub graph: GraphVersion,
 }
 
 impl ImageVersion {
@@ -75,15 +85,17 @@ impl ImageVersion {
     }
 }
 
-impl GraphVersion {
-    /// Its number, 1 to 3.
-    pub fn number(self) -> u8
-        ensures { result ≡ graph_number self }
+impl Versions {
+    /// The address of the first unit.
+    pub fn units_from(self) -> u64
+        ensures value { result ≡ (profile_with self).units_from }
+        ensures low { CODE_START + 44 ≤ result }
+        ensures high { result ≤ CODE_START + 80 }
     {
-        match self {
-            GraphVersion::OneLabel => 1,
-            GraphVersion::TwoLabels => 2,
-            GraphVersion::CalleeSaves => 3,
+        match (self.graph, self.image) {
+            (GraphVersion::CalleeSaves, ImageVersion::OneHart) => LEAN_UNITS_START,
+            (GraphVersion::CalleeSaves, ImageVersion::EightHarts) => LEAN_UNITS_START_OF_HARTS,
+            (GraphVersion::OneLabel | GraphVersion::TwoLabels, image) => image.units_from(),
         }
     }
 }

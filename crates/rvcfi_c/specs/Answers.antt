@@ -1,10 +1,10 @@
 -- What the library answers of two texts.
 use Rattle.std.specs.Prelude.{◌≡◌, ◌⊎◌, ℕ, List, Some, Result, Ok, Err}
-use Rattle.rv_word.specs.Image.{Contents, image_profile}
+use Rattle.rv_word.specs.Image.{Contents}
 use Rattle.elf_image.specs.Fault.{fault_of}
 use Rattle.elf_image.specs.declared.refusal.ImageRefusal.{ImageRefusal}
 use Rattle.cfi_graph.specs.Graph.{GraphParts}
-use Rattle.cfi_rules.specs.Rules.{IsWellFormed}
+use Rattle.cfi_rules.specs.Rules.{IsWellFormed, pair_profile}
 use Rattle.cfi_pair.specs.Judgement.{HasJudgement}
 use Rattle.cfi_pair.specs.Numbers.{verdict_of}
 use Rattle.cfi_pair.specs.Opening.{IsPairEnd}
@@ -31,4 +31,4 @@ IsNoImage bytes = (refusal : ImageRefusal) × (fault_of bytes ≡ Some refusal)
 abbrev pub IsComplete : List ℕ → List ℕ → ℕ → Type 0
 IsComplete image graph outcome =
     (contents : Contents) (parts : GraphParts) → Spell image graph contents parts
-    → IsWellFormed (image_profile contents) contents parts → (outcome ≡ 0) ⊎ (outcome ≡ 4)
+    → IsWellFormed (pair_profile contents parts) contents parts → (outcome ≡ 0) ⊎ (outcome ≡ 4)

@@ -4,7 +4,7 @@ use Rattle.rv_word.specs.declared.version.ImageVersion.{ImageVersion}
 use Rattle.rv_word.specs.Image.{Contents, image_profile}
 use Rattle.rv_word.specs.MemoryMap.{MayRun}
 use Rattle.cfi_graph.specs.Graph.{GraphParts}
-use Rattle.cfi_rules.specs.Rules.{IsWellFormed}
+use Rattle.cfi_rules.specs.Rules.{IsWellFormed, pair_profile}
 use Rattle.cfi_script.specs.Script.{ScriptParts}
 use Rattle.cfi_step.specs.declared.report.Handler.TheVariants.{BadTarget, BadReturn, Deep}
 use Rattle.cfi_step.specs.declared.report.RunEnd.{RunEnd}
@@ -99,4 +99,4 @@ IsRan image graph script input limit before after run =
 abbrev pub IsComplete : List ℕ → List ℕ → Option (List ℕ) → ℕ → Type 0
 IsComplete image_bytes graph_bytes script outcome =
     (image : Contents) (graph : GraphParts) (read : ScriptParts) → Spell image_bytes graph_bytes image graph → script_given script ≡ Ok read
-    → MayRun (image_profile image) read.harts → IsWellFormed (image_profile image) image graph → (outcome ≡ 0) ⊎ (outcome ≡ 4)
+    → MayRun (image_profile image) read.harts → IsWellFormed (pair_profile image graph) image graph → (outcome ≡ 0) ⊎ (outcome ≡ 4)

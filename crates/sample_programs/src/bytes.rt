@@ -6,7 +6,7 @@ use crate::units::{PROLOGUE, PROLOGUE_OF_HARTS};
 use std::alloc::{AllocError, Global};
 
 /// Adds the bytes of some words.
-fn add_words(bytes: &mut Vec<u8>, words: &[u32]) -> Result<(), AllocError>
+pub fn add_words(bytes: &mut Vec<u8>, words: &[u32]) -> Result<(), AllocError>
     ensures value { OnOk result (bytes.new.items ≡ bytes.old.items ++ flat_map (to_le_bytes w32) words.now) }
     ensures len { OnOk result (length bytes.new.items ≡ length bytes.old.items + 4 * length words.now) }
 {

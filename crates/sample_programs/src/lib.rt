@@ -3,7 +3,7 @@
 //! of tests use them.
 #![tactic(auto)]
 
-pub use bytes::{code, code_of_harts};
+pub use bytes::{add_words, code, code_of_harts};
 pub use data::{
     APART_DATA, APART_OF_HARTS_DATA, GROUPS_DATA, JOBS_DATA, JOINED_DATA, JUMP_DATA, P_DATA,
     Q_DATA, Q_OF_HARTS_DATA,

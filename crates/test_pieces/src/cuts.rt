@@ -4,7 +4,7 @@ ghost use Rattle.std.specs.Prelude.{◌≡◌, ◌<◌, ◌≤◌, ◌^◌};
 use crate::near::{FIRST, NEAR, SKIPS};
 use cfi_scan::{Entry, Feeder, Listing, Steps};
 use cfi_unit::{Mask, SystemOp, TargetWord, Unit, recognise};
-use rv_word::{ImageVersion, Numbers};
+use rv_word::{GraphVersion, ImageVersion, Numbers, Versions};
 use sample_programs::{
     A, A_OF_HARTS, AIMED, B, BREAK, DEEP, ECHO, EDGE, H, JOBS, JUMP, LOAD, LOOP, NOWHERE, OTHER, P,
     PROLOGUE, PROLOGUE_OF_HARTS, SECOND, SHARED, STATUS, code, code_of_harts,
@@ -64,7 +64,11 @@ fn fed<L: Ledger>(
         Some(list(calls)?)
     };
     let mut steps = Steps::<L>::new(blank);
-    let mut feeder = Feeder::new(alloc, version, numbers, room).ok()?;
+    let versions = Versions {
+        image: version,
+        graph: GraphVersion::OneLabel,
+    };
+    let mut feeder = Feeder::new(alloc, versions, numbers, room).ok()?;
     for piece in bytes.chunks(size) {
         if feeder.fed() > 1_000_000 || piece.len() > 1_000_000 {
             return None;
@@ -116,7 +120,7 @@ fn jump_kind(which: TargetWord) -> u8 {
     match which {
         TargetWord::First => 6,
         TargetWord::Second => 10,
-        TargetWord::Third => 20,
+        TargetWord::Third => 13,
     }
 }
 
@@ -143,11 +147,24 @@ fn told(entry: Entry, at: u64) -> (u8, u64)
         Entry::LeanIjump(label) => (17, label.bits() as u64),
         Entry::LeanIcall(label) => (18, label.bits() as u64),
         Entry::LeafReturn => (19, 0),
+        Entry::WritesLink => (20, 0),
+        Entry::Return => (21, 0),
+        Entry::Break => (22, 0),
+        Entry::Stores => (23, 0),
     }
 }
 
-/// A unit by the number of its entry's kind, and its label or target.
-fn of_unit(unit: &Unit, calls: &[u16]) -> (u8, u64) {
+/// The number of a plain unit's kind, by whether its instruction writes x1: bits 7 to 11 of its word, where it writes a register at all.
+fn plain_kind(word: u32) -> u8 {
+    if word / 128 % 32 == 1 && word % 128 != 0x0f {
+        20
+    } else {
+        9
+    }
+}
+
+/// A unit, whose first word is given, by the number of its entry's kind, and its label or target.
+fn of_unit(unit: &Unit, word: u32, calls: &[u16]) -> (u8, u64) {
     match unit {
         Unit::Gate(label) => (8, label.bits() as u64),
         Unit::Branch(_, _, _, target) => (2, *target),
@@ -157,11 +174,12 @@ fn of_unit(unit: &Unit, calls: &[u16]) -> (u8, u64) {
         Unit::Call(target) => (5, *target),
         Unit::Ijump(which, _, _, label) => (jump_kind(*which), label.bits() as u64),
         Unit::Icall(_, _, label) => (7, label.bits() as u64),
-        Unit::Plain(_) => (9, 0),
+        Unit::Plain(_) => (plain_kind(word), 0),
         Unit::System(SystemOp::Ecall) => (11, 0),
-        Unit::System(SystemOp::Ebreak) => (9, 0),
+        Unit::System(SystemOp::Ebreak) => (22, 0),
         Unit::Guarded(numbers) => (12, u64::from(numbers.as_slice() == calls)),
-        Unit::Stores(Mask::Shifts, ..) | Unit::Return => (9, 0),
+        Unit::Stores(Mask::Shifts, ..) => (23, 0),
+        Unit::Return => (21, 0),
         Unit::Stores(..) => (14, 0),
         Unit::LinkCall(target) => (15, *target),
         Unit::Enter => (16, 0),
@@ -177,7 +195,7 @@ fn count_at(listing: &Listing, calls: &[u16], words: &[u32], k: usize) -> Option
     if k >= words.len() || k > 10_000 {
         return None;
     }
-    let at = first(listing.version()) + 4 * k as u64;
+    let at = first(listing.versions().image) + 4 * k as u64;
     let entry = listing.entry(k)?;
     let Some((unit, count)) = recognise(&words[k..], at) else {
         return if entry == Entry::Inside {
@@ -186,7 +204,7 @@ fn count_at(listing: &Listing, calls: &[u16], words: &[u32], k: usize) -> Option
             None
         };
     };
-    if told(entry, at) == of_unit(&unit, calls) {
+    if told(entry, at) == of_unit(&unit, words[k], calls) {
         Some(count as usize)
     } else {
         None
@@ -223,7 +241,7 @@ fn code_in(alloc: Global, version: ImageVersion, words: &[u32]) -> Option<Vec<u8
 
 /// Whether a listing has the prologue of its version.
 fn has_prologue(listing: &Listing) -> bool {
-    match listing.version() {
+    match listing.versions().image {
         ImageVersion::OneHart => listing.prologue() == PROLOGUE.as_slice(),
         ImageVersion::EightHarts => listing.prologue() == PROLOGUE_OF_HARTS.as_slice(),
     }
@@ -248,7 +266,7 @@ fn is_right_under(
     let Some(listing) = listed(alloc, version, calls, &bytes, bytes.len() / 4, size) else {
         return false;
     };
-    listing.version() == version
+    listing.versions().image == version
         && has_prologue(&listing)
         && listing.fed() as usize == bytes.len()
         && is_listed(&listing, calls, words)

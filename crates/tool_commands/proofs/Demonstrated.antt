@@ -12,7 +12,8 @@ use Rattle.cfi_map.specs.LegalMap.{IsLegalMap, gates_of}
 use Rattle.cfi_map.specs.Placing.{IsPlacementOf, Spaced}
 use Rattle.cfi_map.specs.Source.{first_astray}
 use Rattle.obj_program.specs.Program.{Program}
-use Rattle.cfi_rules.specs.Rules.{IsWellFormed}
+use Rattle.cfi_graph.specs.Graph.{GraphParts}
+use Rattle.cfi_rules.specs.Rules.{IsWellFormed, pair_profile}
 use Rattle.cfi_writer.specs.Hardened.{HardenedParts}
 use Rattle.cfi_harden.specs.Hardened.{IsWrittenOf}
 use Rattle.cfi_harden.specs.Prepared.{IsPrepared, IsPreparedOf, PreparedParts}
@@ -29,6 +30,7 @@ use Rattle.cfi_compare.specs.declared.answer.Compared.{Compared}
 use Rattle.tool_commands.specs.Compare.{at_map}
 use Rattle.tool_commands.specs.Demo.{IsComparedAt, STEP_LIMIT}
 use Rattle.tool_commands.specs.Demonstration.{CanRunAt, IsAnswerAt, IsDifference, IsDrawn, IsImageIn, IsSourceOn, NoneDiffers}
+use Rattle.tool_commands.proofs.FormProfile.{pair_formed}
 
 module _ (request : ProgramRequest) (p : PreparedParts) (prepared : IsPreparedOf request p) (h : HardenedParts) (hardened : IsWrittenOf p h) where
   -- what was placed is the program at the gates of its map
@@ -56,12 +58,13 @@ module _ (request : ProgramRequest) (p : PreparedParts) (prepared : IsPreparedOf
         in_range = subst (λ (l : ProgramAtMap). first_astray l ≡ None) (at_gates s placed written.map_form written.gates) in_range;
       }
 
-  pub is_well_formed : (image : Contents) → IsImageIn h.image image → IsWellFormed (image_profile image) image h.graph
+  pub is_well_formed : (image : Contents) → IsImageIn h.image image → IsWellFormed (pair_profile image h.graph) image h.graph
   is_well_formed image is =
       let (s, labels, code, init, placed, room, in_range, written) = hardened in
       let own : Contents = record { version = image_version p.form; code = code; init = init } in
       let same : image ≡ own = own_image image is code init written.bytes.size written.image in
-      subst (λ (x : Contents). IsWellFormed (image_profile x) x h.graph) (sym same) written.well_formed
+      subst (λ (x : Contents). IsWellFormed (pair_profile x h.graph) x h.graph) (sym same)
+      (pair_formed p.form own h.graph refl (ap (λ (g : GraphParts). g.version) written.graph) written.well_formed)
 
 -- the image of a prepared program is what the file contains, so no run differs from its
 pub none_differs : (p : PreparedParts) (h : HardenedParts) → NeverDiffersOf p h → (image : Contents) → IsImageIn h.image image → NoneDiffers p h.map image

@@ -1,3 +1,4 @@
+mod FormProfile
 mod Giving
 pub mod Writing
 pub mod Complete

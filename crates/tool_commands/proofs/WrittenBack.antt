@@ -1,10 +1,7 @@
 -- What `rewrite` and `harden` write is read back.
-use Rattle.std.proofs.Common.{◌≡◌, ◌∙◌, true, refl, ap, subst}
-use Rattle.rv_word.specs.Form.{graph_version, image_version}
-use Rattle.rv_word.specs.declared.form.Form.{Form}
-use Rattle.rv_word.specs.declared.form.Form.TheVariants.{Plain, Harts, Split, HartsSplit}
+use Rattle.std.proofs.Common.{◌∙◌, ap, refl, subst}
+use Rattle.rv_word.specs.Form.{image_version}
 use Rattle.cfi_graph.specs.Graph.{GraphParts}
-use Rattle.cfi_pair.specs.Spelled.{is_judged}
 use Rattle.cfi_map_text.specs.MapText.{map_of}
 use Rattle.cfi_map_text.proofs.MapLaws.{map_of-map_text}
 use Rattle.cfi_map.specs.GraphAtMap.{ProgramAtMap}
@@ -12,13 +9,7 @@ use Rattle.cfi_map.specs.LegalMap.{IsLegalMap}
 use Rattle.tool_common.specs.Writes.{OutputParts}
 use Rattle.tool_commands.specs.Compare.{form_told}
 use Rattle.tool_commands.specs.Laws.{WrittenIsRead}
-
--- graphs of each form are judged
-judged_form : (form : Form) → is_judged (graph_version form) ≡ true
-judged_form Plain = refl
-judged_form Harts = refl
-judged_form Split = refl
-judged_form HartsSplit = refl
+use Rattle.tool_commands.proofs.FormProfile.{pair_formed}
 
 pub written_is_read : WrittenIsRead
 written_is_read words request hardened written made is =
@@ -33,9 +24,10 @@ written_is_read words request hardened written made is =
         size = w.bytes.size;
         graph_is = ap (λ (o : OutputParts). o.bytes) is.graph;
         parts = is.graph_right;
-        judged = ap (λ (g : GraphParts). is_judged g.version) w.graph ∙ judged_form p.form;
       };
-      well_formed = w.well_formed;
+      well_formed =
+          pair_formed p.form (record { version = image_version p.form; code = code; init = init }) hardened.graph refl
+          (ap (λ (g : GraphParts). g.version) w.graph) w.well_formed;
       version = ap image_version prepared.form;
       prepared = (object, prepared);
       form = ap form_told read ∙ w.map_form ∙ prepared.form;

@@ -2,8 +2,8 @@
 -- `compare` reads its map, which is legal.
 use Rattle.std.specs.Prelude.{◌≡◌}
 use Rattle.rv_word.specs.Form.{image_version}
-use Rattle.rv_word.specs.Image.{Contents, image_profile}
-use Rattle.cfi_rules.specs.Rules.{IsWellFormed}
+use Rattle.rv_word.specs.Image.{Contents}
+use Rattle.cfi_rules.specs.Rules.{IsWellFormed, pair_profile}
 use Rattle.cfi_writer.specs.Hardened.{HardenedParts}
 use Rattle.cfi_harden.specs.Prepared.{IsPrepared, PreparedParts}
 use Rattle.cfi_harden.specs.Request as asks
@@ -18,7 +18,7 @@ pub record IsReadBack (request : asks.Request) (written : Rewritten) : Type 0 wh
   pub image : Contents
   pub program : PreparedParts
   pub spelled : Spell written.image.bytes written.graph.bytes image hardened.graph
-  pub well_formed : IsWellFormed (image_profile image) image hardened.graph
+  pub well_formed : IsWellFormed (pair_profile image hardened.graph) image hardened.graph
   pub version : image.version ≡ image_version request.form
   pub prepared : IsPrepared request program
   pub form : map_form written.map.bytes ≡ request.form

@@ -1,9 +1,8 @@
 //! What `demo` does, in steps: an object is made, hardened, verified, run and compared.
 
 ghost use Rattle.std.specs.Prelude.{◌≡◌, ℕ, List, [], IfOk, Ok, Some, codes};
-ghost use Rattle.rv_word.specs.Image.{image_profile};
 ghost use Rattle.rv_word.specs.declared.version.ImageVersion.TheVariants.{OneHart};
-ghost use Rattle.cfi_rules.specs.Rules.{IsWellFormed};
+ghost use Rattle.cfi_rules.specs.Rules.{IsWellFormed, pair_profile};
 ghost use Rattle.cfi_flow.specs.Entry.{entry_place};
 ghost use Rattle.cfi_harden.specs.Given.{alone};
 ghost use Rattle.cfi_harden.specs.Hardened.{IsWrittenOf};
@@ -101,7 +100,7 @@ pub(crate) fn run_accepted(
     image: &Image<'_>,
     graph: &Graph,
 ) -> Result<RunReport, NoMemory>
-    requires { IsWellFormed (image_profile image.now) image.now graph.now }
+    requires { IsWellFormed (pair_profile image.now graph.now) image.now graph.now }
     ensures { IfOk result (IsSafeRun image.now graph.now undisturbed_script [] STEP_LIMIT) }
 {
     match verify(alloc, image, graph) {

@@ -1,4 +1,4 @@
-//! The verifier of hardened RV64IM images: whether an image and its graph meet the ten rules, what a loader maps of the image, and
+//! The verifier of hardened RV64IM images: whether an image and its graph meet the rules, what a loader maps of the image, and
 //! which system calls it may make.
 //!
 //! [`verify`] is compiled from code whose contracts are proved (`crates/rvcfi_c`); this crate calls it and is not proved. An

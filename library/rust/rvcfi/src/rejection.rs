@@ -68,7 +68,7 @@ pub enum Rule {
     Prologue,
     /// No unit fits.
     Unit,
-    /// A transfer leads to no unit's start.
+    /// A transfer leads to no unit's start, or to one of another kind.
     Target,
     /// A transfer has no line in the graph.
     Unlisted,
@@ -82,10 +82,12 @@ pub enum Rule {
     Astray,
     /// The last unit is no stop.
     End,
+    /// A leaf does not begin or end at a unit's start, or a unit goes on to one of another kind.
+    Leaf,
 }
 
 /// The rules in the order of their numbers, from 2.
-const RULES: [Rule; 9] = [
+const RULES: [Rule; 10] = [
     Rule::Prologue,
     Rule::Unit,
     Rule::Target,
@@ -95,6 +97,7 @@ const RULES: [Rule; 9] = [
     Rule::Gate,
     Rule::Astray,
     Rule::End,
+    Rule::Leaf,
 ];
 
 impl Rejection {

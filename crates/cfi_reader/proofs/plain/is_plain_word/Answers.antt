@@ -1,6 +1,6 @@
 use Rattle.std.proofs.Common.{◌≡◌, ℕ, ◌+◌, ◌*◌, ◌/◌, ◌%◌, ◌^◌, ◌∙◌, sym, ap, arith, get_or, bit_and}
 use Rattle.std.proofs.lemmas.Nat.{and_mask}
-use Rattle.cfi_reader.specs.PlainWord.{is_named}
+use Rattle.cfi_reader.specs.PlainWord.{is_ordinary}
 use Rattle.cfi_reader.specs.declared.plain.TheConstants as table
 use Rattle.cfi_reader.proofs.PlainWord.{plain_word}
 use Rattle.cfi_reader.proofs.plain.is_plain_word.Goals as goal
@@ -17,4 +17,4 @@ returns-then-unset-asked-eq0 c named =
     plain_word w c.unset.result (omega (arith, c.ranges.word.fits)) (omega (arith, low)) (omega (arith, high))
     (c.unset.ensures ∙ ap (λ (n : ℕ). get_or table.UNSET (8 * n + bit_and (w / 2 ^ 12) 7) 0) row ∙ ap (λ (n : ℕ). get_or table.UNSET (8 * (w / 2 ^ 2 % 2 ^ 4) + n) 0) column)
     c.if-unset-asked-eq0.true
-    (ap (λ (n : ℕ). is_named n) (sym register) ∙ sym c.is_named.ensures ∙ named)
+    (ap (λ (n : ℕ). is_ordinary n) (sym register) ∙ sym c.is_ordinary.ensures ∙ named)

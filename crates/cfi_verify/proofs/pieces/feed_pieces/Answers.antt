@@ -8,6 +8,6 @@ loop-piece-preserved g c =
     let cost = c.feed.ensures.cost in (
       fed_more _ _ c.as_slice.result.now _ _ _ _ c.loop-piece.invariant.0
           (rw (c.as_slice.ensures, c.piece-item.is) (next_piece c.args.pieces.now c.loop-piece.piece-index _ c.loop-piece-test.true))
-          (record { seen = c.feed.ensures.seen; version = c.feed.ensures.version; fed = c.feed.ensures.fed; graph = c.feed.ensures.graph }),
+          (record { seen = c.feed.ensures.seen; versions = c.feed.ensures.versions; fed = c.feed.ensures.fed; graph = c.feed.ensures.graph }),
       omega arith,
     )

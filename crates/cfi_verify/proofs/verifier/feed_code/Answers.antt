@@ -15,7 +15,7 @@ pub loop-rest-preserved : goal.loop-rest-preserved
 loop-rest-preserved g c =
     fed_more _ c.loop-rest.rest.now c.split_at.result.0.now _ _ _ _ c.loop-rest.invariant
     (rw (c.split_at.ensures.front, c.split_at.ensures.back) (take-append-drop 4096 c.loop-rest.rest.now))
-    (record { seen = c.feed.ensures.seen; version = c.feed.ensures.version; fed = c.feed.ensures.fed; graph = c.feed.ensures.graph })
+    (record { seen = c.feed.ensures.seen; versions = c.feed.ensures.versions; fed = c.feed.ensures.fed; graph = c.feed.ensures.graph })
 
 pub feed-requires-2 : goal.feed-requires-2
 feed-requires-2 g c =
@@ -27,5 +27,5 @@ returns g c =
     let all =
     fed_all c.args.code.now c.args.scan.now c.feed-2.new.self
     (fed_more c.args.code.now rest rest [] c.args.scan.now c.loop-rest.scan c.feed-2.new.self c.loop-rest.invariant (append-nil rest)
-    (record { seen = c.feed-2.ensures.seen; version = c.feed-2.ensures.version; fed = c.feed-2.ensures.fed; graph = c.feed-2.ensures.graph })) in
-    record { seen = all.seen; version = all.version; graph = all.graph }
+    (record { seen = c.feed-2.ensures.seen; versions = c.feed-2.ensures.versions; fed = c.feed-2.ensures.fed; graph = c.feed-2.ensures.graph })) in
+    record { seen = all.seen; versions = all.versions; graph = all.graph }

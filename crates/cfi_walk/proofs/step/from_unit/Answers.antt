@@ -20,3 +20,15 @@ returns-in-Icall c = rw c.in-Icall.is (rw c.bits-in-Icall.ensures.value at c.com
 
 pub returns-in-LeanIjump : goal.returns-in-LeanIjump
 returns-in-LeanIjump c = rw c.in-LeanIjump.is (rw c.bits-in-LeanIjump.ensures.value at c.computed_jump-in-LeanIjump.ensures)
+
+pub returns-in-LinkCall : goal.returns-in-LinkCall
+returns-in-LinkCall c = rw c.in-LinkCall.is c.link.ensures
+
+pub returns-in-Enter : goal.returns-in-Enter
+returns-in-Enter c = rw c.in-Enter.is c.saved.ensures
+
+pub returns-in-LeanIcall : goal.returns-in-LeanIcall
+returns-in-LeanIcall c = rw c.in-LeanIcall.is (rw c.bits-in-LeanIcall.ensures.value at c.computed_link.ensures)
+
+pub returns-in-LeafReturn : goal.returns-in-LeafReturn
+returns-in-LeafReturn c = rw c.in-LeafReturn.is c.returned_from_leaf.ensures

@@ -1,7 +1,7 @@
 use Rattle.std.proofs.Common.{◌∙◌, List, [], ℕ, ap, rules, subst, sym}
 use Rattle.rv_word.specs.Form.{image_version}
-use Rattle.rv_word.specs.Image.{Contents, image_profile}
-use Rattle.cfi_rules.specs.Rules.{IsWellFormed}
+use Rattle.rv_word.specs.Image.{Contents}
+use Rattle.cfi_rules.specs.Rules.{IsWellFormed, pair_profile}
 use Rattle.cfi_writer.specs.Hardened.{HardenedParts}
 use Rattle.cfi_harden.specs.Request.{program_request}
 use Rattle.gen_hardened.specs.Laws.{entered}
@@ -18,7 +18,7 @@ run_accepted-requires c =
     let h = c.args.hardened.now in
     let image : Contents = c.image_in-image.result in
     let is : IsImageIn h.image image = search rules in
-    subst (λ (x : HardenedParts). IsWellFormed (image_profile image) image x.graph) (sym c.hardened.view_is)
+    subst (λ (x : HardenedParts). IsWellFormed (pair_profile image x.graph) image x.graph) (sym c.hardened.view_is)
     (is_well_formed request c.args.prepared.now c.requires.ready.prepared.1 h c.requires.written image is)
 
 pub after_run-requires : goal.after_run-requires

@@ -1,12 +1,12 @@
 use Rattle.std.proofs.Common.{◌≡◌, ◌+◌, ◌/◌, ℕ, List, ◌++◌, length, take}
-use Rattle.rv_word.specs.MemoryMap.{profile_of}
+use Rattle.rv_word.specs.MemoryMap.{profile_with}
 use Rattle.cfi_scan.specs.Pieces.{HasSeen, Sight}
 use Rattle.cfi_scan.proofs.feeder.Feeder.bytes.Given as goal
 
 -- these bytes are taken
 pub record HasTaken (before now : Sight) (bytes : List ℕ) (ticked ticks : ℕ) : Type 0 where
-  pub seen : (earlier : List ℕ) → HasSeen (profile_of before.version) before earlier → HasSeen (profile_of before.version) now (earlier ++ bytes)
-  pub version : now.version ≡ before.version
+  pub seen : (earlier : List ℕ) → HasSeen (profile_with before.versions) before earlier → HasSeen (profile_with before.versions) now (earlier ++ bytes)
+  pub versions : now.versions ≡ before.versions
   pub calls : now.calls ≡ before.calls
   pub fed : now.fed ≡ before.fed + length bytes
   pub room : length now.entries ≡ length before.entries

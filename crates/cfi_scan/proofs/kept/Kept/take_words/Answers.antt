@@ -1,6 +1,6 @@
 use Rattle.std.proofs.Common.{◌≡◌, ◌-◌, ℕ, List, [], ◌∷◌, ◌++◌, ◌∙◌, subst, sym, ap, length, drop, arith}
 use Rattle.std.proofs.lemmas.List.{append-nil, append_assoc, length-drop, length_push, take_all}
-use Rattle.rv_word.specs.MemoryMap.{profile_of}
+use Rattle.rv_word.specs.MemoryMap.{profile_with}
 use Rattle.cfi_scan.proofs.Pieces.{KeepsUnder, first_cut, moved, none_cut}
 use Rattle.cfi_scan.proofs.kept.Kept.take_words.Goals as goal
 
@@ -40,5 +40,5 @@ returns-clause-keeps g c words more count cut earlier =
     let before = c.loop-rest.invariant in
     let (done, (left, (joined, (index, (tail, kept))))) = before.keeps words more count cut earlier in
     let none : left ≡ [] = none_cut c.loop-rest.rest.now left c.in_default.len_below tail in
-    subst (λ (ws : List ℕ). KeepsUnder (profile_of c.args.self.now.units.front) c.args.self.now.units.calls c.loop-rest.self ws)
+    subst (λ (ws : List ℕ). KeepsUnder (profile_with c.args.self.now.units.front) c.args.self.now.units.calls c.loop-rest.self ws)
     (sym (joined ∙ ap (λ (ws : List ℕ). done ++ ws) none ∙ append-nil done)) (moved (sym before.front) (sym before.calls) c.loop-rest.self done kept)

@@ -1,5 +1,5 @@
 use Rattle.std.proofs.Common.{◌≡◌, ◌+◌, ◌/◌, ◌<◌, ◌^◌, ℕ, List, [], ◌++◌, length}
-use Rattle.rv_word.specs.MemoryMap.{profile_of}
+use Rattle.rv_word.specs.MemoryMap.{profile_with}
 use Rattle.cfi_scan.specs.Pieces.{IsCut}
 use Rattle.cfi_scan.specs.declared.kept.Kept.{Kept}
 use Rattle.cfi_scan.proofs.Pieces.{KeepsWords}
@@ -7,8 +7,8 @@ use Rattle.cfi_scan.proofs.kept.Kept.take_words.Given as goal
 
 -- some of the words are read
 pub record HasTaken (before now : Kept) (first index : ℕ) (piece rest : List ℕ) (ticked ticks : ℕ) : Type 0 where
-  pub keeps : (words more : List ℕ) → length words ≡ first → IsCut piece more [] → KeepsWords (profile_of before.units.front) before words →
-      (done : List ℕ) × ((left : List ℕ) × ((words ++ more ≡ done ++ left) × ((length done ≡ index) × (IsCut rest left [] × KeepsWords (profile_of now.units.front) now done))))
+  pub keeps : (words more : List ℕ) → length words ≡ first → IsCut piece more [] → KeepsWords (profile_with before.units.front) before words →
+      (done : List ℕ) × ((left : List ℕ) × ((words ++ more ≡ done ++ left) × ((length done ≡ index) × (IsCut rest left [] × KeepsWords (profile_with now.units.front) now done))))
   pub front : now.units.front ≡ before.units.front
   pub calls : now.units.calls ≡ before.units.calls
   pub room : length now.units.entries.items ≡ length before.units.entries.items

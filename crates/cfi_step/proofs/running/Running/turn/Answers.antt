@@ -1,6 +1,6 @@
 use Rattle.std.proofs.Common.{◌≡◌, ◌++◌, ◌∷◌, [], ℕ, arith, sym, ◌∙◌, ap, subst}
 use Rattle.std.specs.Prelude.{IfOk, length}
-use Rattle.rv_word.specs.Image.{image_profile}
+use Rattle.cfi_rules.specs.Rules.{pair_profile}
 use Rattle.rv_word.specs.MemoryMap.{profile_of}
 use Rattle.rv_code.specs.Run.{RunAfter}
 use Rattle.rv_machine.specs.Harts.{MachineParts, harts_in, harts_share, run_after}
@@ -52,7 +52,7 @@ returns-clause-taken g c =
 pub returns-clause-noted : goal.returns-clause-noted
 returns-clause-noted g c =
     on_ok c.step_selected.result
-    (noted_so (image_profile c.args.checked.now.image) (code_words c.args.checked.now.image.code) c.prepare.new.self.taken.hart (hart_in_plan (g.M.Meddler.plan c.args.meddler.now) c.args.step c.args.self.now.machine)
+    (noted_so (pair_profile c.args.checked.now.image c.args.checked.now.graph) (code_words c.args.checked.now.image.code) c.prepare.new.self.taken.hart (hart_in_plan (g.M.Meddler.plan c.args.meddler.now) c.args.step c.args.self.now.machine)
     (harts_in c.prepare.new.self.machine) (harts_in c.args.self.now.machine) (trails_of c.prepare.new.self) (trails_of c.args.self.now) (trails_of c.note.new.self)
     c.in_ok-prepare.ensures.prepared.hart c.in_ok-prepare.ensures.prepared.harts c.in_ok-prepare.ensures.prepared.trails c.note.ensures.trails)
 

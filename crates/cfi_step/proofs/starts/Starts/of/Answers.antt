@@ -1,7 +1,7 @@
 use Rattle.std.proofs.Common.{◌+◌, ◌*◌, ◌∷◌, [], ap, ◌∙◌, length}
 use Rattle.std.specs.Prelude.{is_some}
 use Rattle.std.proofs.lemmas.List.{length-append}
-use Rattle.rv_word.specs.Image.{image_profile}
+use Rattle.cfi_rules.specs.Rules.{pair_profile}
 use Rattle.rv_word.specs.MemoryMap.{CODE_START}
 use Rattle.cfi_rules.specs.Split.{code_words, place_at}
 use Rattle.cfi_step.proofs.Started.{one_more}
@@ -14,6 +14,6 @@ loop-k-preserved c =
     let old = c.loop-k.invariant in
     record {
       count = ap length grown ∙ length-append c.loop-k.words.items (c.is_place.result ∷ []) ∙ ap (λ n. n + 1) old.count;
-      starts = one_more (λ j. is_some (place_at (image_profile image) (code_words image.code) (CODE_START + 4 * j))) c.loop-k.words.items _ c.loop-k.k c.is_place.result grown old.count
+      starts = one_more (λ j. is_some (place_at (pair_profile image c.args.checked.now.graph) (code_words image.code) (CODE_START + 4 * j))) c.loop-k.words.items _ c.loop-k.k c.is_place.result grown old.count
           c.is_place.ensures old.starts;
     }

@@ -1,9 +1,9 @@
 use Rattle.std.proofs.Common.{◌≤◌, ◌<◌, ◌∙◌, ◌+◌, ◌-◌, ◌*◌, ◌/◌, ℕ, arith, subst, sym}
 use Rattle.rv_word.specs.MemoryMap.{Profile}
-use Rattle.rv_word.proofs.Versions.{is_profile, laid_out}
 use Rattle.cfi_graph.specs.Graph.{IsGraph}
 use Rattle.cfi_verify.specs.Pass.{HasPassed, HoldsAt, NoneStands}
 use Rattle.cfi_verify.specs.Scan.{profile_in}
+use Rattle.cfi_verify.proofs.Laid.{laid_with}
 use Rattle.cfi_verify.proofs.OnePass.{line_there, none_between, standing, word_passed}
 use Rattle.cfi_verify.proofs.starts.Starts.after_line.Goals as goal
 
@@ -17,7 +17,7 @@ pub unlisted_hold-requires-clause-unlisted : goal.unlisted_hold-requires-clause-
 unlisted_hold-requires-clause-unlisted c =
     let graph : IsGraph c.args.self.now.graph = subst IsGraph c.graph.ensures.value c.graph.ensures.graph_is in
     subst (λ (start : ℕ). NoneStands (profile_in c.args.self.now) c.args.self.now.graph.lines c.args.next ((c.in-Address.address - start) / 4)) (sym c.units_from-start.ensures.at)
-    (none_between _ (laid_out _ (is_profile c.args.self.now.listing.version)) c.args.self.now.listing c.args.self.now.graph graph.order c.args.k c.args.next c.in-Address.address _ (line_there c.args.k c.graph.ensures.value c.line-line.ensures) (sym c.key.ensures ∙ c.in-Address.is) c.requires.passed)
+    (none_between _ (laid_with c.args.self.now.listing.versions) c.args.self.now.listing c.args.self.now.graph graph.order c.args.k c.args.next c.in-Address.address _ (line_there c.args.k c.graph.ensures.value c.line-line.ensures) (sym c.key.ensures ∙ c.in-Address.is) c.requires.passed)
 
 pub listed_holds-requires-clause-small : goal.listed_holds-requires-clause-small
 listed_holds-requires-clause-small c =
@@ -39,5 +39,5 @@ returns-then-listed_holds c =
     let between = subst (λ (n : ℕ). (k : ℕ) → c.args.next ≤ k → k < (c.in-Address.address - n) / 4 → HoldsAt p c.args.self.now.listing c.args.self.now.graph (p.units_from + 4 * k)) start
     (c.unlisted_hold.ensures c.if-unlisted_hold.true) in
     subst (λ (n : ℕ). HasPassed p c.args.self.now.listing c.args.self.now.graph (c.args.k + 1) ((c.in-Address.address - n) / 4 + 1)) (sym start)
-    (word_passed p (laid_out p (is_profile c.args.self.now.listing.version)) c.args.self.now.listing c.args.self.now.graph graph.order c.args.k c.args.next c.in-Address.address _ at key low stands.even
+    (word_passed p (laid_with c.args.self.now.listing.versions) c.args.self.now.listing c.args.self.now.graph graph.order c.args.k c.args.next c.in-Address.address _ at key low stands.even
     between (c.listed_holds.ensures c.if-listed_holds.true) c.requires.passed)

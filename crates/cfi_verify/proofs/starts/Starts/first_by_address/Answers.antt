@@ -1,9 +1,9 @@
 use Rattle.std.proofs.Common.{◌≡◌, ◌∙◌, ◌+◌, ◌*◌, ◌≤◌, max, ap, refl, sym, length, arith}
 use Rattle.rv_word.specs.MemoryMap.{Profile}
-use Rattle.rv_word.proofs.Versions.{is_profile, laid_out}
 use Rattle.least.proofs.Firsts.{found_parts, first_none}
 use Rattle.cfi_scan.specs.Pieces.{prologue_count}
 use Rattle.cfi_verify.specs.Scan.{profile_in}
+use Rattle.cfi_verify.proofs.Laid.{laid_with}
 use Rattle.cfi_verify.proofs.Spots.{none_before, none_anywhere}
 use Rattle.cfi_verify.proofs.Told.{fails_told}
 use Rattle.cfi_verify.proofs.starts.Starts.first_by_address.Goals as goal
@@ -12,7 +12,7 @@ pub returns-in_err-index : goal.returns-in_err-index
 returns-in_err-index c =
     rw c.from_residual.ensures (λ words told.
     let p : Profile = profile_in c.args.self.now in
-    let laid = laid_out p (is_profile c.args.self.now.listing.version) in
+    let laid = laid_with c.args.self.now.listing.versions in
     let count = c.count.ensures.value ∙ told.count in
     let given : c.args.self.now.graph.code ≡ 4 * length words = c.count.ensures.same_length ∙ ap (λ n. 4 * n) count in
     let most = c.max-count.ensures in
@@ -26,7 +26,7 @@ returns-in_err-index c =
 pub returns : goal.returns
 returns c = λ words told.
     let p : Profile = profile_in c.args.self.now in
-    let laid = laid_out p (is_profile c.args.self.now.listing.version) in
+    let laid = laid_with c.args.self.now.listing.versions in
     let count = c.count.ensures.value ∙ told.count in
     let given : c.args.self.now.graph.code ≡ 4 * length words = c.count.ensures.same_length ∙ ap (λ n. 4 * n) count in
     let found = found_parts _ _ c.in_ok-index.index (sym c.first_index.ensures.first ∙ c.in_ok-index.was) in (

@@ -1,6 +1,7 @@
 use Rattle.std.proofs.Common.{ap, arith, ◌≤◌, length}
-use Rattle.cfi_verify.specs.Entries.{gate_at, starts_at}
+use Rattle.cfi_verify.specs.Entries.{signs_at}
 use Rattle.cfi_graph.specs.Graph.{GraphParts}
+use Rattle.cfi_rules.specs.Lines.{leaves_in}
 use Rattle.cfi_rules.specs.Rules.{lacks_gate}
 use Rattle.cfi_verify.specs.Scan.{profile_in}
 use Rattle.cfi_verify.proofs.LeastOf.{least_line, least_all, take_found}
@@ -9,7 +10,7 @@ use Rattle.cfi_verify.proofs.starts.Starts.first_without_gate.Goals as goal
 pub loop-k-preserved : goal.loop-k-preserved
 loop-k-preserved c =
     rw c.lesser-least.ensures
-    (least_line (λ a. lacks_gate (starts_at (profile_in c.args.self.now) c.args.self.now.listing) (gate_at (profile_in c.args.self.now) c.args.self.now.listing) a) c.graph-graph.result.now.lines c.loop-k.k c.line.result.now c.loop-k.least c.target_without_gate.result
+    (least_line (λ a. lacks_gate c.args.self.now.graph.version (signs_at (profile_in c.args.self.now) c.args.self.now.listing (leaves_in c.args.self.now.graph.lines)) a) c.graph-graph.result.now.lines c.loop-k.k c.line.result.now c.loop-k.least c.target_without_gate.result
     (take_found _ _ _ c.line.ensures) c.loop-k.invariant c.target_without_gate.ensures)
 
 pub returns : goal.returns
@@ -17,5 +18,5 @@ returns c =
     let end = c.lines-k-end.ensures in
     let done = c.loop-k-test.false in
     let all : length c.graph-graph.result.now.lines ≤ c.loop-k.k = omega arith in
-    least_all (λ a. lacks_gate (starts_at (profile_in c.args.self.now) c.args.self.now.listing) (gate_at (profile_in c.args.self.now) c.args.self.now.listing) a) _ _ c.loop-k.k c.loop-k.least all
+    least_all (λ a. lacks_gate c.args.self.now.graph.version (signs_at (profile_in c.args.self.now) c.args.self.now.listing (leaves_in c.args.self.now.graph.lines)) a) _ _ c.loop-k.k c.loop-k.least all
     (ap (λ (g : GraphParts). g.lines) c.graph-graph.ensures.value) c.loop-k.invariant

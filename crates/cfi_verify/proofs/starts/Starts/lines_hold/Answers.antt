@@ -1,7 +1,7 @@
 use Rattle.std.proofs.Common.{inl, inr, ◌≡◌, ◌≤◌, length, ap, arith}
 use Rattle.std.proofs.lemmas.Bool.{cases_lt}
-use Rattle.rv_word.proofs.Versions.{is_profile, laid_out}
 use Rattle.cfi_graph.specs.Graph.{GraphParts}
+use Rattle.cfi_verify.proofs.Laid.{laid_with}
 use Rattle.cfi_verify.proofs.OnePass.{gates_passed, none_after}
 use Rattle.cfi_verify.proofs.starts.Starts.lines_hold.Goals as goal
 
@@ -11,7 +11,7 @@ unlisted_hold-requires-clause-unlisted c =
     let done = c.loop-k-test.false in
     let same : length c.graph.result.now.lines ≡ length c.args.self.now.graph.lines = ap (λ (g : GraphParts). length g.lines) c.graph.ensures.value in
     let all : length c.args.self.now.graph.lines ≤ c.loop-k.k = omega arith in
-    none_after _ (laid_out _ (is_profile c.args.self.now.listing.version)) c.args.self.now.listing c.args.self.now.graph c.loop-k.k c.loop-k.next c.count_after.result all c.loop-k.invariant
+    none_after _ (laid_with c.args.self.now.listing.versions) c.args.self.now.listing c.args.self.now.graph c.loop-k.k c.loop-k.next c.count_after.result all c.loop-k.invariant
 
 pub returns-clause-words : goal.returns-clause-words
 returns-clause-words c = λ held k below.
@@ -26,4 +26,4 @@ returns-clause-gates c = λ held.
     let done = c.loop-k-test.false in
     let same : length c.graph.result.now.lines ≡ length c.args.self.now.graph.lines = ap (λ (g : GraphParts). length g.lines) c.graph.ensures.value in
     let all : length c.args.self.now.graph.lines ≤ c.loop-k.k = omega arith in
-    gates_passed _ (laid_out _ (is_profile c.args.self.now.listing.version)) c.args.self.now.listing c.args.self.now.graph c.loop-k.k c.loop-k.next all c.loop-k.invariant
+    gates_passed _ (laid_with c.args.self.now.listing.versions) c.args.self.now.listing c.args.self.now.graph c.loop-k.k c.loop-k.next all c.loop-k.invariant

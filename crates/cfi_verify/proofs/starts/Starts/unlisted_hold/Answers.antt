@@ -1,9 +1,9 @@
 use Rattle.std.proofs.Common.{inl, inr, ◌≡◌, ◌+◌, ◌*◌, ℕ, arith, subst}
 use Rattle.std.proofs.lemmas.Bool.{cases_lt}
 use Rattle.rv_word.specs.MemoryMap.{Profile}
-use Rattle.rv_word.proofs.Versions.{is_profile, laid_out}
 use Rattle.cfi_verify.specs.Pass.{HoldsAt}
 use Rattle.cfi_verify.specs.Scan.{profile_in}
+use Rattle.cfi_verify.proofs.Laid.{laid_with}
 use Rattle.cfi_verify.proofs.OnePass.{quiet_holds}
 use Rattle.cfi_verify.proofs.starts.Starts.unlisted_hold.Goals as goal
 
@@ -17,7 +17,7 @@ loop-index-preserved-then-index-to c =
             | inl before ↦ c.loop-index.invariant.holds k from before
             | inr later ↦ elim (cases_lt k c.next_busy-index.result) [
               | inl passed ↦
-                  quiet_holds p (laid_out p (is_profile c.args.self.now.listing.version)) c.args.self.now.listing c.args.self.now.graph (p.units_from + 4 * k) (omega arith)
+                  quiet_holds p (laid_with c.args.self.now.listing.versions) c.args.self.now.listing c.args.self.now.graph (p.units_from + 4 * k) (omega arith)
                   (c.next_busy-index.ensures.quiet k later passed) (c.requires.unlisted k from (omega (arith, passed, c.next_busy-index.ensures.high)))
               | inr last ↦
                   let same : c.next_busy-index.result ≡ k = omega (arith, last, less) in

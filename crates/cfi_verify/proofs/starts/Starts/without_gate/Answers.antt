@@ -1,6 +1,7 @@
 use Rattle.std.proofs.Common.{ℕ, Bool, ap, not, sym, ◌∙◌}
 use Rattle.std.proofs.lemmas.List.{take_more}
-use Rattle.cfi_verify.specs.Entries.{gate_at, starts_at}
+use Rattle.cfi_verify.specs.Entries.{signs_at}
+use Rattle.cfi_rules.specs.Lines.{leaves_in}
 use Rattle.cfi_rules.specs.Rules.{is_borne}
 use Rattle.cfi_verify.specs.Scan.{profile_in}
 use Rattle.cfi_verify.proofs.LeastOf.{least_target, same_target}
@@ -9,7 +10,7 @@ use Rattle.cfi_verify.proofs.starts.Starts.without_gate.Goals.{then-not-is_borne
 
 pub loop-target-preserved : goal.loop-target-preserved
 loop-target-preserved c =
-    let lacks : ℕ → Bool = λ a. not (is_borne (starts_at (profile_in c.args.self.now) c.args.self.now.listing) (gate_at (profile_in c.args.self.now) c.args.self.now.listing) c.args.which a c.args.label) in
+    let lacks : ℕ → Bool = λ a. not (is_borne (signs_at (profile_in c.args.self.now) c.args.self.now.listing (leaves_in c.args.self.now.graph.lines)) c.args.which a c.args.label) in
     elim c.if-not-is_borne.branch [
       | then-not-is_borne w ↦
           rw (w.least-is, w.lesser-least.ensures)

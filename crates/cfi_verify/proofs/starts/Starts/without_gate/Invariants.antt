@@ -1,11 +1,11 @@
 use Rattle.std.proofs.Common.{◌&&◌, not, take}
 use Rattle.least.specs.Least.{IsLeast}
-use Rattle.cfi_verify.specs.Entries.{gate_at, starts_at}
-use Rattle.cfi_rules.specs.Lines.{is_among}
+use Rattle.cfi_verify.specs.Entries.{signs_at}
+use Rattle.cfi_rules.specs.Lines.{is_among, leaves_in}
 use Rattle.cfi_rules.specs.Rules.{is_borne}
 use Rattle.cfi_verify.specs.Scan.{profile_in}
 use Rattle.cfi_verify.proofs.starts.Starts.without_gate.Given as goal
 
 abbrev pub invariant-loop-target : goal.invariant-loop-target
 invariant-loop-target l =
-    IsLeast (λ a. is_among a (take l.target-index l.targets) && not (is_borne (starts_at (profile_in l.self) l.self.listing) (gate_at (profile_in l.self) l.self.listing) l.which a l.label)) l.least
+    IsLeast (λ a. is_among a (take l.target-index l.targets) && not (is_borne (signs_at (profile_in l.self) l.self.listing (leaves_in l.self.graph.lines)) l.which a l.label)) l.least

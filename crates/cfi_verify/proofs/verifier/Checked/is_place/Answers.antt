@@ -1,26 +1,26 @@
 use Rattle.std.proofs.Common.{◌∙◌, ap, arith, sym}
 use Rattle.std.specs.Prelude.{is_some}
-use Rattle.rv_word.specs.declared.version.ImageVersion.{ImageVersion}
-use Rattle.rv_word.specs.Image.{image_profile}
-use Rattle.rv_word.specs.MemoryMap.{profile_of}
-use Rattle.rv_word.proofs.Versions.{is_profile, laid_out}
+use Rattle.rv_word.specs.declared.version.Versions.{Versions}
+use Rattle.rv_word.specs.MemoryMap.{profile_with}
 use Rattle.cfi_verify.specs.Entries.{starts_at}
+use Rattle.cfi_rules.specs.Rules.{pair_profile}
 use Rattle.cfi_verify.specs.Scan.{Pair}
 use Rattle.cfi_rules.specs.Split.{code_words, place_at}
+use Rattle.cfi_verify.proofs.Laid.{laid_under}
 use Rattle.cfi_verify.proofs.IsPlace.{place_below}
 use Rattle.cfi_verify.proofs.Told.{place_told, start_told}
 use Rattle.cfi_verify.proofs.verifier.Checked.is_place.Goals as goal
 
 pub returns-then-address-start : goal.returns-then-address-start
 returns-then-address-start c =
-    let laid = laid_out _ (is_profile c.self.inside.image.now.version) in
-    let from = c.units_from-start.ensures ∙ ap (λ (q : Pair). (image_profile q.image).units_from) (sym c.self.view_is) in
-    c.is_start.ensures ∙ ap (λ (v : ImageVersion). starts_at (profile_of v) c.self.inside.starts.listing c.args.address) c.self.invariant.version
+    let laid = laid_under c.self.inside.starts.graph.version c.self.inside.image.now.version in
+    let from = c.units_from-start.ensures ∙ ap (λ (q : Pair). (pair_profile q.image q.graph).units_from) (sym c.self.view_is) in
+    c.is_start.ensures ∙ ap (λ (v : Versions). starts_at (profile_with v) c.self.inside.starts.listing c.args.address) c.self.invariant.versions
     ∙ sym (start_told _ laid _ _ _ c.self.invariant.told c.args.address)
     ∙ place_told _ laid _ _ _ c.self.invariant.told c.args.address (omega (arith, from, c.if-address-start.true))
-    ∙ ap (λ (q : Pair). is_some (place_at (image_profile q.image) (code_words q.image.code) c.args.address)) c.self.view_is
+    ∙ ap (λ (q : Pair). is_some (place_at (pair_profile q.image q.graph) (code_words q.image.code) c.args.address)) c.self.view_is
 
 pub returns : goal.returns
 returns c =
     c.is_prologue.ensures
-    ∙ place_below _ (laid_out _ (is_profile c.args.self.now.image.version)) _ c.args.address (omega (arith, c.units_from-start.ensures, c.if-address-start.false))
+    ∙ place_below _ (laid_under c.args.self.now.graph.version c.args.self.now.image.version) _ c.args.address (omega (arith, c.units_from-start.ensures, c.if-address-start.false))

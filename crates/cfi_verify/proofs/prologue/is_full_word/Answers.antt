@@ -5,7 +5,7 @@ use Rattle.rv_code.specs.Encode.{code_of}
 use Rattle.cfi_rules.specs.Rules.{prologue_word_fits, prologue_words}
 use Rattle.cfi_verify.specs.declared.prologue.TheConstants as table
 use Rattle.cfi_verify.proofs.AnyCall.{same_fits}
-use Rattle.cfi_verify.proofs.prologue.is_prologue_word.Goals as goal
+use Rattle.cfi_verify.proofs.prologue.is_full_word.Goals as goal
 
 -- the table is the prologue's words but for the one at 13
 pub returns-in-OneHart : goal.returns-in-OneHart

@@ -1,9 +1,9 @@
 use Rattle.std.proofs.Common.{◌/◌, ◌^◌, refl, bit_and}
 use Rattle.std.specs.Prelude.{◌==◌}
 use Rattle.std.proofs.lemmas.Bool.{agree_below_at}
-use Rattle.cfi_reader.specs.PlainWord.{is_named}
+use Rattle.cfi_reader.specs.PlainWord.{is_ordinary}
 use Rattle.cfi_reader.specs.declared.plain.TheConstants as table
-use Rattle.cfi_reader.proofs.plain.is_named.Goals as goal
+use Rattle.cfi_reader.proofs.plain.is_ordinary.Goals as goal
 
 pub returns : goal.returns
-returns c = agree_below_at (λ n. bit_and (table.UNNAMED / 2 ^ n) 1 == 0) is_named 32 c.args.number refl c.requires
+returns c = agree_below_at (λ n. bit_and (table.SPECIAL / 2 ^ n) 1 == 0) is_ordinary 32 c.args.number refl c.requires

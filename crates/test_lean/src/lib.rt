@@ -1,0 +1,9 @@
+//! Tests of lean images, under graphs of version 3, through the tool's public calls: what is verified, rejected and run.
+#![tactic(auto)]
+
+#[cfg(test)]
+mod pairs;
+#[cfg(test)]
+mod runs;
+#[cfg(test)]
+mod samples;
