@@ -182,7 +182,7 @@ const NOWHERE: &[u64] = &[0x4000_00c0, 0x4000_0098, 0x4000_0120, 0x4000_0150];
 /// where no class does.
 type Asked = (SiteKind, TargetWord, u32, &'static [u64]);
 
-/// In graphs of version 2 a class serves one kind.
+/// In graphs of version 2 a class serves one kind; that a jump's check reads the second word there is asked of its unit.
 #[rattlefmt::skip]
 const Q_ASKED: &[Asked] = &[
     (SiteKind::Call, TargetWord::First, 1, &[0x4000_009c]),
@@ -191,7 +191,7 @@ const Q_ASKED: &[Asked] = &[
     (SiteKind::Call, TargetWord::Second, 1, &[]),
     (SiteKind::Call, TargetWord::Second, 2, &[]),
     (SiteKind::Jump, TargetWord::First, 1, &[]),
-    (SiteKind::Jump, TargetWord::First, 2, &[]),
+    (SiteKind::Jump, TargetWord::First, 2, &[0x4000_007c, 0x4000_009c]),
     (SiteKind::Jump, TargetWord::Second, 1, &[]),
     (SiteKind::Jump, TargetWord::Second, 3, &[]),
 ];
