@@ -1,5 +1,6 @@
-"""Lean images, under graphs of version 3, of units of every kind, for rvcfi verify to accept: functions one behind another, of which three
-of ten are leaves. docs/MACHINE.md has the units, docs/FORMATS.md the two files. Everything is drawn from a seed.
+"""Lean images, under graphs of version 3, of units of each kind but near branches and guarded calls, for rvcfi verify to accept: functions
+one behind another, of which three of ten are leaves. docs/MACHINE.md has the units, docs/FORMATS.md the two files. Everything is drawn from
+a seed.
 """
 
 import random

@@ -31,7 +31,7 @@ from checks import Told, ended
 
 LIB, OUT, TESTS = HERE / "lib", HERE / "out", HERE / "tests"
 PAIRS = TESTS / "pairs"
-VISITORS, PLUGIN = ([str(PAIRS / (name + end)) for end in (".img", ".graph")] for name in ("visitors", "plugin"))
+VISITORS, PLUGIN, LEAF = ([str(PAIRS / (name + end)) for end in (".img", ".graph")] for name in ("visitors", "plugin", "leaf"))
 FOLDERS = ["-I%s" % (HERE / name) for name in ("include", "examples", "c", "tests")]
 WARNINGS = ["-Wall", "-Wextra", "-pedantic", "-Werror"]
 MORE = ["-Wshadow", "-Wconversion", "-Wstrict-prototypes", "-Wmissing-prototypes", "-Wwrite-strings"]
@@ -199,11 +199,15 @@ def words_of_ask(told, ask, folder):
     """What `ask` says of its words and files, as docs/COMMANDS.md has it of `rvcfi verify`."""
     absent = str(OUT / "absent")
     large, most, over = large_files(folder)
+    late = os.path.join(folder, "late.graph")  # its leaf begins inside a unit
+    Path(late).write_bytes(Path(LEAF[1]).read_bytes().replace(b"leaf 40000074", b"leaf 40000070"))
     for what, words, wanted in [
         ("a large pair", large, (0, b"accepted\n")),
         ("a file of 2^26 bytes", [most, VISITORS[1]], (1, b"refused 22 Byte 0\n")),
         ("a file of 2^26 + 1 bytes", [VISITORS[0], over], (6, b"too long %s\n" % over.encode())),
         ("two files", VISITORS, (0, b"accepted\n")),
+        ("a lean pair", LEAF, (0, b"accepted\n")),
+        ("a leaf that begins inside a unit", [LEAF[0], late], (1, b"rejected Leaf 40000070\n")),
         ("one word", VISITORS[:1], (2, b"usage: ask IMAGE GRAPH\n")),
         ("no image", [absent, VISITORS[1]], (3, b"read fault %s\n" % absent.encode())),
         ("no graph", [VISITORS[0], absent], (3, b"read fault %s\n" % absent.encode())),

@@ -32,7 +32,7 @@ extern "C" {
 #define RVCFI_ACCEPTED  0u /* the image and the graph meet the rules: every run of the image is safe */
 #define RVCFI_BAD_IMAGE 1u /* the first text is no image: reason RVCFI_SHORT, RVCFI_BYTE or RVCFI_LONG */
 #define RVCFI_BAD_GRAPH 2u /* the second text is no graph: reason RVCFI_FORM, RVCFI_RANGE or RVCFI_ORDER */
-#define RVCFI_REJECTED  3u /* a rule fails: reason is the first that does, of RVCFI_RULE_* in their order */
+#define RVCFI_REJECTED  3u /* a rule fails: reason is the first that does, RVCFI_RULE_*, in the order of docs/FORMATS.md */
 #define RVCFI_NO_MEMORY 4u /* there was no memory: nothing is said of the texts, and all of it is given back */
 
 /* Reasons of RVCFI_BAD_IMAGE. */

@@ -1,15 +1,18 @@
-"""Whether the recorded pairs are those of docs/TUTORIAL.md: made anew by the model of tests/harts from the objects of its section 1."""
+"""Whether the recorded pairs are those of docs/TUTORIAL.md, made anew by the model of tests/harts from the objects of its section 1; and whether
+the lean one is that of the model of tests/model."""
 
 import shutil
 import sys
 from pathlib import Path
 
 REPOSITORY = Path(__file__).resolve().parents[2]
-sys.path[:0] = [str(REPOSITORY / "tests" / "harts")]
+sys.path[:0] = [str(REPOSITORY / "tests" / name) for name in ("model", "harts", "objects")]
 
 from changed import recorded
 from hardener import Hardening, Source, policy_text
 from joiner import Joined
+from lean_hardener import LeanHardening
+from make_vectors import H
 from checks import ended
 
 GCC, VERSION = "riscv64-linux-gnu-gcc", "12.2.0"
@@ -31,7 +34,14 @@ def objects(folder):
         yield Source(path.read_bytes())
 
 
+def is_the_models(told):
+    """The recorded lean pair: a function that calls a leaf, which writes three bytes."""
+    made = LeanHardening(Source(H.file()), "main", "lean", "")
+    told.same("the recorded pair leaf", (made.image, made.graph), recorded("leaf"))
+
+
 def is_the_tutorials(told, folder):
+    is_the_models(told)
     if not shutil.which(GCC) or VERSION not in ended([GCC, "-dumpfullversion"])[1].decode():
         told.skip("the recorded pairs", "made anew they need %s %s" % (GCC, VERSION))
         return

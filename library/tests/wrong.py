@@ -63,6 +63,7 @@ EDITS = [  # a file of the library, a text that stands in it once, and what come
     (REJECTION, "    Rule::Unit,\n    Rule::Target,\n", "    Rule::Target,\n    Rule::Unit,\n"),
     (REJECTION, "(1, 2) => Some(Rejection::Image(BadImage::Byte(first)))", "(1, 2) => Some(Rejection::Image(BadImage::Long(first)))"),
     (REJECTION, "code: first,\n                graph: second,", "code: second,\n                graph: first,"),
+    (REJECTION, "(3, 2..=11)", "(3, 2..=10)"),
     (REJECTION, "            (4, 0) => Some(Rejection::NoMemory),\n", ""),
     (REJECTION, "{rule:?} {address:08x}", "{rule:?} {address:08X}"),
 ]

@@ -83,6 +83,7 @@ def run_program(told, seed, levels, hardens):
     print("asked of the program: %d pairs of versions 1 and 2" % len(pairs))
     lean_asked.check_pairs(told, seed)
     lean_asked.check_steps(told)
+    lean_asked.check_deepest(told)
     if hardens:
         lean_asked.check_objects(told, levels)
 
@@ -97,6 +98,8 @@ def main():
     options = words.parse_args()
     if options.many < 1:
         words.error("--many is at least 1")
+    if options.program and not Path(options.program).exists():
+        words.error("there is no program %s" % options.program)
     with tempfile.TemporaryDirectory() as folder:
         told = Told(options.program and str(Path(options.program).resolve()), folder)
         run_cases(told)
@@ -104,10 +107,8 @@ def main():
         run_checks(told, lean_drawn.checks(options.seed, options.many))
         levels = options.levels.split(",") if options.levels else []
         run_checks(told, lean_real.checks(levels) if levels else ())
-        if options.program and Path(options.program).exists():
+        if options.program:
             run_program(told, options.seed, levels, options.hardens)
-        elif options.program:
-            print("not run, since there is no program: what it says of pairs")
     print("%d passed, %d failed" % (told.passed, told.failed))
     return 1 if told.failed else 0
 

@@ -18,7 +18,7 @@ from make_pointers import Q
 from make_vectors import P
 from runs import answer
 
-LIMIT = 1000
+LIMIT, MOST = 1000, 200000  # steps of a run, and of one that fills the shadow stack
 
 
 def pairs(seed):
@@ -77,6 +77,19 @@ def check_steps(told):
                     wanted = answer(whole, script, b"", LIMIT)
                     told.check((done.returncode, done.stdout) == wanted, "%s, step %d to %x: %r, not %r" % (form, step, to, done.stdout, wanted))
     print("asked of the program: %d runs, a pointer turned before each step" % count)
+
+
+def check_deepest(told):
+    """Runs that fill the shadow stack but for a slot, to the last one and past it, which end in a handler or go back all the way."""
+    stops = set()
+    for name, built in lean_cases.deepest():
+        told.verified(built.image, built.graph)
+        done = programs.run([told.program, "run", *(str(told.folder / each) for each in ("image", "graph")), "none", "none", str(MOST)])
+        whole = built._replace(starts=pair_of(built.version, built.words, built.graph).starts())
+        wanted = answer(whole, None, b"", MOST)
+        told.check((done.returncode, done.stdout) == wanted, "%s: %r, not %r" % (name, done.stdout, wanted))
+        stops.add(next(line for line in wanted[1].split(b"\n") if line.startswith(b"stop ")))
+    told.check(stops == {b"stop exit 0", b"stop exit 5", b"stop handler __cfi_deep"}, "the stops are %s" % stops)
 
 
 def check_objects(told, levels):

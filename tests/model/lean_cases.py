@@ -249,6 +249,14 @@ def counting(k):
                      jal(0, 8), jal(1, 16), ld(1, 2, 8), addi(2, 2, 16), RETURN, addi(10, 0, 5), RETURN)
 
 
+def deepest():
+    """Programs whose calls fill the shadow stack but for a slot, to the last one and past it, each with a name."""
+    words = [word for each in R.places for word in each[0]]
+    yield "8,190 calls", hardened(object_of(*words)).built
+    yield "8,191 calls", hardened(object_of(words[0], addi(10, 10, -1), *words[2:])).built
+    yield from (("%d calls, and one of a leaf" % k, hardened(counting(k)).built) for k in (8189, 8190, 8191))
+
+
 def depth():
     """As many calls as slots, and one more."""
     words = [word for each in R.places for word in each[0]]

@@ -1,4 +1,4 @@
-//! Edges, calls and sites, which are most lines of a graph of either version: each byte of such a line has its
+//! Edges, calls and sites, which are most lines of a graph of each version: each byte of such a line has its
 //! place, so they are read without a search for their newline and their spaces.
 
 ghost use Rattle.std.specs.Prelude.{◌≡◌, ◌∷◌, ◌++◌, ℕ, IfSome, Some, length};

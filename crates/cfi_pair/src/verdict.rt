@@ -17,7 +17,7 @@ pub struct RvcfiVerdict {
     /// 0 accepted, 1 no image, 2 no graph, 3 rejected, 4 no memory.
     pub outcome: u32,
     /// Of no image 1 short, 2 byte, 3 long; of no graph 1 form, 2 range, 3 order; of a reject the rule, from 1 for Length and 2 for
-    /// Prologue to 10 for End.
+    /// Prologue to 10 for End, and 11 for Leaf.
     pub reason: u32,
     /// Of no image the length or the offset in bytes, of no graph the line from 1, of a reject the address, and for Length the
     /// bytes of code.

@@ -63,7 +63,7 @@ ComputedCallGoes lines site label pending v after =
 abbrev pub LinkGoes : ℕ → ℕ → List ℕ → ℕ → List ℕ → Type 0
 LinkGoes site target pending v after = (length pending ≤ MOST_PENDING) × (v ≡ target) × (after ≡ site ∷ pending)
 
--- a computed one: to the handler of bad targets, or past the gate of a target of its class
+-- a computed one: to the handler of bad targets, or to the gate that stands 8 bytes behind a target of its class
 abbrev pub ComputedLinkGoes : List GraphLine → TargetWord → ℕ → ℕ → List ℕ → ℕ → List ℕ → Type 0
 ComputedLinkGoes lines which site label pending v after =
     To BAD_TARGET pending v after ⊎ ((t : ℕ) × InClass lines K.Call which label t × LinkGoes site (t + 8) pending v after)

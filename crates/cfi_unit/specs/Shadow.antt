@@ -15,7 +15,7 @@ pub record IsPart (p : Profile) (part : ℕ) : Type 0 where
 abbrev pub slot : ℕ → ℕ → ℕ
 slot part n = part + 8 + 8 * n
 
--- how many sites may be pending: as many as there are slots
+-- how many sites it holds: as many as there are slots
 abbrev pub MOST_PENDING : ℕ
 MOST_PENDING = handlers.MOST_PENDING
 

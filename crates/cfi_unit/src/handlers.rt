@@ -7,5 +7,5 @@ pub const BAD_TARGET: u64 = 0x4000_0000;
 pub const BAD_RETURN: u64 = 0x4000_0004;
 /// Where calls halt that find the shadow stack full.
 pub const DEEP: u64 = 0x4000_0008;
-/// How many calls may be pending: as many as the shadow stack has slots.
+/// How many sites the shadow stack of a hart holds: as many as it has slots.
 pub const MOST_PENDING: u64 = 8191;

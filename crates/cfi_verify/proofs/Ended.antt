@@ -5,10 +5,10 @@ use Rattle.rv_word.specs.Image.{Contents}
 use Rattle.rv_word.specs.MemoryMap.{Profile, profile_with}
 use Rattle.cfi_graph.specs.Graph.{GraphParts}
 use Rattle.cfi_scan.specs.Pieces.{HasSeen, IsOf, Listed, Sight, prologue_count}
-use Rattle.cfi_verify.specs.Entries.{Tells, numbers_in}
-use Rattle.cfi_verify.specs.Scan.{Scanned, StartParts, profile_in}
+use Rattle.cfi_verify.specs.Scan.{Scanned, Tells, numbers_in}
+use Rattle.cfi_starts.specs.Starts.{StartParts, profile_in}
 use Rattle.cfi_rules.specs.Split.{code_words}
-use Rattle.cfi_verify.proofs.Laid.{laid_with}
+use Rattle.cfi_starts.proofs.Laid.{laid_with}
 use Rattle.cfi_verify.proofs.Told.{tells}
 
 pub record Ended (p : Profile) (self : Scanned) (t : Listed) (image : Contents) : Type 0 where

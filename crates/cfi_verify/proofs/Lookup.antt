@@ -16,10 +16,10 @@ use Rattle.cfi_reader.specs.declared.entry.Entry.{Entry}
 use Rattle.cfi_reader.specs.declared.entry.Entry.TheVariants as E
 use Rattle.cfi_reader.specs.Entries.{entries_of, entry_of, inside, is_started, is_unit, plain_entry, writes_link}
 use Rattle.cfi_scan.specs.Stream.{AllStand, last_of, spelled, width}
-use Rattle.cfi_verify.specs.Entries.{next_in, or_inside}
+use Rattle.cfi_starts.specs.Entries.{next_in, or_inside}
 use Rattle.cfi_rules.specs.Split.{is_marked, starts}
 use Rattle.least.proofs.Firsts.{first_found, none_first}
-use Rattle.cfi_verify.proofs.Started.{started}
+use Rattle.cfi_starts.proofs.Started.{started}
 use Rattle.cfi_unit.proofs.Counts.{some_word}
 use Rattle.cfi_rules.proofs.Marks.{head_after, head_inner, head_length, head_mark, marks_none, none_in_none}
 

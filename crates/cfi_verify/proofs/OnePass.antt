@@ -19,7 +19,9 @@ use Rattle.cfi_reader.specs.Entries.{is_quiet}
 use Rattle.cfi_scan.specs.Pieces.{Listed, prologue_count}
 use Rattle.cfi_pending.specs.Kinds as kinds
 use Rattle.cfi_pending.specs.Kinds.{leaf_of}
-use Rattle.cfi_verify.specs.Entries.{Tells, call_at, call_in, count_of, edge_at, edge_in, enters_at, entry_at, fails_at, fails_end_at, fails_gate_at, fails_target_at, fails_unit_at, fresh_at, gate_at, gate_in, goes_on, goes_wrong_at, is_barred, is_barred_at, is_enter, is_lone_at, is_right_behind_at, is_stop_entry, is_unused_at, lacks_end_at, may_call_at, may_go_at, may_stand, misses_start, misses_start_at, next_at, numbers_in, or_inside, signs_at, site_in, stands_outside, stands_wrong_at, starts_at}
+use Rattle.cfi_starts.specs.Entries.{call_at, call_in, count_of, edge_at, edge_in, enters_at, entry_at, fails_target_at, fresh_at, gate_at, gate_in, goes_on, goes_wrong_at, is_enter, is_right_behind_at, lacks_end_at, may_call_at, may_go_at, may_stand, next_at, or_inside, signs_at, site_in, stands_outside, stands_wrong_at, starts_at}
+use Rattle.cfi_verify.specs.Fails.{fails_at, fails_end_at, fails_gate_at, fails_unit_at, is_barred, is_barred_at, is_lone_at, is_stop_entry, is_unused_at, misses_start, misses_start_at}
+use Rattle.cfi_verify.specs.Scan.{Tells, numbers_in}
 use Rattle.cfi_rules.specs.Lines.{holds_of, is_outside, leaves_in, line_at, targets_for}
 use Rattle.cfi_verify.specs.Pass.{HasPassed, HoldsAt, HoldsEarly, KindHoldsAt, NoneStands, ends_in_stop}
 use Rattle.cfi_rules.specs.Rules.{Holds, fails_prologue, is_call_to, is_edge_to, is_site_with, lacks_gate}
@@ -29,7 +31,7 @@ use Rattle.cfi_rules.specs.declared.reject.Rule.TheVariants as R
 use Rattle.cfi_rules.proofs.LineOrder.{line_at-with, pair_below, with_key, without_key}
 use Rattle.cfi_unit.proofs.Counts.{some_word}
 use Rattle.cfi_verify.proofs.Spots.{line_in, none_anywhere}
-use Rattle.cfi_verify.proofs.LeafLines.{none_of}
+use Rattle.cfi_starts.proofs.LeafLines.{none_of}
 use Rattle.cfi_verify.proofs.Told.{entry_is, fails_told, same_test, start_round, there}
 
 same_address : (a b : ℕ) → Address a ≡ Address b → a ≡ b

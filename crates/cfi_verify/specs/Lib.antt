@@ -1,5 +1,4 @@
 pub mod Scan
 pub mod Answer
-pub mod Entries
-pub mod Leaves
+pub mod Fails
 pub mod Pass

@@ -1,11 +1,13 @@
 -- What one pass over a code and a graph finds out. Only private contracts cite this.
 use Rattle.std.specs.Prelude.{◌≡◌, ◌≢◌, ℕ, ◌+◌, ◌*◌, ◌<◌, ◌≤◌, ◌==◌, ◌&&◌, nat_lt, Bool, true, false, List, Some, None, slice_get}
+use Rattle.std.specs.List.{list_any}
 use Rattle.rv_word.specs.MemoryMap.{CODE_START, Profile}
 use Rattle.cfi_graph.specs.declared.line.GraphLine.{GraphLine}
 use Rattle.cfi_graph.specs.declared.line.Key.TheVariants.{Address}
 use Rattle.cfi_graph.specs.Graph.{GraphParts, key_below, key_of}
 use Rattle.cfi_scan.specs.Pieces.{Listed, prologue_count}
-use Rattle.cfi_verify.specs.Entries.{count_of, entry_at, is_barred_at, is_barred_busy_at, is_stop_entry, fails_at, fails_leaf_at, fails_target_at, misses_start_at, signs_at, stands_wrong_at, fails_unlisted_at, fails_unused_at, fails_site_at, fails_astray_at}
+use Rattle.cfi_starts.specs.Entries.{count_of, entry_at, fails_leaf_at, fails_target_at, lacks_end_at, signs_at, stands_wrong_at}
+use Rattle.cfi_verify.specs.Fails.{is_barred_at, is_barred_busy_at, is_stop_entry, fails_at, misses_start_at, fails_unlisted_at, fails_unused_at, fails_site_at, fails_astray_at}
 use Rattle.cfi_rules.specs.Lines.{leaves_in, line_at}
 use Rattle.cfi_rules.specs.Rules.{lacks_gate}
 use Rattle.cfi_rules.specs.declared.reject.Rule.{Rule}
@@ -48,3 +50,7 @@ module _ (p : Profile) where
   -- at none of these words a line stands
   abbrev pub NoneStands : List GraphLine → ℕ → ℕ → Type 0
   NoneStands lines from to = (k : ℕ) → from ≤ k → k < to → line_at lines (p.units_from + 4 * k) ≡ None
+
+  -- no leaf begins anywhere that is not of whole units
+  abbrev pub AreWhole : Listed → List GraphLine → Type 0
+  AreWhole t lines = (a : ℕ) → list_any (lacks_end_at p t a) lines ≡ false

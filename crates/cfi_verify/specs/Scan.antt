@@ -1,13 +1,19 @@
--- What a scan has seen, what it leaves, and an accepted pair.
-use Rattle.std.specs.Prelude.{◌≡◌, ℕ, ◌-◌, ◌/◌, ◌==◌, Bool, ◌||◌, ◌&&◌, List, is_some, length}
-use Rattle.rv_word.specs.MemoryMap.{Profile, profile_with}
+-- What a scan has seen, what the listing that it leaves tells, and an accepted pair.
+use Rattle.std.specs.Prelude.{◌≡◌, ℕ, ◌-◌, ◌/◌, ◌==◌, Bool, ◌||◌, ◌&&◌, List, is_some, length, take}
+use Rattle.rv_word.specs.MemoryMap.{Profile}
 use Rattle.rv_word.specs.Image.{Contents}
-use Rattle.cfi_graph.specs.Graph.{GraphParts, IsGraph}
+use Rattle.cfi_graph.specs.Graph.{GraphParts, IsGraph, calls_in}
 use Rattle.cfi_unit.specs.Prologue.{OPENING}
 use Rattle.cfi_scan.specs.Pieces.{Listed, Sight, prologue_count}
-use Rattle.cfi_verify.specs.Entries.{Tells, numbers_in}
+use Rattle.cfi_scan.specs.Stream.{IsSplitUp}
+use Rattle.cfi_starts.specs.Starts.{StartParts}
+use Rattle.cfi_reader.specs.Entries.{numbers_or_none}
 use Rattle.cfi_rules.specs.Rules.{IsWellFormed, pair_profile}
-use Rattle.cfi_rules.specs.Split.{code_words, entry_of, is_handler}
+use Rattle.cfi_rules.specs.Split.{code_words, entry_of, is_handler, unit_words}
+
+-- the numbers of a graph's list of system calls: none, where it has no list
+abbrev pub numbers_in : GraphParts → List ℕ
+numbers_in graph = numbers_or_none (calls_in graph.lines)
 
 -- what a scan has seen of a code, and the graph
 pub record Scanned : Type 0 where
@@ -21,20 +27,11 @@ pub record IsScan (p : Profile) (seen : Sight) (graph : GraphParts) : Type 0 whe
   pub same_version : seen.versions.graph ≡ graph.version
   pub graph_is : IsGraph graph
 
--- what is left of a code that has ended, and the graph
-pub record StartParts : Type 0 where
-  pub listing : Listed
-  pub graph : GraphParts
-
--- the profile of the versions that a listing is of
-abbrev pub profile_in : StartParts → Profile
-profile_in starts = profile_with starts.listing.versions
-
--- the graph gives the code's length, and its own version
-pub record AreStarts (listing : Listed) (graph : GraphParts) : Type 0 where
-  pub same_length : listing.fed ≡ graph.code
-  pub same_version : listing.versions.graph ≡ graph.version
-  pub graph_is : IsGraph graph
+-- a listing tells of the words of a code, under some numbers of system calls: it has those of the prologue and an entry for each other one
+pub record Tells (p : Profile) (calls : List ℕ) (t : Listed) (words : List ℕ) : Type 0 where
+  pub count : t.fed / 4 ≡ length words
+  pub prologue : t.prologue ≡ take (prologue_count p) words
+  pub split : IsSplitUp calls p.units_from t.entries t.done t.last (unit_words p words)
 
 -- a part of the prologue starts at an address
 abbrev pub starts_prologue : Profile → List ℕ → ℕ → Bool

@@ -4,24 +4,19 @@
 #![tactic(auto)]
 
 pub use cfi_rules::{Asks, Reject, Rule};
+pub use cfi_starts::{Starts, is_among};
 pub use cfi_unit::Place;
-pub use lines::is_among;
 pub use pieces::scan_pieces;
 pub use scan::Scan;
-pub use starts::Starts;
 pub use verifier::{Checked, verify};
 
 mod all_hold;
 mod code;
 mod first;
 mod gates;
-mod kinds;
-mod leaves;
-mod lines;
+mod kinds_hold;
 mod pieces;
-mod place;
 mod prologue;
 mod rules;
 mod scan;
-mod starts;
 mod verifier;

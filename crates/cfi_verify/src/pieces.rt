@@ -4,15 +4,15 @@ ghost use Rattle.rv_word.specs.Image.{Contents};
 ghost use Rattle.rv_word.specs.MemoryMap.{profile_under, profile_with};
 ghost use Rattle.cfi_scan.specs.Pieces.{HasSeen};
 ghost use Rattle.cfi_verify.specs.Answer.{IsCause};
-ghost use Rattle.cfi_verify.specs.Entries.{Tells, numbers_in};
+ghost use Rattle.cfi_verify.specs.Scan.{Tells, numbers_in};
 ghost use Rattle.cfi_rules.specs.Rules.{IsWellFormed};
 ghost use Rattle.cfi_rules.specs.Split.{code_words};
 
 use crate::scan::Scan;
-use crate::starts::Starts;
 use cfi_graph::Graph;
 use cfi_rules::Reject;
 use cfi_scan::Steps;
+use cfi_starts::Starts;
 use rv_word::{Bytes, End, ImageVersion};
 use std::alloc::Global;
 use std::sync::ledger::Ledger;

@@ -2,14 +2,15 @@ ghost use Rattle.std.specs.Prelude.{◌≡◌, ◌+◌, ◌/◌, ◌<◌, ◌^�
 ghost use Rattle.rv_word.specs.Image.{Contents};
 ghost use Rattle.rv_word.specs.MemoryMap.{profile_under, profile_with};
 ghost use Rattle.cfi_scan.specs.Pieces.{HasSeen};
-ghost use Rattle.cfi_verify.specs.Entries.{Tells, numbers_in};
+ghost use Rattle.cfi_verify.specs.Scan.{Tells, numbers_in};
 ghost use Rattle.cfi_rules.specs.Rules.{IsRejected, IsWellFormed};
 ghost use Rattle.cfi_rules.specs.Split.{code_words};
 
-use crate::starts::Starts;
+use crate::first::first_failure;
 use cfi_graph::Graph;
 use cfi_rules::Reject;
 use cfi_scan::{Feeder, Steps};
+use cfi_starts::Starts;
 use rv_word::{ImageVersion, NoMemory, Versions};
 use std::alloc::Global;
 use std::marker::Model;
@@ -82,7 +83,7 @@ impl<'a> Scan<'a> {
             return Err(Reject::Length(fed, graph.code()));
         }
         let starts = Starts::of(listing, graph);
-        match starts.first_failure() {
+        match first_failure(&starts) {
             Some((rule, address)) => Err(Reject::At(rule, address)),
             None => Ok(starts),
         }

@@ -15,12 +15,12 @@ ghost use Rattle.cfi_rules.specs.Split.{code_words, entry_of, is_handler, place_
 
 use crate::code::{are_small, unit_of};
 use crate::scan::Scan;
-use crate::starts::Starts;
 use cfi_confined::laws::well_formed_is_confined;
 use cfi_graph::Graph;
 use cfi_rules::laws::{well_formed_is_listed, well_formed_is_safe};
 use cfi_rules::{Asks, Reject};
 use cfi_scan::Steps;
+use cfi_starts::Starts;
 use cfi_unit::handlers::{BAD_RETURN, BAD_TARGET, DEEP};
 use cfi_unit::{Place, Unit};
 use rv_word::profile::START;

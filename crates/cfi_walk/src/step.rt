@@ -129,7 +129,7 @@ fn computed_call(checked: &Checked<'_>, walk: &Walk, site: u64, label: u32, pc: 
     }
 }
 
-/// A computed call that leaves its site in x1: it leads past the gate of its target.
+/// A computed call that leaves its site in x1: it leads to the gate of its class behind a target.
 fn computed_link(
     checked: &Checked<'_>,
     walk: &Walk,

@@ -121,7 +121,7 @@ impl Rejection {
                 code: first,
                 graph: second,
             }),
-            (3, 2..=10) => Some(Rejection::Rule {
+            (3, 2..=11) => Some(Rejection::Rule {
                 rule: RULES[reason as usize - 2],
                 address: first,
             }),

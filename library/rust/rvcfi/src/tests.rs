@@ -7,6 +7,8 @@ const IMAGE: &[u8] = include_bytes!("../../../tests/pairs/visitors.img");
 const GRAPH: &[u8] = include_bytes!("../../../tests/pairs/visitors.graph");
 const LISTED_IMAGE: &[u8] = include_bytes!("../../../tests/pairs/plugin.img");
 const LISTED_GRAPH: &[u8] = include_bytes!("../../../tests/pairs/plugin.graph");
+const LEAF_IMAGE: &[u8] = include_bytes!("../../../tests/pairs/leaf.img");
+const LEAF_GRAPH: &str = include_str!("../../../tests/pairs/leaf.graph");
 const CODE: u64 = 0x4000_0000;
 const CODE_AT: usize = 0x1000;
 const CODE_LENGTH: usize = 2420;
@@ -48,6 +50,17 @@ fn accepted_pair_has_the_parts_of_its_file() {
     assert_eq!(accepted.shadow_region(), 0x6000_0000..0x6001_0000);
     assert_eq!(accepted.entry(), 0x4000_000c);
     assert_eq!((accepted.version(), accepted.harts()), (1, 1));
+}
+
+#[test]
+fn lean_pair_is_accepted_or_told_by_its_own_rule() {
+    verify(LEAF_IMAGE, LEAF_GRAPH.as_bytes()).unwrap();
+    // The leaf begins inside a unit.
+    let graph = LEAF_GRAPH.replace("leaf 40000074", "leaf 40000070");
+    let rejection = rejection(LEAF_IMAGE, graph.as_bytes(), "rejected Leaf 40000070");
+    let rule = Rule::Leaf;
+    let address = 0x4000_0070;
+    assert_eq!(rejection, Rejection::Rule { rule, address });
 }
 
 #[test]

@@ -1,13 +1,13 @@
 use Rattle.std.proofs.Common.{◌≡◌, ◌∙◌, ap, subst, sym}
 use Rattle.rv_word.specs.MemoryMap.{Profile, profile_with}
 use Rattle.cfi_graph.specs.Graph.{GraphParts, has_leaves}
-use Rattle.cfi_verify.specs.Entries.{Tells, numbers_in}
+use Rattle.cfi_verify.specs.Scan.{Scanned, Tells, numbers_in}
 use Rattle.cfi_rules.specs.Rules.{Holds, IsFirst}
-use Rattle.cfi_verify.specs.Scan.{Scanned, StartParts}
+use Rattle.cfi_starts.specs.Starts.{StartParts}
 use Rattle.cfi_rules.specs.Split.{code_words}
 use Rattle.cfi_rules.specs.declared.reject.Rule.{Rule}
 use Rattle.cfi_verify.proofs.Ended.{asked, ended, is_of, told_of}
-use Rattle.cfi_verify.proofs.Laid.{saves_with}
+use Rattle.cfi_starts.proofs.Laid.{saves_with}
 use Rattle.cfi_verify.proofs.scan.Scan.finish.Goals as goal
 
 pub returns-then-fed-code-clause-rejected : goal.returns-then-fed-code-clause-rejected

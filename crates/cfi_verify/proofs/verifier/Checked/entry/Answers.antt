@@ -4,7 +4,7 @@ use Rattle.rv_word.specs.MemoryMap.{profile_with}
 use Rattle.cfi_rules.specs.Rules.{pair_profile}
 use Rattle.cfi_verify.specs.Scan.{Pair}
 use Rattle.cfi_rules.specs.Split.{code_words, entry_of}
-use Rattle.cfi_verify.proofs.Laid.{laid_under}
+use Rattle.cfi_starts.proofs.Laid.{laid_under}
 use Rattle.cfi_verify.proofs.Told.{entry_told}
 use Rattle.cfi_verify.proofs.verifier.Checked.entry.Goals as goal
 

@@ -2,12 +2,12 @@ use Rattle.std.proofs.Common.{◌-◌, ◌/◌, ◌∙◌, ap, arith, drop, sym}
 use Rattle.rv_word.specs.declared.version.Versions.{Versions}
 use Rattle.rv_word.specs.MemoryMap.{CODE_START, profile_with}
 use Rattle.cfi_unit.specs.Recognise.{recognised}
-use Rattle.cfi_verify.specs.Entries.{starts_at}
+use Rattle.cfi_starts.specs.Entries.{starts_at}
 use Rattle.cfi_rules.specs.Rules.{pair_profile}
 use Rattle.cfi_verify.specs.Scan.{Pair}
 use Rattle.cfi_rules.specs.Split.{code_words, unit_at}
 use Rattle.cfi_rules.proofs.Bytes.{length-code_words}
-use Rattle.cfi_verify.proofs.Laid.{laid_under}
+use Rattle.cfi_starts.proofs.Laid.{laid_under}
 use Rattle.cfi_verify.proofs.InUnits.{start_within}
 use Rattle.cfi_verify.proofs.Told.{start_told, unit_told, unit_untold}
 use Rattle.cfi_verify.proofs.verifier.Checked.unit_at.Goals as goal

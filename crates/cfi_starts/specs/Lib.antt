@@ -1,0 +1,4 @@
+pub mod Starts
+pub mod Entries
+pub mod Leaves
+pub mod Spots

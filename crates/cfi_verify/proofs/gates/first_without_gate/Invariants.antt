@@ -1,0 +1,12 @@
+use Rattle.std.proofs.Common.{take}
+use Rattle.std.specs.List.{list_any}
+use Rattle.cfi_starts.specs.Entries.{signs_at}
+use Rattle.least.specs.Least.{IsLeast}
+use Rattle.cfi_rules.specs.Lines.{leaves_in}
+use Rattle.cfi_rules.specs.Rules.{lacks_gate}
+use Rattle.cfi_starts.specs.Starts.{profile_in}
+use Rattle.cfi_verify.proofs.gates.first_without_gate.Given as goal
+
+abbrev pub invariant-loop-k : goal.invariant-loop-k
+invariant-loop-k l =
+    IsLeast (λ a. list_any (lacks_gate l.starts.graph.version (signs_at (profile_in l.starts) l.starts.listing (leaves_in l.starts.graph.lines)) a) (take l.k l.graph.lines)) l.least

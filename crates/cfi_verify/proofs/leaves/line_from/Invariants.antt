@@ -1,9 +1,0 @@
-use Rattle.std.proofs.Common.{◌-◌}
-use Rattle.cfi_verify.specs.Leaves.{ArePast}
-use Rattle.cfi_verify.proofs.leaves.line_from.Given as goal
-
-abbrev pub invariant-loop-index : goal.invariant-loop-index
-invariant-loop-index l = ArePast l.graph.lines l.index l.address
-
-abbrev pub decreases-loop-index : goal.decreases-loop-index
-decreases-loop-index l = l.count - l.index

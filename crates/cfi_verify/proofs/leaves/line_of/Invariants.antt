@@ -1,9 +1,0 @@
-use Rattle.std.proofs.Common.{◌≤◌, ◌-◌, length}
-use Rattle.cfi_verify.specs.Leaves.{ArePast}
-use Rattle.cfi_verify.proofs.leaves.line_of.Given as goal
-
-abbrev pub invariant-loop-low : goal.invariant-loop-low
-invariant-loop-low l = record { within : l.high ≤ length l.graph.lines; before : ArePast l.graph.lines l.low l.address }
-
-abbrev pub decreases-loop-low : goal.decreases-loop-low
-decreases-loop-low l = l.high - l.low

@@ -1,8 +1,0 @@
-use Rattle.cfi_rules.specs.Rules.{Holds}
-use Rattle.cfi_verify.specs.Scan.{profile_in}
-use Rattle.cfi_verify.proofs.RuleOrder.{rules_more}
-use Rattle.cfi_verify.proofs.starts.Starts.first_of_rules.Goals as goal
-
-pub loop-rule-preserved : goal.loop-rule-preserved
-loop-rule-preserved c = λ words told.
-    rules_more (Holds (profile_in c.args.self.now) words c.args.self.now.graph) c.loop-rule.rule-index _ (c.loop-rule.invariant words told) (c.in_default.ensures words told)
