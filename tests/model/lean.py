@@ -3,7 +3,8 @@
 
     python3 tests/model/lean.py [--program PATH] [--hardens] [--many N] [--seed N] [--levels=-O2,..]
 
-(a) Each case of lean_rows.py and lean_cases.py has to have its literal numbers. (b) Each pair of lean_faults.py has to be rejected
+(a) Each case of lean_rows.py and lean_cases.py has to have its literal numbers, and each row of the tables of the crate
+test_lean those of the model. (b) Each pair of lean_faults.py has to be rejected
 by the rule that its row tells, and its run has to leave its graph where and as the row tells, or to stay in it where it tells that.
 Rules and parts of them are switched off in turn, and some such pair whose run leaves its graph has to be accepted then. (c) No run
 of a drawn pair that is accepted may leave its graph. (d) Where levels are named, the programs of tests/real are compiled, and have
@@ -30,6 +31,7 @@ import lean_faults
 import lean_real
 import lean_rows
 import lean_switched
+import lean_tables
 from confined import started
 from confinement import Told
 from lean_rules import pair_of, told as told_of
@@ -65,6 +67,14 @@ def run_faults(told):
     counts = ", ".join("%s %d" % each for each in sorted(rules.items()))
     print("with a fault: %d pairs (%s); the runs of %d leave their graph" % (sum(rules.values()), counts, len(left)))
     return left
+
+
+def run_tables(told):
+    count, lines = lean_tables.checks()
+    for _ in range(count - len(lines)):
+        told.check(True, "")
+    run_checks(told, lines)
+    print("rows of the tables of test_lean: %d" % count)
 
 
 def run_checks(told, lines):
@@ -103,6 +113,7 @@ def main():
     with tempfile.TemporaryDirectory() as folder:
         told = Told(options.program and str(Path(options.program).resolve()), folder)
         run_cases(told)
+        run_tables(told)
         run_checks(told, lean_switched.checks(run_faults(told)))
         run_checks(told, lean_drawn.checks(options.seed, options.many))
         levels = options.levels.split(",") if options.levels else []

@@ -1,3 +1,4 @@
+pub mod Calm
 pub mod Carry
 pub mod Packed
 pub mod Stream

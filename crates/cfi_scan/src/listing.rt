@@ -2,6 +2,7 @@ ghost use Rattle.std.specs.Prelude.{◌≡◌, ◌+◌, ◌*◌, ◌<◌, ◌≤
 ghost use Rattle.rv_word.specs.MemoryMap.{CODE_START, profile_with};
 ghost use Rattle.cfi_reader.specs.Entries.{is_quiet, is_started};
 ghost use Rattle.cfi_reader.specs.declared.entry.Entry.{Entry};
+ghost use Rattle.cfi_scan.specs.Calm.{is_calm};
 ghost use Rattle.cfi_scan.specs.Pieces.{prologue_count};
 
 use crate::front::Front;
@@ -65,6 +66,28 @@ impl Listing {
         }
         let mut index = from;
         while index < to && entries[index].is_quiet() {
+            index += 1;
+        }
+        index
+    }
+
+    /// The first word from `from` on, and before `to`, of whose unit the kinds of starts ask something; `to` where
+    /// there is none, and `from` where these are not words of the code.
+    #[inline(never)]
+    pub fn next_lively(&self, from: usize, to: usize) -> usize
+        requires { from ≤ to }
+        ensures low { from ≤ result }
+        ensures high { result ≤ to }
+        ensures calm { (k : ℕ) (entry : Entry) → from ≤ k → k < result → slice_get self.now.entries k ≡ Some entry → is_calm entry ≡ true }
+        ensures lively { result < to → to ≤ length self.now.entries → (entry : Entry) → slice_get self.now.entries result ≡ Some entry → is_calm entry ≡ false }
+        ensures beyond { length self.now.entries < to → result ≡ from }
+    {
+        let entries = self.entries.as_slice();
+        if to > entries.len() {
+            return from;
+        }
+        let mut index = from;
+        while index < to && entries[index].is_calm() {
             index += 1;
         }
         index

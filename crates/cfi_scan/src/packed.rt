@@ -1,5 +1,6 @@
 ghost use Rattle.std.specs.Prelude.{◌≡◌};
 ghost use Rattle.cfi_reader.specs.Entries.{is_quiet, is_unit};
+ghost use Rattle.cfi_scan.specs.Calm.{is_calm};
 ghost use Rattle.cfi_scan.specs.Packed.{of_kind, packed, unpacked};
 ghost use Rattle.cfi_reader.specs.declared.entry.Entry.TheVariants as E;
 
@@ -45,6 +46,13 @@ impl Packed {
         ensures { result ≡ is_quiet self.now }
     {
         is_quiet_kind(self.word / FIELDS, self.word % FIELDS)
+    }
+
+    /// Whether the kinds of starts ask nothing of the entry's unit.
+    pub(crate) fn is_calm(&self) -> bool
+        ensures { result ≡ is_calm self.now }
+    {
+        is_calm_kind(self.word / FIELDS, self.word % FIELDS)
     }
 
     /// Whether a unit starts there.
@@ -121,6 +129,13 @@ fn is_quiet_kind(kind: u32, _field: u32) -> bool
     ensures { result ≡ is_quiet (of_kind kind _field) }
 {
     kind < 7
+}
+
+/// Whether the kind with a number is one of which the kinds of starts ask nothing, whatever the field.
+fn is_calm_kind(kind: u32, _field: u32) -> bool
+    ensures { result ≡ is_calm (of_kind kind _field) }
+{
+    kind < 3 || kind == 5 || kind == 23
 }
 
 /// Whether the kind with a number is that of a unit, whatever the field.

@@ -111,7 +111,7 @@ no_leaf (Edge from to ∷ lines) a none = no_leaf lines a (λ i line e. none (su
 no_leaf (Call from to ∷ lines) a none = no_leaf lines a (λ i line e. none (suc i) line e)
 
 -- a leaf in which it lies is the one
-leaf_there : (lines : List GraphLine) (a from to : ℕ) → is_rising key_below (map key_of lines) ≡ true → (i : ℕ) → slice_get lines i ≡ Some (Leaf from to) → in_leaf a (leaf from to) ≡ true → leaf_of (leaves_in lines) a ≡ Some (leaf from to)
+pub leaf_there : (lines : List GraphLine) (a from to : ℕ) → is_rising key_below (map key_of lines) ≡ true → (i : ℕ) → slice_get lines i ≡ Some (Leaf from to) → in_leaf a (leaf from to) ≡ true → leaf_of (leaves_in lines) a ≡ Some (leaf from to)
 unfolding leaves_in
 leaf_there [] a from to r i e inside = absurd (cc)
 leaf_there (Leaf first end ∷ lines) a from to r zero e inside =

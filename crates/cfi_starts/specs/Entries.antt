@@ -1,5 +1,5 @@
 -- What the listing of a code says of an address: what stands there, where it leads, and of which kind its start is.
-use Rattle.std.specs.Prelude.{ℕ, ◌+◌, ◌-◌, ◌*◌, ◌/◌, ◌%◌, ◌==◌, nat_le, min, ◌&&◌, ◌||◌, not, Bool, true, false, List, slice_get, Option, Some, None, is_some, if◌then◌else◌}
+use Rattle.std.specs.Prelude.{◌≡◌, ◌<◌, ℕ, ◌+◌, ◌-◌, ◌*◌, ◌/◌, ◌%◌, ◌==◌, nat_le, min, ◌&&◌, ◌||◌, not, Bool, true, false, List, slice_get, Option, Some, None, is_some, if◌then◌else◌}
 use Rattle.std.specs.List.{list_any}
 use Rattle.rv_word.specs.MemoryMap.{CODE_START, Profile, START}
 use Rattle.cfi_graph.specs.declared.line.GraphLine.{GraphLine}
@@ -98,6 +98,12 @@ next_by k end (Some j) = k + 1 + j
 
 unfoldable pub next_in : List Entry → ℕ → ℕ → ℕ
 next_in entries end k = next_by k end (first_below (λ j. is_started (slice_get entries (k + 1 + j))) (end - (k + 1)))
+
+-- a unit starts at a word, and none between it and a later one
+pub record IsBefore (entries : List Entry) (later k : ℕ) : Type 0 where
+  pub below : k < later
+  pub starts : is_started (slice_get entries k) ≡ true
+  pub none : (j : ℕ) → k < j → j < later → is_started (slice_get entries j) ≡ false
 
 module _ (p : Profile) where
   -- the entry of the word at an address

@@ -10,7 +10,7 @@ use cfi_scan::Entry;
 use cfi_unit::{TargetWord, led, led_near};
 
 /// Where the branch or the jump with this entry at an address leads.
-pub fn edge_in(entry: Entry, address: u64) -> Option<u64>
+pub(crate) fn edge_in(entry: Entry, address: u64) -> Option<u64>
     requires { address < 2 ^ 32 }
     ensures { result ≡ edge_in entry address }
 {
@@ -74,7 +74,7 @@ pub fn gate_in(entry: Entry) -> Option<u32>
 }
 
 /// Whether a unit with this entry saves a site.
-pub fn is_enter(entry: Entry) -> bool
+pub(crate) fn is_enter(entry: Entry) -> bool
     ensures { result ≡ is_enter entry }
 {
     matches!(entry, Entry::Enter)
@@ -107,7 +107,7 @@ pub(crate) fn stands_outside(entry: Entry) -> bool
 }
 
 /// Whether a unit with this entry may go on to the one behind it, or a call come back there.
-pub(crate) fn goes_on(entry: Entry) -> bool
+pub fn goes_on(entry: Entry) -> bool
     ensures { result ≡ goes_on entry }
 {
     !matches!(

@@ -121,7 +121,7 @@ impl<'a> Starts<'a> {
     }
 
     /// Whether a unit goes on to a start of the wrong kind, where `next` is what stands behind it.
-    pub fn goes_wrong(&self, here: &Spot, next: &Spot) -> bool
+    fn goes_wrong(&self, here: &Spot, next: &Spot) -> bool
         requires here { Stands self.now here.now }
         requires next { Stands self.now next.now }
         requires behind { next.now.address ≡ next_at (profile_in self.now) self.now.listing here.now.address }

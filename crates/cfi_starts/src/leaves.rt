@@ -1,17 +1,17 @@
 //! Look-ups among a graph's leaves, functions that call nothing.
 
-ghost use Rattle.std.specs.Prelude.{◌≡◌, IsTrue, map, slice_get, true};
+ghost use Rattle.std.specs.Prelude.{◌≡◌, ◌≤◌, IsTrue, length, map, slice_get, true};
 ghost use Rattle.cfi_graph.specs.Graph.{is_rising, key_below, key_of};
 ghost use Rattle.cfi_pending.specs.Kinds.{in_leaf, leaf_of};
 ghost use Rattle.cfi_rules.specs.Lines.{holds_of, leaves_in};
 ghost use Rattle.cfi_starts.specs.Leaves.{ArePast, is_past, leaf_in};
 
-use cfi_graph::{Graph, GraphLine};
+use cfi_graph::{Graph, GraphLine, Key};
 use std::marker::Model;
 
 /// A function that calls nothing: where its first unit starts, and where its last one ends.
 #[derive(Drop)]
-pub struct LeafRange {
+pub(crate) struct LeafRange {
     from: u64,
     to: u64,
 }
@@ -26,35 +26,52 @@ impl Model for LeafRange {
 
 impl LeafRange {
     /// Where its first unit starts.
-    pub fn from(&self) -> u64
+    pub(crate) fn from(&self) -> u64
         ensures { result ≡ self.now.from }
     {
         self.from
     }
 
     /// Where its last unit ends.
-    pub fn to(&self) -> u64
+    pub(crate) fn to(&self) -> u64
         ensures { result ≡ self.now.to }
     {
         self.to
     }
 
     /// Whether an address lies in it.
-    pub fn holds(&self, address: u64) -> bool
+    pub(crate) fn holds(&self, address: u64) -> bool
         ensures { result ≡ in_leaf address self.now }
     {
         self.from <= address && address < self.to
     }
 }
 
+/// How many lines stand before those of classes. It tells where to look, and no answer rests on it.
+pub(crate) fn heads_of(graph: &Graph) -> u64
+    ensures { result ≤ length graph.now.lines }
+{
+    let mut low = 0;
+    let mut high = graph.lines();
+    while low < high {
+        let middle = low + (high - low) / 2;
+        if graph.line(middle).key().is_below(Key::Label(0)) {
+            low = middle + 1;
+        } else {
+            high = middle;
+        }
+    }
+    low
+}
+
 /// The first line that does not stand before that of any leaf in which an address lies: leaves rise and do not
-/// meet, so its place is halved in.
-pub(crate) fn line_of(graph: &Graph, address: u64) -> u64
+/// meet, so its place is halved in, among so many lines.
+pub(crate) fn line_of(graph: &Graph, heads: u64, address: u64) -> u64
     requires { IsTrue (is_rising key_below (map key_of graph.now.lines)) }
     ensures { ArePast graph.now.lines result address }
 {
     let mut low = 0;
-    let mut high = graph.lines();
+    let mut high = graph.lines().min(heads);
     while low < high {
         let middle = low + (high - low) / 2;
         let line = graph.line(middle);
@@ -68,14 +85,14 @@ pub(crate) fn line_of(graph: &Graph, address: u64) -> u64
 }
 
 /// The same, where it likely is a given one: it is halved in only where this one is not it.
-pub(crate) fn line_near(graph: &Graph, likely: u64, address: u64) -> u64
+pub(crate) fn line_near(graph: &Graph, heads: u64, likely: u64, address: u64) -> u64
     requires { IsTrue (is_rising key_below (map key_of graph.now.lines)) }
     ensures { ArePast graph.now.lines result address }
 {
     if are_past(graph, likely, address) && !is_past_at(graph, likely, address) {
         likely
     } else {
-        line_of(graph, address)
+        line_of(graph, heads, address)
     }
 }
 

@@ -2,8 +2,7 @@
 //! lines, classes and leaves. What the rules ask of them stands a layer above.
 #![tactic(auto)]
 
-pub use entries::{edge_in, gate_in, is_enter};
-pub use leaves::LeafRange;
+pub use entries::{gate_in, goes_on};
 pub use lines::{is_among, is_beside, read_of};
 pub use spot::Spot;
 pub use starts::Starts;

@@ -57,22 +57,22 @@ pub(crate) fn line_at(graph: &Graph, address: u64) -> Option<&GraphLine>
     line_with(graph, Key::Address(address), graph.lines())
 }
 
-/// The class with a label.
-pub(crate) fn class_with(graph: &Graph, label: u32) -> Option<Class<'_>>
+/// The class with a label, behind so many lines.
+pub(crate) fn class_with(graph: &Graph, heads: u64, label: u32) -> Option<Class<'_>>
     requires ordered { IsTrue (is_rising key_below (map key_of graph.now.lines)) }
     requires targets { IsTrue (list_all targets_rise graph.now.lines) }
     ensures value { result ≡ class_with graph.now.lines label }
     ensures rising { IfSome result (λ class. IsTrue (is_rising nat_lt class.targets)) }
 {
-    found_class(graph, label)
+    found_class(graph, heads, label)
 }
 
-fn found_class(graph: &Graph, label: u32) -> Option<Class<'_>>
+fn found_class(graph: &Graph, heads: u64, label: u32) -> Option<Class<'_>>
     requires { IsTrue (is_rising key_below (map key_of graph.now.lines)) }
     ensures { result ≡ class_with graph.now.lines label }
 {
-    // Classes stand first, and most graphs number them from 1.
-    let likely = u64::from(label).saturating_sub(1);
+    // Most graphs number their classes from 1.
+    let likely = heads.saturating_add(u64::from(label).saturating_sub(1));
     line_with(graph, Key::Label(label), likely)?.class()
 }
 
@@ -112,13 +112,13 @@ fn serves(sort: Sort, kind: SiteKind, which: TargetWord) -> bool
 }
 
 /// The targets of the class with a label, for a computed transfer that it serves.
-pub(crate) fn targets_for(graph: &Graph, asked: Asks) -> Option<&[u64]>
+pub(crate) fn targets_for(graph: &Graph, heads: u64, asked: Asks) -> Option<&[u64]>
     requires ordered { IsTrue (is_rising key_below (map key_of graph.now.lines)) }
     requires targets { IsTrue (list_all targets_rise graph.now.lines) }
     ensures value { option_copied result ≡ targets_for graph.now.lines asked.kind asked.which asked.label }
     ensures rising { IfSome result (λ targets. IsTrue (is_rising nat_lt targets.now)) }
 {
-    let class = class_with(graph, asked.label)?;
+    let class = class_with(graph, heads, asked.label)?;
     if serves(class.sort(), asked.kind, asked.which) {
         Some(class.targets())
     } else {

@@ -4,6 +4,7 @@ ghost use Rattle.std.specs.Prelude.{◌≡◌, ◌+◌, ◌*◌, ◌/◌, ◌<�
 ghost use Rattle.cfi_pending.specs.Kinds.{leaf_of};
 ghost use Rattle.cfi_rules.specs.Lines.{leaves_in};
 ghost use Rattle.cfi_starts.specs.Entries.{call_at, edge_in, end_of, gate_in, is_enter, next_at, next_in};
+ghost use Rattle.cfi_starts.specs.Leaves.{ArePast};
 ghost use Rattle.cfi_starts.specs.Spots.{Stands};
 ghost use Rattle.cfi_starts.specs.Starts.{profile_in};
 
@@ -77,30 +78,15 @@ impl<'a> Starts<'a> {
         }
     }
 
-    /// What stands where the first unit does.
-    pub fn first_spot(&self) -> Spot
+    /// The same, by going on from a line before which none is its leaf's.
+    pub fn spot_from(&self, line: u64, address: u64) -> Spot
+        requires { ArePast self.now.graph.lines line address }
         ensures stands { Stands self.now result }
-        ensures here { result.address ≡ (profile_in self.now).units_from }
+        ensures here { result.address ≡ address }
     {
-        self.spot_near(0, self.units_from())
-    }
-
-    /// What stands where the unit ends that stands at an address past the prologue.
-    pub fn spot_behind(&self, here: &Spot) -> Spot
-        requires stands { Stands self.now here.now }
-        requires low { (profile_in self.now).units_from ≤ here.now.address }
-        requires inside { here.now.address < (profile_in self.now).units_from + 4 * end_of (profile_in self.now) self.now.listing }
-        ensures stands { Stands self.now result }
-        ensures next { result.address ≡ next_at (profile_in self.now) self.now.listing here.now.address }
-    {
-        let line = here.line;
-        let from = here.address;
-        let start = self.units_from();
-        let index = self.next_word((from - start) / 4);
-        let address = start + 4 * index;
         Spot {
             address,
-            entry: self.word(index),
+            entry: self.entry_at(address),
             line: self.line_from(line, address),
         }
     }

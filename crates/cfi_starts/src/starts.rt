@@ -1,13 +1,14 @@
 //! Where units start, with the graph.
 
-ghost use Rattle.std.specs.Prelude.{◌≡◌, ◌+◌, ◌*◌, ◌/◌, ◌%◌, ◌<◌, ◌≤◌, ◌^◌, IfSome, IsTrue, nat_lt};
+ghost use Rattle.std.specs.Prelude.{◌≡◌, ◌+◌, ◌*◌, ◌/◌, ◌%◌, ◌<◌, ◌≤◌, ◌^◌, ℕ, IfNone, IfSome, IsTrue, false, nat_lt, slice_get};
 ghost use Rattle.std.specs.Option.{option_copied};
 ghost use Rattle.rv_word.specs.MemoryMap.{CODE_SIZE, CODE_START};
 ghost use Rattle.cfi_graph.specs.Graph.{IsGraph, has_leaves, is_rising};
 ghost use Rattle.cfi_pending.specs.Kinds.{leaf_of};
 ghost use Rattle.cfi_scan.specs.Pieces.{prologue_count};
+ghost use Rattle.cfi_reader.specs.Entries.{is_started};
 ghost use Rattle.cfi_reader.specs.declared.entry.Entry.TheVariants as E;
-ghost use Rattle.cfi_starts.specs.Entries.{count_of, entry_at, or_inside, starts_at};
+ghost use Rattle.cfi_starts.specs.Entries.{IsBefore, count_of, entry_at, or_inside, starts_at};
 ghost use Rattle.cfi_rules.specs.Lines.{class_with, leaves_in, line_at, targets_for};
 ghost use Rattle.cfi_starts.specs.Leaves.{ArePast};
 ghost use Rattle.cfi_starts.specs.Starts.{AreStarts, profile_in};
@@ -29,6 +30,7 @@ use std::marker::Model;
 pub struct Starts<'a> {
     listing: Listing,
     graph: &'a Graph,
+    heads: u64,
 }
 
 impl<'a> Model for Starts<'a> {
@@ -47,7 +49,11 @@ impl<'a> Starts<'a> {
         requires { AreStarts listing graph.now }
         ensures { result ≡ record { listing = listing; graph = graph.now } }
     {
-        Starts { listing, graph }
+        Starts {
+            listing,
+            graph,
+            heads: leaves::heads_of(graph),
+        }
     }
 
     /// How many words the code has.
@@ -150,7 +156,7 @@ impl<'a> Starts<'a> {
 
     /// The entry of the word so many bytes past an address.
     #[tactic(auto, unfolding(crate::specs::Entries::entry_at))]
-    pub fn entry_past(&self, address: u64, bytes: u64) -> Entry
+    pub(crate) fn entry_past(&self, address: u64, bytes: u64) -> Entry
         requires few { bytes ≤ 12 }
         requires round { bytes % 4 ≡ 0 }
         ensures { result ≡ entry_at (profile_in self.now) self.now.listing.entries (address + bytes) }
@@ -184,6 +190,21 @@ impl<'a> Starts<'a> {
         }
     }
 
+    /// Where the last unit starts before a word, counted in words after the prologue.
+    pub fn before(&self, index: u64) -> Option<u64>
+        ensures some { IfSome result (λ k. IsBefore self.now.listing.entries index k) }
+        ensures none { IfNone result ((k : ℕ) → k < index → is_started (slice_get self.now.listing.entries k) ≡ false) }
+    {
+        let mut at = index;
+        while at > 0 {
+            at -= 1;
+            if self.listing.starts(at as usize) {
+                return Some(at);
+            }
+        }
+        None
+    }
+
     /// Where the opening's call leads.
     pub fn entry(&self) -> Option<u64>
         ensures { result ≡ entry_of (profile_in self.now) self.now.listing.prologue }
@@ -202,7 +223,7 @@ impl<'a> Starts<'a> {
         ensures { ArePast self.now.graph.lines result address }
     {
         if self.has_leaves() {
-            leaves::line_of(self.graph, address)
+            leaves::line_of(self.graph, self.heads, address)
         } else {
             0
         }
@@ -220,7 +241,7 @@ impl<'a> Starts<'a> {
     pub(crate) fn line_near(&self, likely: u64, address: u64) -> u64
         ensures { ArePast self.now.graph.lines result address }
     {
-        leaves::line_near(self.graph, likely, address)
+        leaves::line_near(self.graph, self.heads, likely, address)
     }
 
     /// The leaf in which an address lies, looked for from a line before which none is its line.
@@ -243,7 +264,7 @@ impl<'a> Starts<'a> {
         ensures value { result ≡ class_with self.now.graph.lines label }
         ensures rising { IfSome result (λ class. IsTrue (is_rising nat_lt class.targets)) }
     {
-        lines::class_with(self.graph, label)
+        lines::class_with(self.graph, self.heads, label)
     }
 
     /// The targets of the class with a label, for a computed transfer that it serves.
@@ -251,7 +272,7 @@ impl<'a> Starts<'a> {
         ensures value { option_copied result ≡ targets_for self.now.graph.lines asked.kind asked.which asked.label }
         ensures rising { IfSome result (λ targets. IsTrue (is_rising nat_lt targets.now)) }
     {
-        lines::targets_for(self.graph, asked)
+        lines::targets_for(self.graph, self.heads, asked)
     }
 }
 

@@ -1,12 +1,13 @@
 -- What one pass over a code and a graph finds out. Only private contracts cite this.
-use Rattle.std.specs.Prelude.{◌≡◌, ◌≢◌, ℕ, ◌+◌, ◌*◌, ◌<◌, ◌≤◌, ◌==◌, ◌&&◌, nat_lt, Bool, true, false, List, Some, None, slice_get}
+use Rattle.std.specs.Prelude.{◌≡◌, ◌≢◌, ℕ, ◌+◌, ◌*◌, ◌<◌, ◌≤◌, ◌==◌, ◌&&◌, ◌⊎◌, nat_lt, is_some, Bool, true, false, List, Some, None, slice_get}
 use Rattle.std.specs.List.{list_any}
 use Rattle.rv_word.specs.MemoryMap.{CODE_START, Profile}
 use Rattle.cfi_graph.specs.declared.line.GraphLine.{GraphLine}
+use Rattle.cfi_graph.specs.declared.line.GraphLine.TheVariants.{Leaf}
 use Rattle.cfi_graph.specs.declared.line.Key.TheVariants.{Address}
 use Rattle.cfi_graph.specs.Graph.{GraphParts, key_below, key_of}
 use Rattle.cfi_scan.specs.Pieces.{Listed, prologue_count}
-use Rattle.cfi_starts.specs.Entries.{count_of, entry_at, fails_leaf_at, fails_target_at, lacks_end_at, signs_at, stands_wrong_at}
+use Rattle.cfi_starts.specs.Entries.{count_of, end_of, enters_at, entry_at, fails_leaf_at, fails_target_at, gate_at, goes_on, lacks_end_at, next_in, signs_at, stands_wrong_at}
 use Rattle.cfi_verify.specs.Fails.{is_barred_at, is_barred_busy_at, is_stop_entry, fails_at, misses_start_at, fails_unlisted_at, fails_unused_at, fails_site_at, fails_astray_at}
 use Rattle.cfi_rules.specs.Lines.{leaves_in, line_at}
 use Rattle.cfi_rules.specs.Rules.{lacks_gate}
@@ -54,3 +55,32 @@ module _ (p : Profile) where
   -- no leaf begins anywhere that is not of whole units
   abbrev pub AreWhole : Listed → List GraphLine → Type 0
   AreWhole t lines = (a : ℕ) → list_any (lacks_end_at p t a) lines ≡ false
+
+  -- no unit goes on to a word
+  abbrev pub IsShut : Listed → ℕ → Type 0
+  IsShut t j = (k : ℕ) → k < end_of p t → next_in t.entries (end_of p t) k ≡ j → goes_on (entry_at p t.entries (p.units_from + 4 * k)) ≡ false
+
+  -- or a gate alone that stands directly before it
+  abbrev pub IsEntered : Listed → ℕ → Type 0
+  IsEntered t j =
+      (k : ℕ) → k < end_of p t → next_in t.entries (end_of p t) k ≡ j →
+      (goes_on (entry_at p t.entries (p.units_from + 4 * k)) ≡ false) ⊎ ((is_some (gate_at p t (p.units_from + 4 * k)) ≡ true) × (k + 1 ≡ j))
+
+  abbrev pub IsShutAt : Listed → ℕ → Type 0
+  IsShutAt t a = (j : ℕ) → a ≡ p.units_from + 4 * j → IsShut t j
+
+  -- where a leaf begins and where it ends
+  abbrev pub IsShutLeaf : Listed → GraphLine → Type 0
+  IsShutLeaf t (Leaf from to) = IsShutAt t from × IsShutAt t to
+  IsShutLeaf t other = Unit {0}
+
+  abbrev pub AreShut : Listed → List GraphLine → Type 0
+  AreShut t lines = (i : ℕ) (line : GraphLine) → slice_get lines i ≡ Some line → IsShutLeaf t line
+
+  -- what is asked of a word alone, and of what goes on to an enter, or to a gate before one
+  pub record WordHolds (t : Listed) (graph : GraphParts) (j : ℕ) : Type 0 where
+    pub unit : is_barred_at p t graph (p.units_from + 4 * j) ≡ false
+    pub stands : stands_wrong_at p t (leaves_in graph.lines) (p.units_from + 4 * j) ≡ false
+    pub target : fails_target_at p t graph.lines (p.units_from + 4 * j) ≡ false
+    pub enter : enters_at p t (p.units_from + 4 * j) ≡ true → IsEntered t j
+    pub gate : is_some (gate_at p t (p.units_from + 4 * j)) ≡ true → enters_at p t (p.units_from + 4 * j + 4) ≡ true → IsShut t j

@@ -5,9 +5,9 @@
 pub(crate) enum Program {
     Leaf,
     Enter,
-    H,
-    P,
-    Q,
+    CallsLeaf,
+    CallsByPointer,
+    JumpsByPointer,
 }
 
 impl Program {
@@ -16,9 +16,9 @@ impl Program {
         match self {
             Program::Leaf => &LEAF,
             Program::Enter => &ENTER,
-            Program::H => &H,
-            Program::P => &P,
-            Program::Q => &Q,
+            Program::CallsLeaf => &CALLS_LEAF,
+            Program::CallsByPointer => &CALLS_BY_POINTER,
+            Program::JumpsByPointer => &JUMPS_BY_POINTER,
         }
     }
 
@@ -27,9 +27,9 @@ impl Program {
         match self {
             Program::Leaf => LEAF_GRAPH,
             Program::Enter => ENTER_GRAPH,
-            Program::H => H_GRAPH,
-            Program::P => P_GRAPH,
-            Program::Q => Q_GRAPH,
+            Program::CallsLeaf => CALLS_LEAF_GRAPH,
+            Program::CallsByPointer => CALLS_BY_POINTER_GRAPH,
+            Program::JumpsByPointer => JUMPS_BY_POINTER_GRAPH,
         }
     }
 }
@@ -59,7 +59,7 @@ pub(crate) const ENTER_GRAPH: &[u8] =
 
 /// Calls a function that calls nothing, which writes three bytes by a system call.
 #[rattlefmt::skip]
-pub(crate) static H: [u32; 37] = [
+pub(crate) static CALLS_LEAF: [u32; 37] = [
     0x00100073, 0x00100073, 0x00100073, 0x10000137, 0x10000237, 0xfff20213, 0x600001b7, 0x00818193,
     0x010000ef, 0x05d00893, 0x00000073, 0x0180006f, 0x03019f13, 0x000f1463, 0xfd1ff06f, 0x0011b023,
     0x00818193, 0xff010113, 0x00417fb3, 0x001fb423, 0x024000ef, 0x00000513, 0x00813083, 0x01010113,
@@ -68,12 +68,15 @@ pub(crate) static H: [u32; 37] = [
 ];
 
 /// Its graph.
-pub(crate) const H_GRAPH: &[u8] =
+pub(crate) const CALLS_LEAF_GRAPH: &[u8] =
     b"rvcfi-graph 3\ncode 40000000 00000094\nleaf 40000074 40000090\ncall 4000000c 40000030\nedge 4000002c 40000044\ncall 40000050 40000074\nend\n";
+
+/// Its data.
+pub(crate) const CALLS_LEAF_DATA: &[u8] = b"\x68\x69\x0a";
 
 /// Calls one of two functions through a pointer.
 #[rattlefmt::skip]
-pub(crate) static P: [u32; 73] = [
+pub(crate) static CALLS_BY_POINTER: [u32; 73] = [
     0x00100073, 0x00100073, 0x00100073, 0x10000137, 0x10000237, 0xfff20213, 0x600001b7, 0x00818193,
     0x010000ef, 0x05d00893, 0x00000073, 0x0180006f, 0x03019f13, 0x000f1463, 0xfd1ff06f, 0x0011b023,
     0x00818193, 0xff010113, 0x00417fb3, 0x001fb423, 0x000102b7, 0x0002b283, 0x00028f93, 0xffcfff93,
@@ -87,16 +90,16 @@ pub(crate) static P: [u32; 73] = [
 ];
 
 /// Its graph.
-pub(crate) const P_GRAPH: &[u8] =
+pub(crate) const CALLS_BY_POINTER_GRAPH: &[u8] =
     b"rvcfi-graph 3\ncode 40000000 00000124\ncallclass 00001 400000b0 400000e8\ncall 4000000c 40000030\nedge 4000002c 40000044\nsite 40000058 call 00001\nedge 400000b4 400000d0\nedge 400000ec 40000108\nend\n";
 
 /// Its data.
-pub(crate) const P_DATA: &[u8] =
+pub(crate) const CALLS_BY_POINTER_DATA: &[u8] =
     b"\xb0\x00\x00\x40\x00\x00\x00\x00\xe8\x00\x00\x40\x00\x00\x00\x00";
 
 /// Jumps through a pointer to one of two functions, one of which is called through another pointer too.
 #[rattlefmt::skip]
-pub(crate) static Q: [u32; 76] = [
+pub(crate) static JUMPS_BY_POINTER: [u32; 76] = [
     0x00100073, 0x00100073, 0x00100073, 0x10000137, 0x10000237, 0xfff20213, 0x600001b7, 0x00818193,
     0x010000ef, 0x05d00893, 0x00000073, 0x0180006f, 0x03019f13, 0x000f1463, 0xfd1ff06f, 0x0011b023,
     0x00818193, 0x000102b7, 0x0002b283, 0x00028f93, 0xffcfff93, 0x40000f37, 0x41ef8f33, 0x014f5f13,
@@ -110,12 +113,9 @@ pub(crate) static Q: [u32; 76] = [
 ];
 
 /// Its graph.
-pub(crate) const Q_GRAPH: &[u8] =
+pub(crate) const JUMPS_BY_POINTER_GRAPH: &[u8] =
     b"rvcfi-graph 3\ncode 40000000 00000130\ncallclass 00001 400000a4\njumpclass 00002 40000088 400000a4\ncall 4000000c 40000030\nedge 4000002c 40000044\nsite 4000004c jump 00002\nedge 400000a8 400000c4\nsite 400000dc call 00001\nend\n";
 
 /// Its data.
-pub(crate) const Q_DATA: &[u8] =
+pub(crate) const JUMPS_BY_POINTER_DATA: &[u8] =
     b"\x88\x00\x00\x40\x00\x00\x00\x00\xa4\x00\x00\x40\x00\x00\x00\x00";
-
-/// Its data.
-pub(crate) const H_DATA: &[u8] = b"\x68\x69\x0a";
