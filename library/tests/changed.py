@@ -1,4 +1,5 @@
-"""Pairs that are drawn: each is one of the tutorial's, or one that has every kind of unit, with one byte, word, line or length changed."""
+"""Pairs that are drawn: each is one of the tutorial's, one that has every kind of unit, or a lean one, with one byte, word, line or length
+changed."""
 
 import random
 import struct
@@ -9,13 +10,15 @@ sys.path[:0] = [str(Path(__file__).resolve().parents[2] / name) for name in ("be
 
 import images
 import worked
+from lean_images import lean_pair
 
 PAGE, HEADERS, CODE = 0x1000, 232, 0x40000000
 MOST_CODE = 1 << 18  # words of code at most
 UNITS = 16  # words before the first unit, of an image for one hart
 PAIRS = Path(__file__).resolve().parent / "pairs"
 LINES = [b"", b"end", b"class 00001", b"class 00002 4000042c", b"edge 40000968 40000758", b"call 4000005c 400002a0", b"calls 63 64 93",
-         b"calls 64 63", b"calls 2048", b"rvcfi-graph 2", b"site 400006fc jump 00001", b"site 400006fc call 00002", b"code 40000000 00000978"]
+         b"calls 64 63", b"calls 2048", b"rvcfi-graph 2", b"site 400006fc jump 00001", b"site 400006fc call 00002", b"code 40000000 00000978",
+         b"rvcfi-graph 3", b"leaf 40000070 40000090", b"callclass 00001 4000007c"]
 WORDS = [0x00000073, 0x00100073, 0x00008067, 0x00000013, 0x000F8067, 0x00001037, 0x00002037, 0xFFFFFFFF, 0]
 
 
@@ -27,7 +30,8 @@ def starts():
     """The pairs that are changed: all of them are accepted."""
     image, graph, _ = images.pair(2048, 64, grouped=True)
     built = [worked.shared(), worked.q(1), worked.apart(1)]
-    return [recorded("visitors"), recorded("plugin"), (image, graph)] + [(each.image, each.graph) for each in built]
+    lean = [recorded("leaf"), lean_pair(2048, 64)[:2]]
+    return [recorded("visitors"), recorded("plugin"), (image, graph), *lean] + [(each.image, each.graph) for each in built]
 
 
 def flipped(rng, content, low, high):

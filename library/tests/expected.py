@@ -1,14 +1,6 @@
-"""What `rvcfi verify` answers of any two files, by docs/FORMATS.md and docs/MACHINE.md alone: the image's first fault, then the
-graph's, then the rules of tests/harts/rules.py."""
+"""What `rvcfi verify` answers of files that are no image and no graph, by docs/FORMATS.md alone: the image's first fault, or the graph's."""
 
 import re
-import struct
-import sys
-from pathlib import Path
-
-sys.path[:0] = [str(Path(__file__).resolve().parents[2] / "tests" / "harts")]
-
-from rules import verdict
 
 PAGE, HEADERS = 0x1000, 232
 CODE, CODE_SIZE, DATA, DATA_SIZE, SHADOW = 0x40000000, 0x100000, 0x10000, 0xFFF1000, 0x60000000
@@ -158,15 +150,3 @@ def graph_fault(text, reader=Text):
         return "Graph %d %s" % why.args
     return None
 
-
-def answer(image, graph):
-    """The status and the text."""
-    fault = image_fault(image)
-    if fault:
-        return 1, "refused 22 %s\n" % fault
-    fault = graph_fault(graph)
-    if fault:
-        return 1, "refused 23 %s\n" % fault
-    code = image[PAGE:PAGE + field(image, 152, 8)]
-    said = verdict(2 if field(image, 216, 8) == SHADOW_SIZE[2] else 1, list(struct.unpack("<%dI" % (len(code) // 4), code)), graph)
-    return 0 if said == "accepted" else 1, said + "\n"

@@ -1,4 +1,5 @@
-"""The statement `IsConfined` of crates/cfi_confined/specs/Confined.antt, definition by definition, over the machine of tests/harts.
+"""The statement `IsConfined` of crates/cfi_confined/specs/Confined.antt, definition by definition and of all versions, over the machine of
+tests/harts.
 
 It reads that page, the machine and the graph's lines: no unit, no template and no rule. The head of each function names the
 definition that it is. Where the statement asks for some `newer` list of pending calls, `moves` gives the one that there can be, since
@@ -13,7 +14,7 @@ from typing import NamedTuple, Optional
 sys.path[:0] = [str(Path(__file__).resolve().parents[1] / "harts")]
 
 from machine import CODE as CODE_START, CODE_SIZE, CODE_TAIL, DATA_END, SHADOW, SHADOW_SIZE, START, Machine
-from program import CLOSING, UNITS
+from program import first_unit
 from rules import branch_offset
 
 PART_SIZE, MOST_PENDING = SHADOW_SIZE[1], 8191
@@ -26,9 +27,16 @@ class Profile(NamedTuple):
     opening_call: int
     closing: int
     units_from: int
+    callee_saves: bool
 
 
-PROFILES = {version: Profile(harts, UNITS[version] - 12, CLOSING[version], UNITS[version]) for version, harts in ((1, 1), (2, 8))}
+HARTS = {1: 1, 2: 8}  # by the version of an image
+
+
+def pair_profile(version, graph):
+    """`pair_profile`, by the versions of an image and a graph."""
+    first = first_unit(version, graph)
+    return Profile(HARTS[version], first - 12, first - 8, first, graph == 3)
 
 
 class Instr(NamedTuple):
@@ -116,7 +124,7 @@ def may_start(built, machine):
     """`MayRun` and `MayStart`: each hart at the opening with its number in x10, and the image's code in memory."""
     kept = {CODE_START + k: byte for k, byte in enumerate(built.code)}
     found = {at: byte for at, byte in machine.bytes.items() if CODE_START <= at < CODE_START + CODE_SIZE + CODE_TAIL}
-    return (1 <= len(machine.pcs) <= PROFILES[built.version].harts and found == kept
+    return (1 <= len(machine.pcs) <= HARTS[built.version] and found == kept
             and all(pc == START for pc in machine.pcs) and all(x[10] == k and x[0] == 0 for k, x in enumerate(machine.registers)))
 
 
@@ -162,7 +170,8 @@ class Statement:
     pending calls answers those that are pending then, the newest first, or None."""
 
     def __init__(self, version, graph):
-        self.p, self.graph = PROFILES[version], GraphParts(graph)
+        self.graph = GraphParts(graph)
+        self.p = pair_profile(version, self.graph.version)
 
     def has(self, *line):
         """`Contains graph.lines`"""
@@ -170,11 +179,15 @@ class Statement:
 
     def before_site(self, kind):
         """`before_site`"""
-        return {"jump": 48, "call": 76}[kind]
+        return 56 if self.graph.version == 3 else {"jump": 48, "call": 76}[kind]
 
     def before_call(self):
         """`before_call`"""
-        return 28
+        return 0 if self.graph.version == 3 else 28
+
+    def past_target(self, kind):
+        """`past_target`"""
+        return 8 if (self.graph.version, kind) == (3, "call") else 0
 
     def most_skip(self):
         """`most_skip`"""
@@ -187,7 +200,7 @@ class Statement:
     def is_site_to(self, kind, site, to):
         """`IsSiteTo`"""
         lines = self.graph.lines
-        return any(self.serves(line[0], kind) and self.has("site", site, kind, line[1]) and to in line[2]
+        return any(self.serves(line[0], kind) and self.has("site", site, kind, line[1]) and to - self.past_target(kind) in line[2]
                    for line in lines if line[0].endswith("class"))
 
     def no_site(self, site):
@@ -271,9 +284,26 @@ class Statement:
         """`WritesOwn`, by the bytes that the step has written."""
         return all(memory[a] == byte for a, byte in memory.was.items() if self.is_kept(part, n, a))
 
+    def most_calls(self):
+        """`most_calls`"""
+        return MOST_PENDING + 1 if self.p.callee_saves else MOST_PENDING
+
+    def slot_for(self, n):
+        """`slot_for`"""
+        return max(n - 1, 0) if self.p.callee_saves else n
+
+    def saves_newest(self, part, pending, memory):
+        """`SavesNewest`, by the bytes of the slot before the step and after it."""
+        if not self.p.callee_saves or not pending:
+            return True
+        at = range(slot(part, len(pending) - 1), slot(part, len(pending)))
+        before = bytes(memory.was.get(a, memory.get(a, 0)) for a in at)
+        after = bytes(memory.get(a, 0) for a in at)
+        return after in (before, pending[0].to_bytes(8, "little"))
+
     def may_be_pending(self, newer):
-        """`length newer ≤ MOST_PENDING`, in `ConfinedAlong`."""
-        return len(newer) <= MOST_PENDING
+        """`length newer ≤ most_calls p`, in `ConfinedAlong`."""
+        return len(newer) <= self.most_calls()
 
     def after_step(self, machine, hart, pending):
         """One step of `ConfinedAlong`: the clauses that fail, how it ended, and the pending calls after it."""
@@ -283,14 +313,15 @@ class Statement:
         turn = TURNS[stop[0]] if stop else "Ran"
         failing = [] if self.may_stop(pc, turn) else ["MayStop " + turn]
         failing += [] if self.may_ecall(instr, pc, number) else ["MayEcall"]
-        failing += [] if self.writes_own(part_of(hart), len(pending), machine.bytes) else ["WritesOwn"]
+        failing += [] if self.writes_own(part_of(hart), self.slot_for(len(pending)), machine.bytes) else ["WritesOwn"]
+        failing += [] if self.saves_newest(part_of(hart), pending, machine.bytes) else ["SavesNewest"]
         newer = pending
         if turn == "Ran":  # `OnRan`
             newer = self.moves(code, instr, pc, pending, machine.pcs[hart])
             if newer is None:
                 failing.append("Moves " + row_of(instr))
             elif not self.may_be_pending(newer):
-                failing.append("MOST_PENDING")
+                failing.append("most_calls")
         return failing, turn, newer
 
     def failure(self, machine, steps) -> Optional[Failure]:

@@ -378,10 +378,10 @@ def depths():
     yield Fault("a call too many that writes the next hart's part", deep(2), "Unit", UNITS[2] + 20, ("WritesOwn",), 2, 0, limit)
     bare = small(label("bare"), a_bare_call("bare"))
     at = bare.labels["bare"]
-    yield Fault("a call too many that writes nothing", relined(bare, None, "call %08x %08x" % (at - 28, at)), "Unit", at, ("MOST_PENDING",),
+    yield Fault("a call too many that writes nothing", relined(bare, None, "call %08x %08x" % (at - 28, at)), "Unit", at, ("most_calls",),
                 limit=limit)
     again = small(lambda p: p.jump(START))  # the opening's call writes the first slot each time, and always the same
-    yield Fault("a jump to the opening", again, "Target", UNITS[1] - 12, ("MOST_PENDING",), limit=limit)
+    yield Fault("a jump to the opening", again, "Target", UNITS[1] - 12, ("most_calls",), limit=limit)
 
 
 def harmless(built, at):

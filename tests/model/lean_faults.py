@@ -167,7 +167,7 @@ def enters_changed(built, at):
     begun = at["f enter"]
     other = lean(SAVED, LOADED, call("f"), RESTORED, function("f"), plain(addi(1, 5, 0)), a_return, data=pointers("main body"))
     saves = other.labels["f enter"] + 12
-    yield Fault("an enter that saves another register", patched(other, {saves: s_form(SD, 3, 5, 0)}), "Unit", saves, ("Saves",))
+    yield Fault("an enter that saves another register", patched(other, {saves: s_form(SD, 3, 5, 0)}), "Unit", saves, ("SavesNewest",))
     yield Fault("an enter that saves behind its slot", patched(built, {begun + 12: s_form(SD, 3, 1, 8)}), "Unit", begun + 12, ("WritesOwn",))
     far = lean(MAIN, function("f"), SAVED, call("g"), RESTORED, function("g"), a_return)
     yield Fault("an enter that takes two slots", patched(far, {far.labels["f enter"] + 16: addi(3, 3, 16)}), "Unit",

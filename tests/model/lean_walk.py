@@ -1,25 +1,24 @@
 """Runs of pairs with graphs of version 3, and whether they stay in their graph.
 
-Two statements are asked of each step. That of confined.py speaks of instructions and the graph's lines alone; here it has the offsets
-of version 3. The other goes by units: which unit follows which, what is chosen, and what registers and the shadow stack hold where a
-unit starts, fresh or saved. A clause that fails is told by its name: those of confined.py, and
+Two statements are asked of each step. That of confined.py speaks of instructions and the graph's lines alone. The other goes by units:
+which unit follows which, what is chosen, and what registers and the shadow stack hold where a unit starts, fresh or saved. A clause that
+fails is told by its name: those of confined.py, and
 
     Walk KIND      no unit that may follow one of this kind with these pending sites; Begin: the first is not the opening
     Choice KIND    it may follow, but the registers at the unit's start choose another one
     Within KIND    the word is none of the unit that was begun last
     End TURN       a unit ends so that may not
     x4, pending, x3, slots, x1       at a unit's start, the mask; how many sites pend; the registers and the slots that hold them
-    Saves          what is written into the slot of the newest call is another thing than its site
 """
 
-from confined import PART_SIZE, PROFILES, Failure, Profile, Statement, Watched, part_of, slot
+from confined import PART_SIZE, Failure, Statement, Watched, part_of, slot
 from lean_program import PAST
 from machine import ALL, CODE, DATA_END, SHADOW, START
 from program import HANDLERS
 from rules import GUARDED, STOP
 from runs import Run
 
-MASK, MOST_PENDING = 2**28 - 1, 8192
+MASK, MOST_CALLS = 2**28 - 1, 8192
 BAD_TARGET, BAD_RETURN, DEEP = sorted(HANDLERS)
 
 
@@ -70,7 +69,7 @@ class UnitStatement:
             left = [(pending[0], pending[1:])] if pending else []
             return left + [(BAD_RETURN, pending)] * (kind == "return")
         if kind == "enter":
-            return [(after if len(pending) < MOST_PENDING else DEEP, pending)]
+            return [(after if len(pending) < MOST_CALLS else DEEP, pending)]
         return [(BAD_TARGET, pending)] * (kind in (STOP, GUARDED)) + [(after, pending)] * (kind != STOP)
 
     def chosen(self, at, pending, x):
@@ -122,37 +121,18 @@ class UnitStatement:
 
 
 class LeanStatement(Statement):
-    """The statement of confined.py with the offsets of version 3, and that of units where a pair splits as a whole."""
+    """The statement of confined.py, and that of units where a pair splits as a whole."""
 
     def __init__(self, pair, graph):
         super().__init__(pair.version, graph)
-        self.p = Profile(PROFILES[pair.version].harts, pair.first - 12, pair.first - 8, pair.first)
         pair.split()
         is_whole = pair.unfit is None and pair.opened() is not None
         self.units = UnitStatement(pair) if is_whole else None
 
-    def before_site(self, kind):
-        return 56
-
-    def before_call(self):
-        return 0
-
-    def is_site_to(self, kind, site, to):
-        return super().is_site_to(kind, site, to - PAST[kind])
-
-    def is_kept(self, part, n, a):
-        """The slot that may be written is that of the newest call, whose target saves it."""
-        return super().is_kept(part, n - 1, a) if n else DATA_END <= a
-
-    def may_be_pending(self, newer):
-        return len(newer) <= MOST_PENDING
-
     def after_step(self, machine, hart, pending):
         failing = self.units.before(machine, hart, pending) if self.units else []
         more, turn, newer = super().after_step(machine, hart, pending)
-        own = slot(part_of(hart), len(pending) - 1)
-        is_saved = own not in machine.bytes.was or machine.read(own, 8) == (pending or (0,))[0]
-        return failing + more + ["Saves"] * (not is_saved) + (self.units.after(machine, hart, turn) if self.units else []), turn, newer
+        return failing + more + (self.units.after(machine, hart, turn) if self.units else []), turn, newer
 
 
 class Left(Exception):

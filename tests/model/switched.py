@@ -74,7 +74,7 @@ WEAKER = [
         is_kept=lambda self, part, n, a: DATA_END <= a and (a < slot(part, n) or part + PART_SIZE <= a)), Statement),
     ("WritesOwn: behind the part", switched(
         is_kept=lambda self, part, n, a: DATA_END <= a and not slot(part, n) <= a < slot(part, n) + 8), Statement),
-    ("MOST_PENDING", switched(may_be_pending=lambda self, newer: True), Statement),
+    ("most_calls", switched(may_be_pending=lambda self, newer: True), Statement),
     ("Moves", letting(""), Statement),
     *[("Moves: " + row, letting(row), Statement) for row in ("Branch", "Jal x0", "Jal x1", "Jal x5", "Jalr x0", "Jalr x1", "Jalr x5")],
     ("IsSkip: ahead", skipping(lambda self, code, pc, to: to <= pc + self.most_skip() and code(to) == IS_ECALL), Statement),
@@ -126,7 +126,7 @@ STRICTER = [
     ("MayEcall: in the closing", unless("may_ecall", lambda self, instr, pc, number: instr == IS_ECALL and pc < self.p.units_from)),
     ("WritesOwn: data", switched(is_kept=lambda self, part, n, a: a < DATA_END or Statement.is_kept(self, part, n, a))),
     ("WritesOwn: the slot", switched(is_kept=lambda self, part, n, a: DATA_END <= a)),
-    ("MOST_PENDING", switched(may_be_pending=lambda self, newer: len(newer) < MOST_PENDING)),
+    ("most_calls", switched(may_be_pending=lambda self, newer: len(newer) < MOST_PENDING)),
     *[("Moves: " + row, barring(row)) for row in ("Branch", "Jal x0", "Jal x1", "Jalr x0", "Jalr x1", "Ecall", "other")],
     ("IsSkip: the next word", unless("is_skip", lambda self, code, pc, to: to == pc + 4)),
     ("IsSkip: over a word", unless("is_skip", lambda self, code, pc, to: to == pc + 8)),

@@ -7,3 +7,5 @@ mod pairs;
 mod runs;
 #[cfg(test)]
 mod samples;
+#[cfg(test)]
+mod walks;
