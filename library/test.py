@@ -3,7 +3,7 @@
 
     python3 library/test.py [--program PATH] [--pairs 1000]
 
-The header, the C files by each compiler that is there, memory, threads, stack, layout, bounds and the arena; `ask` beside tests/expected.py
+The header, the C files by each compiler that is there, memory, threads, stack, layout, bounds and the arena; `ask` beside the models
 and the program (crates/rvcfi/out/rvcfi where none is named; a line says where it is not built) on changed pairs; the loader on the
 tutorial's plugin and its attacks; the Rust crate; and what is built for aarch64. What this machine lacks is told as skipped.
 The last line counts the checks, and the status is 1 where one failed.

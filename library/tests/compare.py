@@ -1,5 +1,5 @@
 #!/usr/bin/env python3
-"""Compares what `ask` says of changed pairs, text and status, with expected.py and, where it is built, with the program `rvcfi verify`.
+"""Compares what `ask` says of changed pairs, text and status, with the models and, where it is built, with the program `rvcfi verify`.
 
     python3 library/tests/compare.py [--ask WORD ..] [--program PATH] [--seed N] [COUNT]
 

@@ -3,14 +3,14 @@
 
     python3 tests/model/lean.py [--program PATH] [--hardens] [--many N] [--seed N] [--levels=-O2,..]
 
-(a) Each case of lean_rows.py and lean_cases.py has to have its literal numbers, and each row of the tables of the crate
-test_lean those of the model. (b) Each pair of lean_faults.py has to be rejected
-by the rule that its row tells, and its run has to leave its graph where and as the row tells, or to stay in it where it tells that.
-Rules and parts of them are switched off in turn, and some such pair whose run leaves its graph has to be accepted then. (c) No run
-of a drawn pair that is accepted may leave its graph. (d) Where levels are named, the programs of tests/real are compiled, and have
-to run hardened as in form `split`. With a program, its `verify` is asked of the pairs of versions 1 and 2 that confinement.py has
-and of each pair of version 3, and its `run` of those that are accepted, and both have to answer as this model does; with `--hardens`
-its `harden` is asked of objects in both lean forms too. The status is 1 where something failed.
+(a) Each case of lean_rows.py and lean_cases.py has to have its literal numbers, and each row of the tables of the crate test_lean
+those of the model. (b) Each pair of lean_faults.py has to be rejected by the rule that its row tells, and its run has to leave its
+graph where and as the row tells, or to stay in it where it tells that. Rules and parts of them are switched off in turn, and some
+such pair whose run leaves its graph has to be accepted then. (c) No run of a drawn pair that is accepted may leave its graph. (d)
+Where levels are named, the programs of tests/real are compiled, and have to run hardened as in form `split`. With a program, its
+`verify` is asked of the pairs of versions 1 and 2 that confinement.py has and of each pair of version 3, and its `run` of those that
+are accepted and of programs that fill the shadow stack, and both have to answer as this model does; with `--hardens` its `harden` is
+asked of objects in both lean forms too. The status is 1 where something failed.
 """
 
 import argparse
