@@ -1,3 +1,3 @@
 mod Tables
-mod Called
+pub mod Called
 mod Spoiling

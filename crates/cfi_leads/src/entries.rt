@@ -17,7 +17,7 @@ use std::alloc::Global;
 use std::marker::Model;
 
 /// Marks a place, if there is one.
-pub(crate) fn mark(flags: &mut Vec<bool>, place: Option<u64>)
+pub fn mark(flags: &mut Vec<bool>, place: Option<u64>)
     requires { IfSome place (λ k. k < length flags.old.items) }
     ensures { flags.new.items ≡ marked flags.old.items place }
 {

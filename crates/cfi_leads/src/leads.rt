@@ -1,7 +1,8 @@
 //! How many bytes the words before the unit of a place have.
 
 ghost use Rattle.std.specs.Prelude.{◌≡◌, ◌<◌, ◌≤◌, true, false, if◌then◌else◌, IfOk};
-ghost use Rattle.obj_program.specs.Program.{count};
+ghost use Rattle.obj_program.specs.Program.{count, item_of};
+ghost use Rattle.obj_program.specs.Sound.{IsSound};
 ghost use Rattle.cfi_graph.specs.Graph.{has_leaves};
 ghost use Rattle.cfi_leads.specs.Entered.{entered_at};
 ghost use Rattle.cfi_leads.specs.Leads.{enters, lead_size, lead_words, words_of_entry, words_of_sides};
@@ -11,7 +12,7 @@ ghost use Rattle.cfi_leads.specs.Marks.{AreLean};
 use crate::entries::{Entries, is_call_target};
 use crate::pieces::Pieces;
 use cfi_closed::Closed;
-use obj_program::Items;
+use obj_program::{Item, Items};
 use rv_word::{GraphVersion, NoMemory};
 use std::alloc::Global;
 use std::marker::Model;
@@ -96,6 +97,22 @@ impl<'a, 'b> Leads<'a, 'b> {
             }
             GraphVersion::CalleeSaves => Leads::lean(alloc, items, closed, entry),
         }
+    }
+
+    /// How many places the program has.
+    pub fn count(&self) -> u64
+        ensures value { result ≡ count self.now.program }
+        ensures sound { IsSound self.now.program }
+    {
+        self.items.count()
+    }
+
+    /// The place with this index.
+    pub fn item(&self, k: u64) -> Item
+        requires { k < count self.now.program }
+        ensures { result ≡ item_of self.now.program k }
+    {
+        self.items.item(k)
     }
 
     /// The program.

@@ -2,6 +2,7 @@
 //! before the unit of a place have under each version of graphs.
 #![tactic(auto)]
 
+pub use entries::mark;
 pub use leads::Leads;
 
 mod entries;

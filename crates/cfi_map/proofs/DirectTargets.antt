@@ -9,7 +9,10 @@ use Rattle.obj_input.specs.declared.item_kind.ItemKind.{ItemKind}
 use Rattle.obj_program.specs.declared.item.Item.{Item}
 use Rattle.obj_program.specs.Program.{Program, count, item_of, no_item}
 use Rattle.obj_program.specs.Sound.{IsSound, aims, is_direct}
-use Rattle.cfi_map.specs.Groups.{AreDirectTargets, aims_at, marked}
+use Rattle.cfi_leads.specs.Entries.{aims_at}
+use Rattle.cfi_leads.specs.Marks.{marked}
+use Rattle.cfi_leads.proofs.Called.{clear_at, marked_at, marked_length}
+use Rattle.cfi_map.specs.Groups.{AreDirectTargets}
 
 -- direct targets of a sound program are places
 inside_if : (program : Program) (kind : ItemKind) (o : Option ℕ) → aims program kind o ≡ true → IfSome o (λ (t : ℕ). t < count program)
@@ -25,37 +28,10 @@ pub target_inside : (program : Program) (k size : ℕ) → IsSound program → k
 target_inside program k size sound below same =
     inside_of (item_of program k).target (count program) size (inside_if program (item_of program k).kind (item_of program k).target (sound.targets k below)) same
 
-or_none : (b : Bool) → b ≡ (b || false)
-or_none true = refl
-or_none false = refl
-
--- marking a place
-marked_at : (flags : List Bool) (o : Option ℕ) (j : ℕ) → IfSome o (λ (t : ℕ). t < length flags) →
-    get_or (marked flags o) j false ≡ (get_or flags j false || aims_at j o)
-marked_at flags None j inside = or_none (get_or flags j false)
-marked_at flags (Some t) j inside = elim (cases_eq t j) [
-  | inl same ↦
-      ap (λ (n : ℕ). get_or (set flags t true) n false) (sym same) ∙ get_or-set_same flags t true false inside
-      ∙ sym (or_right (get_or flags j false) (t == j) (eq-eqb t j same))
-  | inr apart ↦
-      get_or-set_other flags t j true false (λ e. apart (sym e))
-      ∙ or_none (get_or flags j false) ∙ ap (λ (b : Bool). get_or flags j false || b) (sym (ne_eqb t j apart))
-]
-
-pub marked_length : (flags : List Bool) (o : Option ℕ) → length (marked flags o) ≡ length flags
-marked_length flags None = refl
-marked_length flags (Some t) = length-set flags t true
-
 -- the targets of the first places are marked
 pub record AreMarked (program : Program) (k : ℕ) (flags : List Bool) : Type 0 where
   pub size : length flags ≡ count program
   pub each : (j : ℕ) → get_or flags j false ≡ list_any (λ (i : Item). aims_at j i.target) (take k program.items)
-
-clear_at : (n j : ℕ) → get_or (replicate n false) j false ≡ false
-clear_at n j = elim (cases_lt j n) [
-  | inl below ↦ get_or-replicate n j false false below
-  | inr past ↦ let size = length-replicate n false in get_or_past (replicate n false) j false (omega arith)
-]
 
 pub marked_begin : (program : Program) (n : ℕ) (flags : List Bool) → n ≡ count program → flags ≡ replicate n false → AreMarked program 0 flags
 marked_begin program n flags size is = record {

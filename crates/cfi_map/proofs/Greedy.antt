@@ -5,15 +5,16 @@ use Rattle.std.proofs.lemmas.Bool.{cases_lt, cond_both, not-false}
 use Rattle.std.proofs.lemmas.List.{get_or_append_left, get_or_past, get_or_push, length_push}
 use Rattle.obj_program.specs.declared.item.Item.{Item}
 use Rattle.obj_program.specs.Program.{Program, count, item_of, no_item}
-use Rattle.cfi_map.specs.Groups.{AreGreedy, AreGreedyTo, AreGroups, AreLeads, Entries, entered_in, is_store, joins_in, may_join, members_after, members_before}
+use Rattle.cfi_leads.specs.Entered.{Entered}
+use Rattle.cfi_map.specs.Groups.{AreGreedy, AreGreedyTo, AreGroups, AreLeads, Bounds, bounds_in, is_store, joins_in, may_join, members_after, members_before}
 use Rattle.cfi_map.specs.Placement.{whole_at}
 use Rattle.cfi_map.proofs.GroupFacts.{later_parts}
 
-module _ (items : ℕ → Item) (entered : ℕ → Bool) where
+module _ (items : ℕ → Item) (bounds : Bounds) where
   -- they are groups
-  pub greedy_groups : (whole : ℕ → Bool) → AreGreedy items entered whole → AreGroups items entered whole
+  pub greedy_groups : (whole : ℕ → Bool) → AreGreedy items bounds whole → AreGroups items bounds whole
   greedy_groups whole greedy k later =
-      let parts = later_parts items entered whole k later in
+      let parts = later_parts items bounds whole k later in
       not-false _ (sym (greedy k parts.0) ∙ parts.1)
 
   -- flags from a place on do not matter before it
@@ -27,19 +28,19 @@ module _ (items : ℕ → Item) (entered : ℕ → Bool) where
       rw (here, rest) refl
 
   -- one place on
-  pub greedy_next : (whole other : ℕ → Bool) (n : ℕ) → AreGreedyTo items entered whole n → ((j : ℕ) → j < n → other j ≡ whole j) →
-      (is_store (items n).kind ≡ true → other n ≡ not (may_join items entered n (members_before items whole n))) →
-      AreGreedyTo items entered other (n + 1)
+  pub greedy_next : (whole other : ℕ → Bool) (n : ℕ) → AreGreedyTo items bounds whole n → ((j : ℕ) → j < n → other j ≡ whole j) →
+      (is_store (items n).kind ≡ true → other n ≡ not (may_join items bounds n (members_before items whole n))) →
+      AreGreedyTo items bounds other (n + 1)
   greedy_next whole other n greedy same last k below store =
       let before : members_before items whole k ≡ members_before items other k =
       before_same whole other k (λ j less. sym (same j (omega arith))) in
       elim (cases_lt k n) [
-        | inl less ↦ same k less ∙ greedy k less store ∙ ap (λ (m : ℕ). not (may_join items entered k m)) before
+        | inl less ↦ same k less ∙ greedy k less store ∙ ap (λ (m : ℕ). not (may_join items bounds k m)) before
         | inr more ↦
             let here : n ≡ k = omega arith in
-            subst (λ (m : ℕ). other m ≡ not (may_join items entered m (members_before items whole m))) here
+            subst (λ (m : ℕ). other m ≡ not (may_join items bounds m (members_before items whole m))) here
             (last (subst (λ (m : ℕ). is_store (items m).kind ≡ true) (sym here) store))
-            ∙ ap (λ (m : ℕ). not (may_join items entered k m)) before
+            ∙ ap (λ (m : ℕ). not (may_join items bounds k m)) before
       ]
 
 -- stores before a place are no more than places before it
@@ -52,12 +53,12 @@ before_most items whole (suc k) =
     (λ e. omega arith)
 
 -- while a loop makes the flags
-pub record AreLeadsTo (of : Entries) (k : ℕ) (flags : List Bool) (before : ℕ) : Type 0 where
+pub record AreLeadsTo (of : Entered) (k : ℕ) (flags : List Bool) (before : ℕ) : Type 0 where
   pub size : length flags ≡ k
-  pub greedy : AreGreedyTo (item_of of.program) (entered_in of) (whole_at flags) k
+  pub greedy : AreGreedyTo (item_of of.program) (bounds_in of) (whole_at flags) k
   pub before_is : before ≡ members_before (item_of of.program) (whole_at flags) k
 
-pub leads_begin : (of : Entries) (flags : List Bool) → flags ≡ [] → AreLeadsTo of 0 flags 0
+pub leads_begin : (of : Entered) (flags : List Bool) → flags ≡ [] → AreLeadsTo of 0 flags 0
 unfolding members_before
 leads_begin of flags is = record { size = ap length is; greedy = λ k below store. absurd (omega arith); before_is = refl }
 
@@ -65,7 +66,7 @@ members_step : (items : ℕ → Item) (whole : ℕ → Bool) (k : ℕ) → membe
 unfolding members_before
 members_step items whole k = refl
 
-module _ (of : Entries) (k : ℕ) (flags more : List Bool) (before after : ℕ) (lead : Bool) where
+module _ (of : Entered) (k : ℕ) (flags more : List Bool) (before after : ℕ) (lead : Bool) where
   pub leads_more : AreLeadsTo of k flags before → lead ≡ not (joins_in of k before) → more ≡ flags ++ lead ∷ [] →
       after ≡ members_after (item_of of.program k).kind lead before → AreLeadsTo of (k + 1) more after
   leads_more so_far is grown counted =
@@ -73,11 +74,11 @@ module _ (of : Entries) (k : ℕ) (flags more : List Bool) (before after : ℕ) 
       let same : (j : ℕ) → j < k → whole_at more j ≡ whole_at flags j =
       λ j below. ap (λ (l : List Bool). whole_at l j) grown ∙ get_or_append_left flags (lead ∷ []) true j (let size = so_far.size in omega arith) in
       let kept : members_before (item_of of.program) (whole_at more) k ≡ before =
-      before_same (item_of of.program) (entered_in of) (whole_at more) (whole_at flags) k same ∙ sym so_far.before_is in
+      before_same (item_of of.program) (bounds_in of) (whole_at more) (whole_at flags) k same ∙ sym so_far.before_is in
       let step : suc k ≡ k + 1 = omega arith in
       record {
         size = ap length grown ∙ length_push flags lead ∙ ap (λ (n : ℕ). n + 1) so_far.size;
-        greedy = greedy_next (item_of of.program) (entered_in of) (whole_at flags) (whole_at more) k so_far.greedy same
+        greedy = greedy_next (item_of of.program) (bounds_in of) (whole_at flags) (whole_at more) k so_far.greedy same
             (λ store. here ∙ is ∙ ap (λ (n : ℕ). not (joins_in of k n)) so_far.before_is);
         before_is =
             counted
@@ -97,5 +98,5 @@ past_store program k store = elim (cases_lt k (count program)) [
       absurd (cc)
 ]
 
-pub leads_end : (of : Entries) (k : ℕ) (flags : List Bool) (before : ℕ) → count of.program ≤ k → AreLeadsTo of k flags before → AreLeads of flags
+pub leads_end : (of : Entered) (k : ℕ) (flags : List Bool) (before : ℕ) → count of.program ≤ k → AreLeadsTo of k flags before → AreLeads of flags
 leads_end of k flags before all is j store = let below = past_store of.program j store in is.greedy j (omega arith) store

@@ -3,7 +3,7 @@ use Rattle.std.proofs.Common.{◌≡◌, ℕ, zero, suc, ◌+◌, ◌-◌, ◌<�
 use Rattle.std.specs.Prelude.{not}
 use Rattle.std.proofs.lemmas.Bool.{and_from, and_parts, cases_eq, cases_lt, eqb-true, leb-true, ltb-true, not-true, not_from_false}
 use Rattle.obj_program.specs.declared.item.Item.{Item}
-use Rattle.cfi_map.specs.Groups.{AreGroups, Grouped, IsGroup, MOST_APART, MOST_STORES, all_from, base, is_later, is_own_at, is_store, level, may_join, may_share, members_before}
+use Rattle.cfi_map.specs.Groups.{AreGroups, Bounds, Grouped, IsGroup, MOST_APART, MOST_STORES, all_from, base, fits_mask, is_later, is_own_at, is_store, level, may_join, may_share, members_before}
 
 -- what holds at all numbers holds at each
 pub all_each : (test : ℕ → Bool) (first n i : ℕ) → all_from test first n ≡ true → i < n → test (first + i) ≡ true
@@ -47,7 +47,7 @@ module _ (test : ℕ → Bool) (j k : ℕ) (all : Bool) where
       let count : k - j ≡ 0 = omega arith in
       sym (so_far ∙ ap (all_from test j) count)
 
-module _ (items : ℕ → Item) (entered whole : ℕ → Bool) where
+module _ (items : ℕ → Item) (bounds : Bounds) (whole : ℕ → Bool) where
   -- how many stores stand in a group, one place on
   pub none_before : (k : ℕ) → is_store (items k).kind ≡ false → members_before items whole (suc k) ≡ 0
   unfolding members_before
@@ -94,24 +94,27 @@ module _ (items : ℕ → Item) (entered whole : ℕ → Bool) where
     pub some : 0 < n
     pub most : n < MOST_STORES
     pub store : is_store (items k).kind ≡ true
-    pub free : entered k ≡ false
+    pub free : bounds.entered k ≡ false
     pub own : is_own_at items k ≡ true
+    pub mask : fits_mask bounds.short_masks (items (k - n)) (items k) ≡ true
     pub shares : all_from (may_share items (base items k) (level items k)) (k - n) n ≡ true
 
-  pub joins : (k n : ℕ) → may_join items entered k n ≡ true → Joins k n
+  pub joins : (k n : ℕ) → may_join items bounds k n ≡ true → Joins k n
   joins k n may =
       let one = and_parts _ _ may in
       let two = and_parts _ _ one.1 in
       let three = and_parts _ _ two.1 in
       let four = and_parts _ _ three.1 in
       let five = and_parts _ _ four.1 in
+      let six = and_parts _ _ five.1 in
       record {
         some = ltb-true 0 n one.0;
         most = ltb-true n MOST_STORES two.0;
         store = three.0;
-        free = not-true (entered k) four.0;
+        free = not-true (bounds.entered k) four.0;
         own = five.0;
-        shares = five.1;
+        mask = six.0;
+        shares = six.1;
       }
 
   -- one mask serves two stores
@@ -133,14 +136,14 @@ module _ (items : ℕ → Item) (entered whole : ℕ → Bool) where
         high = leb-true _ _ both.1;
       }
 
-  module _ (groups : AreGroups items entered whole) (k n : ℕ) (is : IsGroup items whole k n) where
+  module _ (groups : AreGroups items bounds whole) (k n : ℕ) (is : IsGroup items whole k n) where
     -- each store but the first may join those before it
     later_joins : (i : ℕ) → 1 ≤ i → i < n → Joins (k + i) i
     later_joins i some below =
         let before : members_before items whole (k + i) ≡ i =
         subst (λ (m : ℕ). members_before items whole m ≡ i) (omega arith) (counted k n is (i - 1) (k + (i - 1)) (omega arith) refl ∙ omega arith) in
         joins (k + i) i
-        (subst (λ (m : ℕ). may_join items entered (k + i) m ≡ true) before
+        (subst (λ (m : ℕ). may_join items bounds (k + i) m ≡ true) before
         (groups (k + i) (later_if (k + i) (is.stores i below) (is.others i some below))))
 
     share : (i j : ℕ) → i < j → j < n → Shares (k + i) (k + j)
@@ -181,11 +184,14 @@ module _ (items : ℕ → Item) (entered whole : ℕ → Bool) where
     ]
 
     -- so the stores of a group of two or more go behind one mask
-    pub grouped : 2 ≤ n → Grouped items entered k n
+    pub grouped : 2 ≤ n → Grouped items bounds k n
     grouped two = record {
       most = few (omega arith);
       own = own two;
       bases = bases;
       near = near;
       free = λ i some below. (later_joins i some below).free;
+      mask = λ i some below.
+          let start : k + i - i ≡ k = omega arith in
+          subst (λ (m : ℕ). fits_mask bounds.short_masks (items m) (items (k + i)) ≡ true) start (later_joins i some below).mask;
     }

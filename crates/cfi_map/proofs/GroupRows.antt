@@ -11,9 +11,10 @@ use Rattle.obj_program.specs.declared.item.Value.TheVariants.{Number}
 use Rattle.obj_program.specs.Program.{Program, item_of}
 use Rattle.cfi_graph.specs.declared.line.Sort.TheVariants.{Both}
 use Rattle.cfi_closed.specs.Closed.{ClosedGraph}
-use Rattle.cfi_map.specs.Groups.{all_from, entries, joins_in, members_before}
+use Rattle.cfi_leads.specs.Entered.{entered_at}
+use Rattle.cfi_map.specs.Groups.{all_from, joins_in, members_before}
 use Rattle.cfi_map.specs.Placement.{whole_at}
-use Rattle.cfi_map.specs.Sizes.{grouped_size, grouped_sizes, later_count, part_sizes, whole_size}
+use Rattle.cfi_map.specs.Sizes.{grouped_size, grouped_sizes, part_sizes, saved_bytes, whole_size}
 
 abbrev at : ℕ → ItemKind → ℕ → Item
 at offset kind word = record { section = 1; offset = offset; kind = kind; word = word; patch = put.Own; target = None; taken = false }
@@ -32,7 +33,7 @@ stores one other = program
 
 -- whether the second joins the first
 abbrev joins : ℕ → ℕ → ClosedGraph → ℕ → Bool
-joins one other graph entry = joins_in (entries (stores one other) graph entry) 2 1
+joins one other graph entry = joins_in (entered_at (stores one other) graph entry) 2 1
 
 -- `sd x1,24(x2)` and `sd x8,16(x2)`; offsets as far apart as may be, and farther; another base register
 joined_rows : (joins 0x00113c23 0x00813823 (closed [] []) 0 ≡ true) × (joins 0x80113023 0xfe813fa3 (closed [] []) 0 ≡ true)
@@ -44,8 +45,8 @@ joined_rows = (refl, refl, refl, refl, refl)
 -- the second is the entry, a class's target, taken; nothing joins what is no group
 entered_rows : (joins 0x00113c23 0x00813823 (closed [] []) 2 ≡ false) × (joins 0x00113c23 0x00813823 (closed ((2 ∷ []) ∷ []) []) 0 ≡ false)
     × (joins 0x00113c23 0x00813823 (closed [] (false ∷ false ∷ true ∷ [])) 0 ≡ false)
-    × (joins_in (entries (stores 0x00113c23 0x00813823) (closed [] []) 0) 1 0 ≡ false)
-    × (joins_in (entries (stores 0x00113c23 0x00813823) (closed [] []) 0) 3 2 ≡ false)
+    × (joins_in (entered_at (stores 0x00113c23 0x00813823) (closed [] []) 0) 1 0 ≡ false)
+    × (joins_in (entered_at (stores 0x00113c23 0x00813823) (closed [] []) 0) 3 2 ≡ false)
 unfolding decoded all_from
 entered_rows = (refl, refl, refl, refl, refl)
 
@@ -60,8 +61,8 @@ low item = record item { patch = put.Low (Number (pos 0x10000)) }
 abbrev related : Program
 related = program (low (at 0 is.Store 0x00113c23) ∷ at 4 is.Store 0x00813823 ∷ low (at 8 is.Store 0x00113c23) ∷ at 12 is.Return 0x00008067 ∷ at 16 is.End 0 ∷ [])
 
-other_rows : (joins_in (entries branched (closed [] []) 0) 2 1 ≡ false) × (joins_in (entries related (closed [] []) 0) 1 1 ≡ false)
-    × (joins_in (entries related (closed [] []) 0) 2 1 ≡ false)
+other_rows : (joins_in (entered_at branched (closed [] []) 0) 2 1 ≡ false) × (joins_in (entered_at related (closed [] []) 0) 1 1 ≡ false)
+    × (joins_in (entered_at related (closed [] []) 0) 2 1 ≡ false)
 unfolding decoded all_from
 other_rows = (refl, refl, refl)
 
@@ -73,7 +74,7 @@ many = program
     ∷ at 44 is.Store 0x00113023 ∷ at 48 is.Store 0x00113023 ∷ at 52 is.Store 0x00113023 ∷ at 56 is.Store 0x00113023 ∷ at 60 is.Store 0x00113023
     ∷ at 64 is.Store 0x00113023 ∷ at 68 is.End 0 ∷ [])
 
-many_rows : (joins_in (entries many (closed [] []) 0) 15 15 ≡ true) × (joins_in (entries many (closed [] []) 0) 16 16 ≡ false)
+many_rows : (joins_in (entered_at many (closed [] []) 0) 15 15 ≡ true) × (joins_in (entered_at many (closed [] []) 0) 16 16 ≡ false)
 unfolding decoded all_from
 many_rows = (refl, refl)
 
@@ -81,10 +82,10 @@ many_rows = (refl, refl)
 abbrev flags : List Bool
 flags = true ∷ true ∷ false ∷ []
 
-size_rows : (grouped_sizes None [] flags 0 (stores 0x00113c23 0x00813823).items ≡ 4 ∷ 16 ∷ 4 ∷ 4 ∷ 4 ∷ 20 ∷ 4 ∷ [])
-    × (part_sizes None [] flags 0 (stores 0x00113c23 0x00813823).items ≡ 4 ∷ 16 ∷ 4 ∷ 4 ∷ 4 ∷ 20 ∷ 4 ∷ [])
-    × (grouped_size Plain (stores 0x00113c23 0x00813823) (closed [] []) flags ≡ 120) × (whole_size Plain (stores 0x00113c23 0x00813823) (closed [] []) ≡ 132)
-    × (later_count flags 0 (stores 0x00113c23 0x00813823).items ≡ 1)
+size_rows : (grouped_sizes (entered_at (stores 0x00113c23 0x00813823) (closed [] []) 0) flags 0 (stores 0x00113c23 0x00813823).items ≡ 4 ∷ 16 ∷ 4 ∷ 4 ∷ 4 ∷ 20 ∷ 4 ∷ [])
+    × (part_sizes (entered_at (stores 0x00113c23 0x00813823) (closed [] []) 0) flags 0 (stores 0x00113c23 0x00813823).items ≡ 4 ∷ 16 ∷ 4 ∷ 4 ∷ 4 ∷ 20 ∷ 4 ∷ [])
+    × (grouped_size Plain (entered_at (stores 0x00113c23 0x00813823) (closed [] []) 0) flags ≡ 120) × (whole_size Plain (entered_at (stores 0x00113c23 0x00813823) (closed [] []) 0) ≡ 132)
+    × (saved_bytes (entered_at (stores 0x00113c23 0x00813823) (closed [] []) 0) flags 0 (stores 0x00113c23 0x00813823).items ≡ 12)
     × (members_before (item_of (stores 0x00113c23 0x00813823)) (whole_at flags) 3 ≡ 2) × (members_before (item_of (stores 0x00113c23 0x00813823)) (whole_at flags) 4 ≡ 0)
-unfolding grouped_sizes part_sizes later_count members_before
+unfolding grouped_sizes part_sizes saved_bytes members_before
 size_rows = (refl, refl, refl, refl, refl, refl, refl)

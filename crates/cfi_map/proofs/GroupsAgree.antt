@@ -7,7 +7,7 @@ use Rattle.rv_code.specs.Decode.{decoded}
 use Rattle.obj_program.specs.declared.item.Item.{Item}
 use Rattle.obj_program.specs.Program.{no_item}
 use Rattle.obj_program.specs.Sound.{is_own}
-use Rattle.cfi_map.specs.Groups.{AreGroups, MOST_STORES, all_from, are_near, base, base_of, is_later, is_own_at, is_store, level, level_of, may_join, may_share, members_before}
+use Rattle.cfi_map.specs.Groups.{AreGroups, Bounds, MOST_STORES, all_from, are_near, base, base_of, fits_mask, is_later, is_own_at, is_store, level, level_of, may_join, may_share, members_before}
 use Rattle.cfi_map.proofs.GroupFacts.{later_if, later_parts}
 use Rattle.cfi_map.proofs.Greedy.{before_most}
 
@@ -43,35 +43,41 @@ module _ (items others : ℕ → Item) where
       ∙ ap (λ (item : Item). if is_store item.kind then (if other k then 1 else members_before others other k + 1) else 0) (same k (omega arith))
 
   -- places up to a store
-  module _ (entered : ℕ → Bool) where
-    pub joins_alike : (k n : ℕ) → n ≤ k → ((j : ℕ) → j ≤ k → items j ≡ others j) → may_join items entered k n ≡ may_join others entered k n
+  module _ (bounds : Bounds) where
+    pub joins_alike : (k n : ℕ) → n ≤ k → ((j : ℕ) → j ≤ k → items j ≡ others j) → may_join items bounds k n ≡ may_join others bounds k n
     joins_alike k n within same =
         let one : all_from (may_share items (base items k) (level items k)) (k - n) n ≡ all_from (may_share others (base items k) (level items k)) (k - n) n =
         all_alike _ _ (k - n) n (λ i below.
         ap (λ (item : Item). is_own item.patch && (base_of (decoded item.word) == base items k && are_near (level_of (decoded item.word)) (level items k))) (same (k - n + i) (omega arith))) in
-        ap (λ (b : Bool). nat_lt 0 n && (nat_lt n MOST_STORES && (is_store (items k).kind && (not (entered k) && (is_own_at items k && b))))) one
-        ∙ ap (λ (item : Item). nat_lt 0 n && (nat_lt n MOST_STORES && (is_store item.kind && (not (entered k)
-        && (is_own item.patch && all_from (may_share others (base_of (decoded item.word)) (level_of (decoded item.word))) (k - n) n)))))
+        ap (λ (b : Bool). nat_lt 0 n && (nat_lt n MOST_STORES && (is_store (items k).kind && (not (bounds.entered k)
+        && (is_own_at items k && (fits_mask bounds.short_masks (items (k - n)) (items k) && b)))))) one
+        ∙ ap (λ (item : Item). nat_lt 0 n && (nat_lt n MOST_STORES && (is_store item.kind && (not (bounds.entered k)
+        && (is_own item.patch && (fits_mask bounds.short_masks (items (k - n)) item
+        && all_from (may_share others (base_of (decoded item.word)) (level_of (decoded item.word))) (k - n) n))))))
         (same k (omega arith))
+        ∙ ap (λ (item : Item). nat_lt 0 n && (nat_lt n MOST_STORES && (is_store (others k).kind && (not (bounds.entered k)
+        && (is_own_at others k && (fits_mask bounds.short_masks item (others k)
+        && all_from (may_share others (base others k) (level others k)) (k - n) n))))))
+        (same (k - n) (omega arith))
 
     -- a store that may join the group before it may do so where places and flags before it are the same
     pub join_moved : (whole other : ℕ → Bool) (k : ℕ) → ((j : ℕ) → j ≤ k → items j ≡ others j) →
         ((j : ℕ) → j < k → is_store (items j).kind ≡ true → whole j ≡ other j) →
-        may_join items entered k (members_before items whole k) ≡ true → may_join others entered k (members_before others other k) ≡ true
+        may_join items bounds k (members_before items whole k) ≡ true → may_join others bounds k (members_before others other k) ≡ true
     join_moved whole other k same flags join =
         let count = members_alike whole other k (λ j less. same j (omega arith)) flags in
         sym (joins_alike k (members_before others other k) (before_most others other k) same)
-        ∙ sym (ap (λ (m : ℕ). may_join items entered k m) count) ∙ join
+        ∙ sym (ap (λ (m : ℕ). may_join items bounds k m) count) ∙ join
 
     -- groups are groups among other places that are the same as far as there are later members
-    pub groups_alike : (whole other : ℕ → Bool) (n : ℕ) → AreGroups items entered whole → ((k : ℕ) → is_later others other k ≡ true → k < n) →
-        ((j : ℕ) → j < n → items j ≡ others j) → ((j : ℕ) → j < n → whole j ≡ other j) → AreGroups others entered other
+    pub groups_alike : (whole other : ℕ → Bool) (n : ℕ) → AreGroups items bounds whole → ((k : ℕ) → is_later others other k ≡ true → k < n) →
+        ((j : ℕ) → j < n → items j ≡ others j) → ((j : ℕ) → j < n → whole j ≡ other j) → AreGroups others bounds other
     groups_alike whole other n groups none same flags k later =
         let below = none k later in
-        let parts = later_parts others entered other k later in
+        let parts = later_parts others bounds other k later in
         let store : is_store (items k).kind ≡ true = ap (λ (item : Item). is_store item.kind) (same k below) ∙ parts.0 in
         join_moved whole other k (λ j less. same j (omega arith)) (λ j less is. flags j (omega arith))
-        (groups k (later_if items entered whole k store (flags k below ∙ parts.1)))
+        (groups k (later_if items bounds whole k store (flags k below ∙ parts.1)))
 
 -- where a list has a store there is a place
 pub store_below : (items : List Item) (k : ℕ) → is_store (get_or items k no_item).kind ≡ true → k < length items

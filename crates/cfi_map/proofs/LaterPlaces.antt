@@ -22,8 +22,9 @@ use Rattle.obj_program.specs.declared.item.Item.{Item}
 use Rattle.obj_program.specs.Program.{count, item_of, no_item}
 use Rattle.cfi_class.specs.Classes.{has}
 use Rattle.cfi_closed.specs.Closed.{Side, class_at, class_of, class_reaches, is_same, is_target, is_target_of, side_reaches}
-use Rattle.cfi_map.specs.GraphAtMap.{ProgramAtMap, word}
-use Rattle.cfi_map.specs.Groups.{AreGroups, aims_at, is_direct_target, is_entered, is_later, is_store, members_before}
+use Rattle.cfi_leads.specs.Entries.{aims_at}
+use Rattle.cfi_map.specs.GraphAtMap.{ProgramAtMap, entered_in, word}
+use Rattle.cfi_map.specs.Groups.{AreGroups, bounds_in, is_direct_target, is_entered, is_later, is_store, members_before}
 use Rattle.cfi_map.specs.Source.{Source}
 use Rattle.cfi_map.specs.SourceStep.{SourceAfter, acts, branches, calls, goes_to, hart_at, if_taken, leaves, place_after, ran, returns_from, source_step, step_at, turn_at, unless, unless_ended}
 use Rattle.cfi_map.specs.Untame.{computed, computed_place, if_reached, place_with_gate}
@@ -70,14 +71,14 @@ module _ (layout : ProgramAtMap) (whole : ℕ → Bool) where
     pub pending : NoneLater after.pending
     pub place : (j : ℕ) → after.place ≡ Some j → later j ≡ true → (k : ℕ) × (st.place ≡ Some k) × (is_store (item_of layout.program k).kind ≡ true) × (j ≡ k + 1)
 
-  module _ (groups : AreGroups (item_of layout.program) (is_entered layout.program layout.closed layout.entry) whole) where
+  module _ (groups : AreGroups (item_of layout.program) (bounds_in (entered_in layout)) whole) where
     abbrev members : ℕ → ℕ
     members k = members_before (item_of layout.program) whole k
 
     entered_first : (k : ℕ) → is_entered layout.program layout.closed layout.entry k ≡ true → later k ≡ false
     entered_first k entered = elim (cases_Bool (later k)) [
       | inl is_so ↦
-          let free = (joins (item_of layout.program) (is_entered layout.program layout.closed layout.entry) whole k (members k) (groups k is_so)).free in
+          let free = (joins (item_of layout.program) (bounds_in (entered_in layout)) whole k (members k) (groups k is_so)).free in
           let wrong : true ≡ false = sym entered ∙ free in
           absurd (cc)
       | inr not_so ↦ not_so
@@ -86,7 +87,7 @@ module _ (layout : ProgramAtMap) (whole : ℕ → Bool) where
     uncounted_first : (k : ℕ) → members k ≡ 0 → later k ≡ false
     uncounted_first k none = elim (cases_Bool (later k)) [
       | inl is_so ↦
-          let some = (joins (item_of layout.program) (is_entered layout.program layout.closed layout.entry) whole k (members k) (groups k is_so)).some in
+          let some = (joins (item_of layout.program) (bounds_in (entered_in layout)) whole k (members k) (groups k is_so)).some in
           absurd (omega (arith, some, none))
       | inr not_so ↦ not_so
     ]
@@ -99,10 +100,10 @@ module _ (layout : ProgramAtMap) (whole : ℕ → Bool) where
     pub fall : (k : ℕ) → is_store (item_of layout.program k).kind ≡ false → later (k + 1) ≡ false
     fall k other =
         let same : suc k ≡ k + 1 = omega arith in
-        subst (λ (m : ℕ). later m ≡ false) same (uncounted_first (suc k) (none_before (item_of layout.program) (is_entered layout.program layout.closed layout.entry) whole k other))
+        subst (λ (m : ℕ). later m ≡ false) same (uncounted_first (suc k) (none_before (item_of layout.program) (bounds_in (entered_in layout)) whole k other))
 
     first_is : later 0 ≡ false
-    first_is = uncounted_first 0 (none_at_start (item_of layout.program) (is_entered layout.program layout.closed layout.entry) whole)
+    first_is = uncounted_first 0 (none_at_start (item_of layout.program) (bounds_in (entered_in layout)) whole)
 
     -- nor is a direct target
     aimed : (k : ℕ) (o : Option ℕ) → k < count layout.program → (item_of layout.program k).target ≡ o → later (unwrap_or o 0) ≡ false

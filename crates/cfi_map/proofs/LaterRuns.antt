@@ -22,8 +22,8 @@ use Rattle.obj_program.specs.Program.{Program, count, is_end, item_of, no_item}
 use Rattle.obj_program.specs.Sound.{IsSound, is_of}
 use Rattle.obj_program.specs.Suits as suits
 use Rattle.obj_program.proofs.Read.{read_there}
-use Rattle.cfi_map.specs.GraphAtMap.{ProgramAtMap, words_at}
-use Rattle.cfi_map.specs.Groups.{AreGroups, MOST_STORES, is_entered, is_store, members_before}
+use Rattle.cfi_map.specs.GraphAtMap.{ProgramAtMap, entered_in, words_at}
+use Rattle.cfi_map.specs.Groups.{AreGroups, bounds_in, MOST_STORES, is_entered, is_store, members_before}
 use Rattle.cfi_map.specs.Source.{Source, instr_here, source_start}
 use Rattle.cfi_map.specs.World.{SameWorld}
 use Rattle.cfi_map.specs.SourceStep.{SourceAfter, StepTurn, acts, after_steps, breaks, exits, going_on, ran, source_step, step_at, unless, unless_ended, untame}
@@ -177,7 +177,7 @@ module _ (layout : ProgramAtMap) (whole : ℕ → Bool) (input : List ℕ) where
     pub pending : NoneLater layout whole st.pending
     pub leader : AtLeader n st
 
-  module _ (groups : AreGroups (item_of layout.program) (is_entered layout.program layout.closed layout.entry) whole) (sound : IsSound layout.program) where
+  module _ (groups : AreGroups (item_of layout.program) (bounds_in (entered_in layout)) whole) (sound : IsSound layout.program) where
     none_past : (place : Option ℕ) → ((j : ℕ) → place ≡ Some j → later layout whole j ≡ false) → past place ≡ 0
     none_past None first = refl
     none_past (Some j) first = rw (first j refl) refl
@@ -186,17 +186,17 @@ module _ (layout : ProgramAtMap) (whole : ℕ → Bool) (input : List ℕ) where
     one_past : (k j : ℕ) → is_store (item_of layout.program k).kind ≡ true → j ≡ k + 1 → later layout whole j ≡ true → past (Some j) ≡ suc (past (Some k))
     one_past k j store next is_so =
         let items = item_of layout.program in
-        let entered = is_entered layout.program layout.closed layout.entry in
+        let bounds = bounds_in (entered_in layout) in
         let here : past (Some j) ≡ members_before items whole j = rw is_so refl in
         let after : members_before items whole j ≡ members_before items whole (suc k) = let e : j ≡ suc k = omega arith in ap (members_before items whole) e in
         elim (cases_Bool (whole k)) [
           | inl first ↦
               let none : past (Some k) ≡ 0 = none_past (Some k) (λ i at.
               subst (λ (d : ℕ). later layout whole d ≡ false) (same_Some k i at) (rw (store, first) refl)) in
-              here ∙ after ∙ one_before items entered whole k store first ∙ ap suc (sym none)
+              here ∙ after ∙ one_before items bounds whole k store first ∙ ap suc (sym none)
           | inr other ↦
-              let some : past (Some k) ≡ members_before items whole k = rw (later_if items entered whole k store other) refl in
-              let more = more_before items entered whole k store other in
+              let some : past (Some k) ≡ members_before items whole k = rw (later_if items bounds whole k store other) refl in
+              let more = more_before items bounds whole k store other in
               omega (arith, here, after, more, some)
         ]
 
@@ -204,12 +204,12 @@ module _ (layout : ProgramAtMap) (whole : ℕ → Bool) (input : List ℕ) where
     pub past_few : (place : Option ℕ) → past place < MOST_STORES
     past_few None = omega arith
     past_few (Some j) = elim (cases_Bool (later layout whole j)) [
-      | inl is_so ↦ rw is_so (joins (item_of layout.program) (is_entered layout.program layout.closed layout.entry) whole j _ (groups j is_so)).most
+      | inl is_so ↦ rw is_so (joins (item_of layout.program) (bounds_in (entered_in layout)) whole j _ (groups j is_so)).most
       | inr not_so ↦ rw not_so (omega arith)
     ]
 
     pub past_some : (j : ℕ) → later layout whole j ≡ true → 0 < past (Some j)
-    past_some j is_so = rw is_so (joins (item_of layout.program) (is_entered layout.program layout.closed layout.entry) whole j _ (groups j is_so)).some
+    past_some j is_so = rw is_so (joins (item_of layout.program) (bounds_in (entered_in layout)) whole j _ (groups j is_so)).some
 
     itself : (n : ℕ) (st : Source) → after_steps layout n (source_start layout input) ≡ Some st → ((j : ℕ) → st.place ≡ Some j → later layout whole j ≡ false) →
         AtLeader n st

@@ -23,8 +23,8 @@ use Rattle.cfi_layout.specs.LongSet.{IsLongSet, is_forced, is_whole, sizes_under
 use Rattle.cfi_layout.specs.LongSet.{is_branch as is_part}
 use Rattle.cfi_layout.specs.Starts.{Placed, code_size, flag, starts_from}
 use Rattle.cfi_layout.proofs.Offsets.{length_starts, length_where, start_most, sum_where}
-use Rattle.cfi_closed.specs.Closed.{ClosedGraph}
-use Rattle.cfi_map.specs.Groups.{AreLeads, Entries, entries, is_store, joins_in, members_before}
+use Rattle.cfi_leads.specs.Entered.{Entered}
+use Rattle.cfi_map.specs.Groups.{AreLeads, is_store, joins_in, members_before}
 use Rattle.cfi_map.specs.Placement.{AreGates, whole_at}
 use Rattle.cfi_map.specs.Placing.{IsPlacement, IsPlacementOf, IsShortened, joined}
 use Rattle.cfi_map.specs.Shorts.{shorts_of, IsShortAt, is_branch}
@@ -74,7 +74,7 @@ stores_same items whole other (suc k) same = elim (cases_Bool (is_store (items k
   | inr none ↦ rw none refl
 ]
 
-leads_same : (of : Entries) (leads whole : List Bool) → ((k : ℕ) → is_store (item_of of.program k).kind ≡ true → whole_at leads k ≡ whole_at whole k) →
+leads_same : (of : Entered) (leads whole : List Bool) → ((k : ℕ) → is_store (item_of of.program k).kind ≡ true → whole_at leads k ≡ whole_at whole k) →
     AreLeads of leads → AreLeads of whole
 leads_same of leads whole same are k store =
     sym (same k store) ∙ are k store
@@ -84,108 +84,108 @@ no_store : (kind : ItemKind) → is_branch kind ≡ true → is_store kind ≡ f
 no_store is.Branch branch = refl
 no_store other branch = absurd (cc)
 
-module _ (form : Form) (program : Program) (closed : ClosedGraph) (leads : List Bool) (p : Placed) (is : IsShortened form program closed leads p) where
+module _ (form : Form) (of : Entered) (leads : List Bool) (p : Placed) (is : IsShortened form of leads p) where
   -- there is a start for each place, and the end
-  pub starts_many : length p.starts ≡ count program + 1
+  pub starts_many : length p.starts ≡ count of.program + 1
   starts_many =
       ap length is.starts
-      ∙ length_starts (profile_for form).units_from (sizes_under (flag p.long) (shorts_of program closed) (grouped_parts program closed leads))
+      ∙ length_starts (profile_for form).units_from (sizes_under (flag p.long) (shorts_of of) (grouped_parts of leads))
       ∙ ap (λ (n : ℕ). n + 1)
-      (length_where (is_whole (shorts_of program closed) (flag p.long)) 0 (grouped_parts program closed leads) ∙ length_grouped closed.calls closed.sides leads 0 program.items)
+      (length_where (is_whole (shorts_of of) (flag p.long)) 0 (grouped_parts of leads) ∙ length_grouped of leads 0 of.program.items)
 
   -- all of them in the region of code
   low : (k : ℕ) → get_or p.starts k 0 < 2 ^ 32
   low k =
       let laid = laid_out (profile_for form) (is_profile (image_version form)) in
       let at = ap (λ (xs : List ℕ). get_or xs k 0) is.starts in
-      let most = start_most (profile_for form).units_from (sizes_under (flag p.long) (shorts_of program closed) (grouped_parts program closed leads)) k in
-      let less = sum_where (is_whole (shorts_of program closed) (flag p.long)) 0 (grouped_parts program closed leads) in
-      let fewer = grouped_less program closed leads in
+      let most = start_most (profile_for form).units_from (sizes_under (flag p.long) (shorts_of of) (grouped_parts of leads)) k in
+      let less = sum_where (is_whole (shorts_of of) (flag p.long)) 0 (grouped_parts of leads) in
+      let fewer = grouped_less of leads in
       omega (arith, laid.low, at, most, less, fewer, is.room)
 
-  pub gates_low : (k : ℕ) → get_or (take (count program) p.starts) k 0 < 2 ^ 32
-  gates_low k = elim (cases_lt k (count program)) [
-    | inl before ↦ let e = get_or-take (count program) p.starts k 0 before in omega (arith, e, low k)
+  pub gates_low : (k : ℕ) → get_or (take (count of.program) p.starts) k 0 < 2 ^ 32
+  gates_low k = elim (cases_lt k (count of.program)) [
+    | inl before ↦ let e = get_or-take (count of.program) p.starts k 0 before in omega (arith, e, low k)
     | inr past ↦
-        let many = length-take-le (count program) p.starts (omega (arith, starts_many)) in
-        let none : length (take (count program) p.starts) ≤ k = omega (arith, many) in
-        let e = get_or-eq_default (take (count program) p.starts) 0 none in
+        let many = length-take-le (count of.program) p.starts (omega (arith, starts_many)) in
+        let none : length (take (count of.program) p.starts) ≤ k = omega (arith, many) in
+        let e = get_or-eq_default (take (count of.program) p.starts) 0 none in
         omega (arith, e)
   ]
 
   -- only places are short
-  pub short_within : (k : ℕ) → flag p.long k ≡ false → k < count program
-  short_within k short = parts_within program closed k (is.only k short)
+  pub short_within : (k : ℕ) → flag p.long k ≡ false → k < count of.program
+  short_within k short = parts_within of k (is.only k short)
 
   -- as many gates as places
-  pub gates_many : length (take (count program) p.starts) ≡ count program
-  gates_many = length-take-le (count program) p.starts (omega (arith, starts_many))
+  pub gates_many : length (take (count of.program) p.starts) ≡ count of.program
+  gates_many = length-take-le (count of.program) p.starts (omega (arith, starts_many))
 
-  module _ (sound : IsSound program) (whole : List Bool) (same : (k : ℕ) → whole_at whole k ≡ joined program leads p.long k) where
-    at_store : (k : ℕ) → is_store (item_of program k).kind ≡ true → whole_at leads k ≡ whole_at whole k
+  module _ (sound : IsSound of.program) (whole : List Bool) (same : (k : ℕ) → whole_at whole k ≡ joined of.program leads p.long k) where
+    at_store : (k : ℕ) → is_store (item_of of.program k).kind ≡ true → whole_at leads k ≡ whole_at whole k
     at_store k store = let here = same k in sym (rw store at here)
 
-    at_branch : (k : ℕ) → is_part (shorts_of program closed) k ≡ true → flag p.long k ≡ whole_at whole k
+    at_branch : (k : ℕ) → is_part (shorts_of of) k ≡ true → flag p.long k ≡ whole_at whole k
     at_branch k part =
-        let below = parts_within program closed k part in
-        let branch : is_branch (item_of program k).kind ≡ true = sym (parts_are program closed k sound below) ∙ part in
-        let none = no_store (item_of program k).kind branch in
+        let below = parts_within of k part in
+        let branch : is_branch (item_of of.program k).kind ≡ true = sym (parts_are of k sound below) ∙ part in
+        let none = no_store (item_of of.program k).kind branch in
         let here = same k in
         sym (rw none at here)
 
-    grouped : grouped_parts program closed leads ≡ grouped_parts program closed whole
-    grouped = grouped_same closed.calls closed.sides leads whole 0 program.items (λ i lt store. let e : 0 + i ≡ i = omega arith in rw e (at_store i store))
+    grouped : grouped_parts of leads ≡ grouped_parts of whole
+    grouped = grouped_same of leads whole 0 of.program.items (λ i lt store. let e : 0 + i ≡ i = omega arith in rw e (at_store i store))
 
-    least : IsLongSet (profile_for form).units_from (shorts_of program closed) (grouped_parts program closed whole) (whole_at whole)
+    least : IsLongSet (profile_for form).units_from (shorts_of of) (grouped_parts of whole) (whole_at whole)
     least =
-        subst (λ (sizes : List ℕ). IsLongSet (profile_for form).units_from (shorts_of program closed) sizes (whole_at whole)) grouped
-        (long_set_same (profile_for form).units_from (shorts_of program closed) (grouped_parts program closed leads) (flag p.long) (whole_at whole) at_branch is.least)
+        subst (λ (sizes : List ℕ). IsLongSet (profile_for form).units_from (shorts_of of) sizes (whole_at whole)) grouped
+        (long_set_same (profile_for form).units_from (shorts_of of) (grouped_parts of leads) (flag p.long) (whole_at whole) at_branch is.least)
 
-    starts : p.starts ≡ starts_from (profile_for form).units_from (part_sizes closed.calls closed.sides whole 0 program.items)
+    starts : p.starts ≡ starts_from (profile_for form).units_from (part_sizes of whole 0 of.program.items)
     starts =
         is.starts
-        ∙ ap (λ (f : ℕ → Bool). starts_from (profile_for form).units_from (sizes_where f 0 (grouped_parts program closed leads)))
-        (sets_same (shorts_of program closed) (flag p.long) (whole_at whole) at_branch)
-        ∙ ap (starts_under (profile_for form).units_from (whole_at whole) (shorts_of program closed)) grouped
-        ∙ starts_are form program closed whole sound
+        ∙ ap (λ (f : ℕ → Bool). starts_from (profile_for form).units_from (sizes_where f 0 (grouped_parts of leads)))
+        (sets_same (shorts_of of) (flag p.long) (whole_at whole) at_branch)
+        ∙ ap (starts_under (profile_for form).units_from (whole_at whole) (shorts_of of)) grouped
+        ∙ starts_are form of whole sound
 
-    size : code_size (profile_for form).units_from (part_sizes closed.calls closed.sides whole 0 program.items) ≤ CODE_SIZE
+    size : code_size (profile_for form).units_from (part_sizes of whole 0 of.program.items) ≤ CODE_SIZE
     size =
-        let sizes = ap sum (sizes_are program closed whole sound) in
-        let less = sum_where (is_whole (shorts_of program closed) (whole_at whole)) 0 (grouped_parts program closed whole) in
-        let fewer = grouped_less program closed whole in
+        let sizes = ap sum (sizes_are of whole sound) in
+        let less = sum_where (is_whole (shorts_of of) (whole_at whole)) 0 (grouped_parts of whole) in
+        let fewer = grouped_less of whole in
         omega (arith, sizes, less, fewer, is.room)
 
-    legal : AreGates closed.calls closed.sides whole 0 (profile_for form).units_from program.items (take (count program) p.starts)
+    legal : AreGates of whole 0 (profile_for form).units_from of.program.items (take (count of.program) p.starts)
     legal =
-        subst (λ (xs : List ℕ). AreGates closed.calls closed.sides whole 0 (profile_for form).units_from program.items (take (count program) xs)) (sym starts)
-        (gates_are closed.calls closed.sides whole 0 (profile_for form).units_from program.items)
+        subst (λ (xs : List ℕ). AreGates of whole 0 (profile_for form).units_from of.program.items (take (count of.program) xs)) (sym starts)
+        (gates_are of whole 0 (profile_for form).units_from of.program.items)
 
-    pub starts_rise : IsStrictlyIncreasing (take (count program) p.starts)
-    starts_rise = gates_rise closed.calls closed.sides whole 0 (profile_for form).units_from program.items (take (count program) p.starts) legal
+    pub starts_rise : IsStrictlyIncreasing (take (count of.program) p.starts)
+    starts_rise = gates_rise of whole 0 (profile_for form).units_from of.program.items (take (count of.program) p.starts) legal
 
-    module _ (entry : ℕ) (are : AreLeads (entries program closed entry) leads) where
-      at_starts : IsPlacement form (record { layout = program_at form program closed (take (count program) p.starts) entry; whole = whole })
+    module _ (are : AreLeads of leads) where
+      at_starts : IsPlacement form (record { layout = program_at form of.program of.closed (take (count of.program) p.starts) of.entry; whole = whole })
       at_starts = record {
         sound = sound;
         room = is.room;
         size = size;
         legal = legal;
-        groups = leads_same (entries program closed entry) leads whole at_store are;
-        shorter = code_shorter form program closed whole;
+        groups = leads_same of leads whole at_store are;
+        shorter = code_shorter form of whole;
         shorts = λ k target lt branch short aim.
-            subst (λ (xs : List ℕ). IsShortAt (program_at form program closed (take (count program) xs) entry) k target) (sym starts)
-            (branch_reaches form program closed whole sound least.closed entry k target lt branch short aim);
+            subst (λ (xs : List ℕ). IsShortAt (program_at form of.program of.closed (take (count of.program) xs) of.entry) k target) (sym starts)
+            (branch_reaches form of whole sound least.closed k target lt branch short aim);
         least = least;
       }
 
-      pub placed : (layout : ProgramAtMap) (gates : List ℕ) → layout ≡ program_at form program closed gates entry → gates ≡ take (count program) p.starts →
-          IsPlacementOf form program closed entry (record { layout = layout; whole = whole })
+      pub placed : (layout : ProgramAtMap) (gates : List ℕ) → layout ≡ program_at form of.program of.closed gates of.entry → gates ≡ take (count of.program) p.starts →
+          IsPlacementOf form of.program of.closed of.entry (record { layout = layout; whole = whole })
       placed layout gates at are = record {
-        of = at ∙ ap (λ (gs : List ℕ). program_at form program closed gs entry) (sym (ap (λ (l : ProgramAtMap). l.gates) at));
+        of = at ∙ ap (λ (gs : List ℕ). program_at form of.program of.closed gs of.entry) (sym (ap (λ (l : ProgramAtMap). l.gates) at));
         placed =
             subst (λ (l : ProgramAtMap). IsPlacement form (record { layout = l; whole = whole }))
-            (sym (at ∙ ap (λ (gs : List ℕ). program_at form program closed gs entry) are)) at_starts;
+            (sym (at ∙ ap (λ (gs : List ℕ). program_at form of.program of.closed gs of.entry) are)) at_starts;
       }
 
 -- a place whose unit has not its whole size is there

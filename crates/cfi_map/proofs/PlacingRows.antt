@@ -14,6 +14,7 @@ use Rattle.cfi_layout.specs.LongSet.{is_forced, sizes_where, starts_under}
 use Rattle.cfi_layout.specs.Starts.{code_size, starts_from}
 use Rattle.cfi_graph.specs.declared.line.Sort.TheVariants.{Both, Calls, Jumps}
 use Rattle.cfi_closed.specs.Closed.{ClosedGraph}
+use Rattle.cfi_leads.specs.Entered.{Entered, entered_at}
 use Rattle.cfi_map.specs.Shorts.{shorts_below, shorts_of}
 use Rattle.cfi_map.specs.Sizes.{part_sizes, whole_size, whole_sizes}
 
@@ -36,6 +37,10 @@ split calls jumps = record {
   calls = None;
 }
 
+-- entered at their first place
+abbrev of : Program → ClosedGraph → Entered
+of program graph = entered_at program graph 0
+
 abbrev short : ℕ → ℕ → ℕ → Bool → Short
 short place target lead keep = record { at = place; target = target; lead = lead; keep = keep }
 
@@ -51,28 +56,28 @@ over_jump = program
 abbrev over_end : Program
 over_end = program (at 0 is.Branch 0x00050463 (Some 2) ∷ at 4 is.End 0 None ∷ at 0 is.Return 0x00008067 None ∷ at 4 is.End 0 None ∷ [])
 
-whole_rows : (whole_sizes over_one (closed []) ≡ 8 ∷ 4 ∷ 20 ∷ 4 ∷ []) × (whole_size Plain over_one (closed []) ≡ 100)
-    × (whole_size Harts over_one (closed []) ≡ 116)
-    × (whole_sizes over_one (closed ((0 ∷ 2 ∷ []) ∷ [])) ≡ 12 ∷ 4 ∷ 24 ∷ 4 ∷ [])
+whole_rows : (whole_sizes (of over_one (closed [])) ≡ 8 ∷ 4 ∷ 20 ∷ 4 ∷ []) × (whole_size Plain (of over_one (closed [])) ≡ 100)
+    × (whole_size Harts (of over_one (closed [])) ≡ 116)
+    × (whole_sizes (of over_one (closed ((0 ∷ 2 ∷ []) ∷ []))) ≡ 12 ∷ 4 ∷ 24 ∷ 4 ∷ [])
 unfolding part_sizes
 whole_rows = (refl, refl, refl, refl)
 
 -- two words before what is a target of either
-split_rows : (whole_sizes over_one (split ((0 ∷ []) ∷ []) ((2 ∷ []) ∷ [])) ≡ 16 ∷ 4 ∷ 28 ∷ 4 ∷ []) × (whole_size Split over_one (split ((0 ∷ []) ∷ []) ((2 ∷ []) ∷ [])) ≡ 116)
-    × (whole_size HartsSplit over_one (split ((0 ∷ []) ∷ []) ((2 ∷ []) ∷ [])) ≡ 132) × (shorts_of over_one (split ((0 ∷ []) ∷ []) []) ≡ short 0 2 8 false ∷ [])
-    × (shorts_of over_jump (split [] ((1 ∷ []) ∷ [])) ≡ short 0 2 0 false ∷ [])
+split_rows : (whole_sizes (of over_one (split ((0 ∷ []) ∷ []) ((2 ∷ []) ∷ []))) ≡ 16 ∷ 4 ∷ 28 ∷ 4 ∷ []) × (whole_size Split (of over_one (split ((0 ∷ []) ∷ []) ((2 ∷ []) ∷ []))) ≡ 116)
+    × (whole_size HartsSplit (of over_one (split ((0 ∷ []) ∷ []) ((2 ∷ []) ∷ []))) ≡ 132) × (shorts_of (of over_one (split ((0 ∷ []) ∷ []) [])) ≡ short 0 2 8 false ∷ [])
+    × (shorts_of (of over_jump (split [] ((1 ∷ []) ∷ []))) ≡ short 0 2 0 false ∷ [])
 unfolding part_sizes shorts_below
 split_rows = (refl, refl, refl, refl, refl)
 
 -- the branch written short
-short_rows : (part_sizes None [] (false ∷ []) 0 over_one.items ≡ 4 ∷ 4 ∷ 20 ∷ 4 ∷ []) × (code_size 0x40000040 (part_sizes None [] (false ∷ []) 0 over_one.items) ≡ 96)
+short_rows : (part_sizes (of over_one (closed [])) (false ∷ []) 0 over_one.items ≡ 4 ∷ 4 ∷ 20 ∷ 4 ∷ []) × (code_size 0x40000040 (part_sizes (of over_one (closed [])) (false ∷ []) 0 over_one.items) ≡ 96)
 unfolding part_sizes
 short_rows = (refl, refl)
 
 -- a branch over a jump is kept, unless the jump has a gate word; one over a section's end is
-branch_rows : (shorts_of over_one (closed []) ≡ short 0 2 0 false ∷ []) × (shorts_of over_jump (closed []) ≡ short 0 2 0 true ∷ [])
-    × (shorts_of over_jump (closed ((1 ∷ []) ∷ [])) ≡ short 0 2 0 false ∷ []) × (shorts_of over_end (closed []) ≡ short 0 2 0 true ∷ [])
-    × (shorts_of over_one (closed ((0 ∷ []) ∷ [])) ≡ short 0 2 4 false ∷ [])
+branch_rows : (shorts_of (of over_one (closed [])) ≡ short 0 2 0 false ∷ []) × (shorts_of (of over_jump (closed [])) ≡ short 0 2 0 true ∷ [])
+    × (shorts_of (of over_jump (closed ((1 ∷ []) ∷ []))) ≡ short 0 2 0 false ∷ []) × (shorts_of (of over_end (closed [])) ≡ short 0 2 0 true ∷ [])
+    × (shorts_of (of over_one (closed ((0 ∷ []) ∷ []))) ≡ short 0 2 4 false ∷ [])
 unfolding shorts_below
 branch_rows = (refl, refl, refl, refl, refl)
 
@@ -84,11 +89,11 @@ abbrev two_calls : Program
 two_calls = program
     (at 0 is.System 0x00000073 None ∷ at 4 is.System 0x00100073 None ∷ at 8 is.System 0x00000073 None ∷ at 12 is.Return 0x00008067 None ∷ at 16 is.End 0 None ∷ [])
 
-call_rows : (whole_sizes two_calls (closed []) ≡ 4 ∷ 4 ∷ 4 ∷ 20 ∷ 4 ∷ []) × (whole_sizes two_calls (listed (64 ∷ [])) ≡ 16 ∷ 4 ∷ 16 ∷ 20 ∷ 4 ∷ [])
-    × (whole_sizes two_calls (listed (63 ∷ 64 ∷ 93 ∷ [])) ≡ 32 ∷ 4 ∷ 32 ∷ 20 ∷ 4 ∷ [])
-    × (whole_sizes two_calls (listed (0 ∷ 1 ∷ 2 ∷ 3 ∷ 4 ∷ 5 ∷ 6 ∷ 2047 ∷ [])) ≡ 72 ∷ 4 ∷ 72 ∷ 20 ∷ 4 ∷ [])
-    × (whole_size Plain two_calls (listed (64 ∷ [])) ≡ 124) × (whole_size Plain two_calls (closed []) ≡ 100)
-    × (whole_sizes two_calls (record (closed ((2 ∷ []) ∷ [])) { calls = Some (64 ∷ []) }) ≡ 16 ∷ 4 ∷ 20 ∷ 20 ∷ 4 ∷ [])
+call_rows : (whole_sizes (of two_calls (closed [])) ≡ 4 ∷ 4 ∷ 4 ∷ 20 ∷ 4 ∷ []) × (whole_sizes (of two_calls (listed (64 ∷ []))) ≡ 16 ∷ 4 ∷ 16 ∷ 20 ∷ 4 ∷ [])
+    × (whole_sizes (of two_calls (listed (63 ∷ 64 ∷ 93 ∷ []))) ≡ 32 ∷ 4 ∷ 32 ∷ 20 ∷ 4 ∷ [])
+    × (whole_sizes (of two_calls (listed (0 ∷ 1 ∷ 2 ∷ 3 ∷ 4 ∷ 5 ∷ 6 ∷ 2047 ∷ []))) ≡ 72 ∷ 4 ∷ 72 ∷ 20 ∷ 4 ∷ [])
+    × (whole_size Plain (of two_calls (listed (64 ∷ []))) ≡ 124) × (whole_size Plain (of two_calls (closed [])) ≡ 100)
+    × (whole_sizes (of two_calls (record (closed ((2 ∷ []) ∷ [])) { calls = Some (64 ∷ []) })) ≡ 16 ∷ 4 ∷ 20 ∷ 20 ∷ 4 ∷ [])
 unfolding part_sizes decoded
 call_rows = (refl, refl, refl, refl, refl, refl, refl)
 
@@ -96,7 +101,7 @@ none : ℕ → Bool
 none k = false
 
 -- so only the first one is short
-forced_rows : (is_forced (starts_under 0x40000040 none (shorts_of over_one (closed [])) (whole_sizes over_one (closed []))) (short 0 2 0 false) ≡ false)
-    × (is_forced (starts_under 0x40000040 none (shorts_of over_jump (closed [])) (whole_sizes over_jump (closed []))) (short 0 2 0 true) ≡ true)
+forced_rows : (is_forced (starts_under 0x40000040 none (shorts_of (of over_one (closed []))) (whole_sizes (of over_one (closed [])))) (short 0 2 0 false) ≡ false)
+    × (is_forced (starts_under 0x40000040 none (shorts_of (of over_jump (closed []))) (whole_sizes (of over_jump (closed [])))) (short 0 2 0 true) ≡ true)
 unfolding part_sizes shorts_below sizes_where starts_from none
 forced_rows = (refl, refl)

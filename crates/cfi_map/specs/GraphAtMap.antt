@@ -13,6 +13,7 @@ use Rattle.cfi_graph.specs.declared.line.GraphLine.TheVariants as line
 use Rattle.cfi_graph.specs.declared.line.SiteKind.TheVariants as site
 use Rattle.cfi_closed.specs.Closed.{ClosedGraph}
 use Rattle.cfi_map.specs.LabelOf.{Tagged, site_label, tagged}
+use Rattle.cfi_leads.specs.Entered.{Entered, entered_at}
 use Rattle.cfi_map.specs.Placement.{word_of, words_from}
 
 -- a program with its closed graph at a map, entered at a place
@@ -27,15 +28,19 @@ pub record ProgramAtMap : Type 0 where
 abbrev pub program_at : Form → Program → ClosedGraph → List ℕ → ℕ → ProgramAtMap
 program_at form program closed gates entry = record { profile = profile_for form; program = program; closed = closed; gates = gates; entry = entry }
 
+-- the program without its gates
+abbrev pub entered_in : ProgramAtMap → Entered
+entered_in layout = entered_at layout.program layout.closed layout.entry
+
 abbrev pub gate : ProgramAtMap → ℕ → ℕ
 gate layout k = slice_index layout.gates k
 
 abbrev pub word : ProgramAtMap → ℕ → ℕ
-word layout k = word_of layout.closed.sides layout.gates k
+word layout k = word_of (entered_in layout) layout.gates k
 
 -- the words of all places
 abbrev pub words_at : ProgramAtMap → List ℕ
-words_at layout = words_from layout.closed.sides 0 layout.gates
+words_at layout = words_from (entered_in layout) 0 layout.gates
 
 abbrev pub gate_to : ProgramAtMap → Option ℕ → ℕ
 gate_to layout None = 0

@@ -1,6 +1,6 @@
 -- Groups of stores. Stores that stand one after another may share one mask: a store joins the group that ends right before its place and
 -- is then a later member of it, which has one word, the store itself.
-use Rattle.std.specs.Prelude.{List, ◌≡◌, ℕ, zero, suc, ◌+◌, ◌-◌, ◌%◌, ◌<◌, ◌≤◌, nat_le, nat_lt, Bool, true, false, not, ◌==◌, ◌&&◌, ◌||◌, if◌then◌else◌, Option, Some, None, set, slice_index_or}
+use Rattle.std.specs.Prelude.{List, ◌≡◌, ℕ, zero, suc, ◌+◌, ◌-◌, ◌%◌, ◌<◌, ◌≤◌, nat_le, nat_lt, Bool, true, false, not, ◌==◌, ◌&&◌, ◌||◌, if◌then◌else◌, Option, Some, None, slice_index_or}
 use Rattle.std.specs.List.{list_any}
 use Rattle.rv_instr.specs.declared.instr.Instr.{Instr}
 use Rattle.rv_instr.specs.declared.instr.Instr.TheVariants.{Store}
@@ -10,7 +10,10 @@ use Rattle.obj_input.specs.declared.item_kind.ItemKind.TheVariants as is
 use Rattle.obj_program.specs.declared.item.Item.{Item}
 use Rattle.obj_program.specs.Program.{Program, item_of}
 use Rattle.obj_program.specs.Sound.{is_own}
+use Rattle.cfi_graph.specs.Graph.{has_leaves}
 use Rattle.cfi_closed.specs.Closed.{ClosedGraph, is_target}
+use Rattle.cfi_leads.specs.Entered.{Entered}
+use Rattle.cfi_leads.specs.Entries.{aims_at}
 
 -- how many stores a group has at most, and how far apart their offsets are at most
 abbrev pub MOST_STORES : ℕ
@@ -33,10 +36,6 @@ level_of (Some (Store op rs1 rs2 imm)) = (imm + 2048) % 4096
 level_of other = 0
 
 -- a direct transfer goes to a place
-abbrev pub aims_at : ℕ → Option ℕ → Bool
-aims_at k None = false
-aims_at k (Some target) = target == k
-
 abbrev pub is_direct_target : Program → ℕ → Bool
 is_direct_target program k = list_any (λ (i : Item). aims_at k i.target) program.items
 
@@ -44,28 +43,30 @@ is_direct_target program k = list_any (λ (i : Item). aims_at k i.target) progra
 abbrev pub AreDirectTargets : Program → List Bool → Type 0
 AreDirectTargets program flags = (k : ℕ) → slice_index_or flags k false ≡ is_direct_target program k
 
--- flags with one more place marked, if there is one
-abbrev pub marked : List Bool → Option ℕ → List Bool
-marked flags None = flags
-marked flags (Some k) = set flags k true
-
 -- a place may be entered from elsewhere than the place before it: it is the entry, a direct target, a class's target or taken
 abbrev pub is_entered : Program → ClosedGraph → ℕ → ℕ → Bool
 is_entered program closed entry k =
     k == entry || (is_direct_target program k || (is_target closed.sides k || slice_index_or closed.taken k false))
 
--- a program with its closed graph that is entered at a place
-pub record Entries : Type 0 where
-  pub program : Program
-  pub closed : ClosedGraph
-  pub entry : ℕ
+-- what bounds the groups of a program: which of its places may be entered, and whether there are masks for offsets that are not negative
+pub record Bounds : Type 0 where
+  pub entered : ℕ → Bool
+  pub short_masks : Bool
 
-abbrev pub entries : Program → ClosedGraph → ℕ → Entries
-entries program closed entry = record { program = program; closed = closed; entry = entry }
+abbrev pub bounds_in : Entered → Bounds
+bounds_in of = record { entered = is_entered of.program of.closed of.entry; short_masks = has_leaves of.closed.version }
 
--- which of its places may be entered
-abbrev pub entered_in : Entries → ℕ → Bool
-entered_in of k = is_entered of.program of.closed of.entry k
+-- a store's own offset is not negative
+abbrev pub is_forward : Item → Bool
+is_forward item = nat_le 2048 (level_of (decoded item.word))
+
+-- the mask of a store that begins a group is for such offsets alone, where there are such masks
+abbrev pub is_short : Item → Bool
+is_short item = is_own item.patch && is_forward item
+
+-- so a store may go behind the mask of a group's first one
+abbrev pub fits_mask : Bool → Item → Item → Bool
+fits_mask short_masks first item = not (short_masks && is_short first) || is_forward item
 
 -- a test holds at so many numbers from one on
 unfoldable pub all_from : (ℕ → Bool) → ℕ → ℕ → Bool
@@ -91,11 +92,11 @@ module _ (items : ℕ → Item) where
   abbrev pub may_share : ℕ → ℕ → ℕ → Bool
   may_share base_other level_other j = is_own_at j && (base j == base_other && are_near (level j) level_other)
 
-  -- which places may be entered: a store may join a group of so many stores right before it
-  abbrev pub may_join : (ℕ → Bool) → ℕ → ℕ → Bool
-  may_join entered k n =
-      nat_lt 0 n && (nat_lt n MOST_STORES && (is_store (items k).kind && (not (entered k)
-      && (is_own_at k && all_from (may_share (base k) (level k)) (k - n) n))))
+  -- a store may join a group of so many stores right before it
+  abbrev pub may_join : Bounds → ℕ → ℕ → Bool
+  may_join bounds k n =
+      nat_lt 0 n && (nat_lt n MOST_STORES && (is_store (items k).kind && (not (bounds.entered k)
+      && (is_own_at k && (fits_mask bounds.short_masks (items (k - n)) (items k) && all_from (may_share (base k) (level k)) (k - n) n)))))
 
 -- of each store whether it has its whole size, with a mask of its own; else it is a later member, behind the mask of a store before it
 module _ (items : ℕ → Item) (whole : ℕ → Bool) where
@@ -113,35 +114,36 @@ module _ (items : ℕ → Item) (whole : ℕ → Bool) where
     pub first : whole k ≡ true
     pub others : (i : ℕ) → 1 ≤ i → i < n → whole (k + i) ≡ false
 
-module _ (items : ℕ → Item) (entered whole : ℕ → Bool) where
+module _ (items : ℕ → Item) (bounds : Bounds) (whole : ℕ → Bool) where
   -- each later member may be one
   abbrev pub AreGroups : Type 0
-  AreGroups = (k : ℕ) → is_later items whole k ≡ true → may_join items entered k (members_before items whole k) ≡ true
+  AreGroups = (k : ℕ) → is_later items whole k ≡ true → may_join items bounds k (members_before items whole k) ≡ true
 
   -- from left to right each store is a later member that may be one: among the first places, and among all
   abbrev pub AreGreedyTo : ℕ → Type 0
-  AreGreedyTo n = (k : ℕ) → k < n → is_store (items k).kind ≡ true → whole k ≡ not (may_join items entered k (members_before items whole k))
+  AreGreedyTo n = (k : ℕ) → k < n → is_store (items k).kind ≡ true → whole k ≡ not (may_join items bounds k (members_before items whole k))
 
   abbrev pub AreGreedy : Type 0
-  AreGreedy = (k : ℕ) → is_store (items k).kind ≡ true → whole k ≡ not (may_join items entered k (members_before items whole k))
+  AreGreedy = (k : ℕ) → is_store (items k).kind ≡ true → whole k ≡ not (may_join items bounds k (members_before items whole k))
 
 -- how many stores a group has after a place, whose store may begin one, where it had so many before
 abbrev pub members_after : ItemKind → Bool → ℕ → ℕ
 members_after kind whole before = if is_store kind then (if whole then 1 else before + 1) else 0
 
 -- a store of a program may join a group of so many stores right before it
-abbrev pub joins_in : Entries → ℕ → ℕ → Bool
-joins_in of k n = may_join (item_of of.program) (entered_in of) k n
+abbrev pub joins_in : Entered → ℕ → ℕ → Bool
+joins_in of k n = may_join (item_of of.program) (bounds_in of) k n
 
 -- these flags say which stores of a program begin a group, from left to right
-abbrev pub AreLeads : Entries → List Bool → Type 0
-AreLeads of flags = AreGreedy (item_of of.program) (entered_in of) (λ k. slice_index_or flags k true)
+abbrev pub AreLeads : Entered → List Bool → Type 0
+AreLeads of flags = AreGreedy (item_of of.program) (bounds_in of) (λ k. slice_index_or flags k true)
 
 -- what holds of the stores of a group: they are few, with their own immediates, one base register and offsets that are near, and none but
 -- the first may be entered
-pub record Grouped (items : ℕ → Item) (entered : ℕ → Bool) (k n : ℕ) : Type 0 where
+pub record Grouped (items : ℕ → Item) (bounds : Bounds) (k n : ℕ) : Type 0 where
   pub most : n ≤ MOST_STORES
   pub own : (i : ℕ) → i < n → is_own_at items (k + i) ≡ true
   pub bases : (i j : ℕ) → i < n → j < n → base items (k + i) ≡ base items (k + j)
   pub near : (i j : ℕ) → i < n → j < n → level items (k + i) ≤ level items (k + j) + MOST_APART
-  pub free : (i : ℕ) → 1 ≤ i → i < n → entered (k + i) ≡ false
+  pub free : (i : ℕ) → 1 ≤ i → i < n → bounds.entered (k + i) ≡ false
+  pub mask : (i : ℕ) → 1 ≤ i → i < n → fits_mask bounds.short_masks (items k) (items (k + i)) ≡ true

@@ -5,13 +5,13 @@ use Rattle.std.specs.Prelude.{◌≡◌, ℕ, ◌+◌, take}
 use Rattle.cfi_map_text.specs.Map.{MapParts}
 use Rattle.obj_program.specs.Program.{Program}
 use Rattle.cfi_closed.specs.Closed.{ClosedGraph}
-use Rattle.cfi_map.specs.Groups.{is_entered}
+use Rattle.cfi_leads.specs.Entered.{entered_at}
 use Rattle.cfi_map.specs.LegalMap.{AreLegal}
 
--- the first lines are legal lines of as many first places, of which those may be entered that may be in the whole program
+-- the first lines are legal lines of as many first places of the whole program
 abbrev pub BeginsLegal : Program → ClosedGraph → ℕ → MapParts → ℕ → Type 0
 BeginsLegal program closed entry map n =
-    AreLegal (record program { items = take n program.items }) closed (is_entered program closed entry) (record map { lines = take n map.lines })
+    AreLegal (entered_at program closed entry) (take n program.items) (record map { lines = take n map.lines })
 
 -- the number of the first wrong line
 pub record IsWrongLine (program : Program) (closed : ClosedGraph) (entry : ℕ) (map : MapParts) (number : ℕ) : Type 0 where

@@ -1,7 +1,9 @@
--- Placements: where the unit of each place stands. Units stand one after another from the address after the prologue, each behind one
--- word for each side of the closed graph where its place is a target; a section's end has a stop.
-use Rattle.std.specs.Prelude.{◌≡◌, ℕ, ◌+◌, ◌*◌, Bool, true, false, if◌then◌else◌, Option, Some, None, List, [], ◌∷◌, length, slice_index, slice_index_or}
+-- Placements: where the unit of each place stands. Units stand one after another from the address after the prologue, each behind the
+-- words of its lead, if it has any; a section's end has a stop.
+use Rattle.std.specs.Prelude.{◌≡◌, ℕ, ◌+◌, ◌*◌, nat_le, Bool, true, false, ◌&&◌, if◌then◌else◌, Option, Some, None, List, [], ◌∷◌, length, slice_index, slice_index_or}
 use Rattle.rv_word.specs.declared.unit_words.TheConstants as counts
+use Rattle.rv_word.specs.declared.version.GraphVersion.{GraphVersion}
+use Rattle.rv_word.specs.declared.version.GraphVersion.TheVariants.{OneLabel, TwoLabels, CalleeSaves}
 use Rattle.rv_instr.specs.declared.instr.Instr.{Instr}
 use Rattle.rv_instr.specs.declared.instr.Instr.TheVariants.{Ecall}
 use Rattle.rv_code.specs.Decode.{decoded}
@@ -9,8 +11,10 @@ use Rattle.obj_input.specs.declared.item_kind.ItemKind.{ItemKind}
 use Rattle.obj_input.specs.declared.item_kind.ItemKind.TheVariants as is
 use Rattle.obj_program.specs.declared.item.Item.{Item}
 use Rattle.obj_program.specs.Program.{no_item}
-use Rattle.cfi_closed.specs.Closed.{Side, is_target}
-use Rattle.cfi_map.specs.Groups.{AreGroups}
+use Rattle.cfi_leads.specs.Entered.{Entered}
+use Rattle.cfi_leads.specs.Leads.{lead_size}
+use Rattle.cfi_leads.specs.Leaves.{in_leaf}
+use Rattle.cfi_map.specs.Groups.{AreGroups, bounds_in, is_short}
 
 -- whether an instruction is an `ecall`, and whether that of a place is
 abbrev pub is_ecall_instr : Option Instr → Bool
@@ -37,36 +41,47 @@ kind_size calls is.Ijump ecall whole = 4 * counts.IJUMP_WORDS
 kind_size calls is.Icall ecall whole = 4 * counts.ICALL_WORDS
 kind_size calls other ecall whole = 4
 
--- that of a place, under a list of system calls or none
-abbrev pub size_of : Option (List ℕ) → Item → Bool → ℕ
-size_of calls item whole = kind_size calls item.kind (is_ecall item) whole
+-- the same where callees save the sites of calls: a mask has one word where the store's own offset is not negative, and else two, and a
+-- leaf returns by x1 alone
+abbrev pub lean_size : Option (List ℕ) → ItemKind → Bool → Bool → Bool → Bool → ℕ
+lean_size calls is.Store ecall short inside whole = if whole then (if short then 8 else 12) else 4
+lean_size calls is.Call ecall short inside whole = 4
+lean_size calls is.Return ecall short inside whole = if inside then 4 else 4 * counts.RETURN_WORDS
+lean_size calls is.Ijump ecall short inside whole = 60
+lean_size calls is.Icall ecall short inside whole = 60
+lean_size calls other ecall short inside whole = kind_size calls other ecall whole
+
+-- that of a place, where it is in a leaf or in none
+abbrev pub size_by : GraphVersion → Option (List ℕ) → Bool → Item → Bool → ℕ
+size_by OneLabel calls inside item whole = kind_size calls item.kind (is_ecall item) whole
+size_by TwoLabels calls inside item whole = kind_size calls item.kind (is_ecall item) whole
+size_by CalleeSaves calls inside item whole = lean_size calls item.kind (is_ecall item) (is_short item) inside whole
+
+abbrev pub size_of : Entered → ℕ → Item → Bool → ℕ
+size_of of k item whole = size_by of.closed.version of.closed.calls (in_leaf of k) item whole
 
 -- whether the unit of a place has its whole size; beyond the end of the flags each has
 abbrev pub whole_at : List Bool → ℕ → Bool
 whole_at whole k = slice_index_or whole k true
 
--- how many bytes the words before its unit have, if there are any
-abbrev pub lead_size : List Side → ℕ → ℕ
-lead_size sides k = if is_target sides k then 4 * length sides else 0
-
 -- the address of a place's unit, which AUIPC reads: its gate, or behind the words there
-abbrev pub word_of : List Side → List ℕ → ℕ → ℕ
-word_of sides gates k = slice_index gates k + lead_size sides k
+abbrev pub word_of : Entered → List ℕ → ℕ → ℕ
+word_of of gates k = slice_index gates k + lead_size of k
 
 -- the words of the places from index k on
-unfoldable pub words_from : List Side → ℕ → List ℕ → List ℕ
-words_from sides k [] = []
-words_from sides k (gate ∷ gates) = (gate + lead_size sides k) ∷ words_from sides (k + 1) gates
+unfoldable pub words_from : Entered → ℕ → List ℕ → List ℕ
+words_from of k [] = []
+words_from of k (gate ∷ gates) = (gate + lead_size of k) ∷ words_from of (k + 1) gates
 
 -- places from index k on have these gates, the first at an address and each next one behind the unit before it
-unfoldable pub AreGates : Option (List ℕ) → List Side → List Bool → ℕ → ℕ → List Item → List ℕ → Type 0
-AreGates calls sides whole k at [] [] = Unit {0}
-AreGates calls sides whole k at (item ∷ items) (gate ∷ gates) =
-    (gate ≡ at) × AreGates calls sides whole (k + 1) (at + lead_size sides k + size_of calls item (whole_at whole k)) items gates
-AreGates calls sides whole k at items gates = ⊥
+unfoldable pub AreGates : Entered → List Bool → ℕ → ℕ → List Item → List ℕ → Type 0
+AreGates of whole k at [] [] = Unit {0}
+AreGates of whole k at (item ∷ items) (gate ∷ gates) =
+    (gate ≡ at) × AreGates of whole (k + 1) (at + lead_size of k + size_of of k item (whole_at whole k)) items gates
+AreGates of whole k at items gates = ⊥
 
--- the gates of a placement with some units short, whose first unit stands at an address and whose later members of groups may be those:
--- this depends on which places may be entered
-abbrev pub IsLegal : ℕ → Option (List ℕ) → List Side → (ℕ → Bool) → List Item → List ℕ → Type 0
-IsLegal from calls sides entered items gates =
-    (whole : List Bool) × AreGates calls sides whole 0 from items gates × AreGroups (λ k. slice_index_or items k no_item) entered (whole_at whole)
+-- the gates of a placement of a program's first places, with some units short, whose first unit stands at an address and whose later
+-- members of groups may be those
+abbrev pub IsLegal : ℕ → Entered → List Item → List ℕ → Type 0
+IsLegal from of items gates =
+    (whole : List Bool) × AreGates of whole 0 from items gates × AreGroups (λ k. slice_index_or items k no_item) (bounds_in of) (whole_at whole)

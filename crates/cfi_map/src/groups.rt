@@ -1,17 +1,17 @@
 //! Which stores go behind the mask of a store before them.
 
-ghost use Rattle.std.specs.Prelude.{◌≡◌, ◌<◌, ◌≤◌, ◌+◌, ◌-◌, ◌%◌, ◌^◌, false, IfOk, IfSome, Some, length, slice_index_or};
+ghost use Rattle.std.specs.Prelude.{◌≡◌, ◌<◌, ◌≤◌, ◌+◌, ◌-◌, ◌%◌, ◌^◌, false, IfOk, Some, slice_index_or};
 ghost use Rattle.rv_code.specs.Decode.{decoded};
 ghost use Rattle.obj_program.specs.Program.{count, item_of};
 ghost use Rattle.obj_program.specs.Sound.{is_own};
-ghost use Rattle.cfi_map.specs.Groups.{AreDirectTargets, AreLeads, all_from, are_near, base_of, entered_in, entries, is_direct_target, is_store, joins_in, level_of, marked, may_share, members_after};
+ghost use Rattle.cfi_map.specs.Groups.{AreDirectTargets, AreLeads, all_from, are_near, base_of, bounds_in, fits_mask, is_direct_target, is_forward, is_short, is_store, joins_in, level_of, may_share, members_after};
 
-use cfi_closed::Closed;
+use cfi_leads::{Leads, mark};
 use obj_input::ItemKind;
 use obj_program::{Item, Items, Patch};
 use rv_code::decode;
 use rv_instr::{Immediate, Instr, Reg};
-use rv_word::NoMemory;
+use rv_word::{GraphVersion, NoMemory};
 use std::alloc::Global;
 use std::marker::Model;
 
@@ -86,6 +86,27 @@ fn is_own(patch: Patch) -> bool
     matches!(patch, Patch::Own)
 }
 
+/// Whether the offset of a store's word is not negative.
+fn is_forward(item: &Item) -> bool
+    ensures { result ≡ is_forward item.now }
+{
+    spot_of(decode(item.word)).level >= 2048
+}
+
+/// Whether the mask of a store that begins a group is for offsets alone that are not negative, where there are such masks.
+pub fn is_short(item: &Item) -> bool
+    ensures { result ≡ is_short item.now }
+{
+    is_own(item.patch) && is_forward(item)
+}
+
+/// Whether a store may go behind the mask of a group's first one.
+fn fits_mask(short_masks: bool, first: &Item, item: &Item) -> bool
+    ensures { result ≡ fits_mask short_masks first.now item.now }
+{
+    !(short_masks && is_short(first)) || is_forward(item)
+}
+
 /// Whether one mask may serve the store at a place and another one.
 fn may_share(items: &Items, other: Spot, j: u64) -> bool
     requires place { j < count items.now }
@@ -112,16 +133,6 @@ fn all_share(items: &Items, first: u64, k: u64, other: Spot) -> bool
     true
 }
 
-/// Marks a place, if there is one.
-fn mark(flags: &mut Vec<bool>, place: Option<u64>)
-    requires { IfSome place (λ k. k < length flags.old.items) }
-    ensures { flags.new.items ≡ marked flags.old.items place }
-{
-    if let Some(k) = place {
-        flags[k as usize] = true;
-    }
-}
-
 /// Of each place whether a direct transfer goes there.
 fn direct_targets(alloc: Global, items: &Items) -> Result<Vec<bool>, NoMemory>
     ensures { IfOk result (λ v. AreDirectTargets items.now v.items) }
@@ -136,61 +147,43 @@ fn direct_targets(alloc: Global, items: &Items) -> Result<Vec<bool>, NoMemory>
 
 /// What tells which stores of a program may join those before them.
 #[derive(Drop)]
-pub struct Grouping<'a, 'b> {
-    items: &'a Items<'b>,
-    closed: &'a Closed,
-    entry: u64,
+pub struct Grouping<'a, 'b, 'c> {
+    leads: &'c Leads<'a, 'b>,
     targets: Vec<bool>,
 }
 
-impl<'a, 'b> Model for Grouping<'a, 'b> {
-    ghost use Rattle.cfi_map.specs.Groups.{AreDirectTargets, Entries, entries};
+impl<'a, 'b, 'c> Model for Grouping<'a, 'b, 'c> {
+    ghost use Rattle.cfi_leads.specs.Entered.{Entered};
+    ghost use Rattle.cfi_map.specs.Groups.{AreDirectTargets};
 
-    ghost Value = { Entries };
+    ghost Value = { Entered };
 
-    ghost view = { λ g. entries g.items.now g.closed.now g.entry };
+    ghost view = { λ g. g.leads.now };
 
-    ghost invariant = { λ g. AreDirectTargets g.items.now g.targets.items };
+    ghost invariant = { λ g. AreDirectTargets g.leads.now.program g.targets.items };
 }
 
-impl<'a, 'b> Grouping<'a, 'b> {
+impl<'a, 'b, 'c> Grouping<'a, 'b, 'c> {
     /// That of a program with its closed graph that is entered at a place.
-    pub fn of(
-        alloc: Global,
-        items: &'a Items<'b>,
-        closed: &'a Closed,
-        entry: u64,
-    ) -> Result<Grouping<'a, 'b>, NoMemory>
-        ensures { IfOk result (λ g. g ≡ entries items.now closed.now entry) }
+    pub fn of(alloc: Global, leads: &'c Leads<'a, 'b>) -> Result<Grouping<'a, 'b, 'c>, NoMemory>
+        ensures { IfOk result (λ g. g ≡ leads.now) }
     {
-        let targets = direct_targets(alloc, items)?;
-        Ok(Grouping {
-            items,
-            closed,
-            entry,
-            targets,
-        })
+        let targets = direct_targets(alloc, leads.items())?;
+        Ok(Grouping { leads, targets })
     }
 
-    /// The program.
-    pub fn items(&self) -> &'a Items<'b>
-        ensures { result.now ≡ self.now.program }
+    /// The program, with what stands before the units of its places.
+    pub fn leads(&self) -> &'c Leads<'a, 'b>
+        ensures { result.now ≡ self.now }
     {
-        self.items
-    }
-
-    /// Its closed graph.
-    pub fn closed(&self) -> &'a Closed
-        ensures { result.now ≡ self.now.closed }
-    {
-        self.closed
+        self.leads
     }
 
     /// How many places the program has.
     fn count(&self) -> u64
         ensures { result ≡ count self.now.program }
     {
-        self.items.count()
+        self.leads.count()
     }
 
     /// Whether a direct transfer goes to a place.
@@ -207,14 +200,25 @@ impl<'a, 'b> Grouping<'a, 'b> {
     fn is_taken(&self, k: u64) -> bool
         ensures { result ≡ slice_index_or self.now.closed.taken k false }
     {
-        k < self.closed.places() && self.closed.taken(k)
+        let closed = self.leads.closed();
+        k < closed.places() && closed.taken(k)
     }
 
     /// Whether a place may be entered from elsewhere than the place before it.
     fn is_entered(&self, k: u64) -> bool
-        ensures { result ≡ entered_in self.now k }
+        ensures { result ≡ (bounds_in self.now).entered k }
     {
-        k == self.entry || self.is_direct_target(k) || self.closed.is_target(k) || self.is_taken(k)
+        k == self.leads.entry()
+            || self.is_direct_target(k)
+            || self.leads.closed().is_target(k)
+            || self.is_taken(k)
+    }
+
+    /// Whether there are masks for offsets alone that are not negative.
+    fn short_masks(&self) -> bool
+        ensures { result ≡ (bounds_in self.now).short_masks }
+    {
+        self.leads.closed().version() == GraphVersion::CalleeSaves
     }
 
     /// Whether a store may join a group of so many stores right before it.
@@ -223,13 +227,14 @@ impl<'a, 'b> Grouping<'a, 'b> {
         requires inside { n ≤ k }
         ensures { result ≡ joins_in self.now k n }
     {
-        let item = self.items.item(k);
+        let item = self.leads.item(k);
         n > 0
             && n < MOST_STORES
             && is_store(item.kind)
             && !self.is_entered(k)
             && is_own(item.patch)
-            && all_share(self.items, k - n, k, spot_of(decode(item.word)))
+            && fits_mask(self.short_masks(), &self.leads.item(k - n), &item)
+            && all_share(self.leads.items(), k - n, k, spot_of(decode(item.word)))
     }
 
     /// How many stores a group has after a place, whose store may begin one, where it had so many before.
@@ -238,24 +243,24 @@ impl<'a, 'b> Grouping<'a, 'b> {
         requires inside { before ≤ k }
         ensures { result ≡ members_after (item_of self.now.program k).kind whole before }
     {
-        let _count = self.items.count();
-        if !is_store(self.items.item(k).kind) {
+        let _count = self.leads.count();
+        if !is_store(self.leads.item(k).kind) {
             return 0;
         }
         if whole { 1 } else { before + 1 }
     }
 
     /// Of each place whether it has its whole size, where each store that may join the group before it does.
-    pub fn leads(&self, alloc: Global) -> Result<Vec<bool>, NoMemory>
+    pub fn first_stores(&self, alloc: Global) -> Result<Vec<bool>, NoMemory>
         ensures { IfOk result (λ v. AreLeads self.now v.items) }
     {
-        let mut leads = Vec::new(alloc);
+        let mut firsts = Vec::new(alloc);
         let mut before = 0;
         for k in 0..self.count() {
-            let lead = !self.may_join(k, before);
-            leads.push(lead)?;
-            before = self.members_after(k, lead, before);
+            let first = !self.may_join(k, before);
+            firsts.push(first)?;
+            before = self.members_after(k, first, before);
         }
-        Ok(leads)
+        Ok(firsts)
     }
 }

@@ -5,7 +5,7 @@
 pub use groups::{Grouping, MOST_STORES, is_store};
 pub use mapped::Mapped;
 pub use reason::Reason;
-pub use sizes::{lead_size, unit_size};
+pub use sizes::unit_size;
 pub use spacing::{Spacing, place_program};
 
 mod groups;

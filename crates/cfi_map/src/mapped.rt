@@ -14,8 +14,8 @@ ghost use Rattle.cfi_map.specs.Placement.{words_from};
 ghost use Rattle.cfi_map.specs.Source.{first_astray, instr_here};
 ghost use Rattle.cfi_map.specs.Untame.{place_with_gate};
 
-use crate::sizes::lead_size;
 use cfi_closed::Closed;
+use cfi_leads::Leads;
 use least::Place;
 use obj_program::{Item, Items};
 use rv_instr::Instr;
@@ -28,11 +28,9 @@ use std::marker::Model;
 #[derive(Drop)]
 pub struct Mapped<'a, 'b> {
     form: Form,
-    items: &'a Items<'b>,
-    closed: &'a Closed,
+    leads: Leads<'a, 'b>,
     gates: Vec<u64>,
     words: Vec<u64>,
-    entry: u64,
 }
 
 impl<'a, 'b> Model for Mapped<'a, 'b> {
@@ -41,19 +39,20 @@ impl<'a, 'b> Model for Mapped<'a, 'b> {
 
     ghost Value = { ProgramAtMap };
 
-    ghost view = { λ m. program_at m.form m.items.now m.closed.now m.gates.items m.entry };
+    ghost view = { λ m. program_at m.form m.leads.program m.leads.closed m.gates.items m.leads.entry };
 
-    ghost invariant = { λ m. IsMapped m.form (program_at m.form m.items.now m.closed.now m.gates.items m.entry) m.words.items };
+    ghost invariant = { λ m. IsMapped m.form (program_at m.form m.leads.program m.leads.closed m.gates.items m.leads.entry) m.words.items };
 }
 
 /// The words of places with these gates.
-fn words_behind(alloc: Global, closed: &Closed, gates: &[u64]) -> Result<Vec<u64>, NoMemory>
-    requires { (k : ℕ) → slice_index gates.now k < 2 ^ 32 }
-    ensures { IfOk result (λ v. v.items ≡ words_from closed.now.sides 0 gates.now) }
+fn words_behind(alloc: Global, leads: &Leads, gates: &[u64]) -> Result<Vec<u64>, NoMemory>
+    requires near { (k : ℕ) → slice_index gates.now k < 2 ^ 32 }
+    requires counted { length gates.now ≡ count leads.now.program }
+    ensures { IfOk result (λ v. v.items ≡ words_from leads.now 0 gates.now) }
 {
     let mut words = Vec::new(alloc);
     for k in 0..gates.len() {
-        words.push(gates[k] + u64::from(lead_size(closed, k as u64)))?;
+        words.push(gates[k] + u64::from(leads.size(k as u64)))?;
     }
     Ok(words)
 }
@@ -95,26 +94,22 @@ impl<'a, 'b> Mapped<'a, 'b> {
     pub fn of(
         alloc: Global,
         form: Form,
-        items: &'a Items<'b>,
-        closed: &'a Closed,
+        leads: Leads<'a, 'b>,
         gates: Vec<u64>,
-        entry: u64,
     ) -> Result<Mapped<'a, 'b>, NoMemory>
-        requires version { closed.now.version ≡ graph_version form }
-        requires counted { length gates.items ≡ count items.now }
+        requires version { leads.closed.version ≡ graph_version form }
+        requires counted { length gates.items ≡ count leads.program }
         requires near { (k : ℕ) → slice_index gates.items k < 2 ^ 32 }
         requires rising { IsStrictlyIncreasing gates.items }
-        requires entry { entry < count items.now }
-        ensures { IfOk result (λ m. m ≡ program_at form items.now closed.now gates.items entry) }
+        requires entry { leads.entry < count leads.program }
+        ensures { IfOk result (λ m. m ≡ program_at form leads.entry.program leads.entry.closed gates.items leads.entry.entry) }
     {
-        let words = words_behind(alloc, closed, gates.as_slice())?;
+        let words = words_behind(alloc, &leads, gates.as_slice())?;
         Ok(Mapped {
             form,
-            items,
-            closed,
+            leads,
             gates,
             words,
-            entry,
         })
     }
 
@@ -129,8 +124,9 @@ impl<'a, 'b> Mapped<'a, 'b> {
         ensures entry { self.now.entry < count self.now.program }
         ensures profile { IsFullProfile self.now.profile }
     {
-        self.items.fits_maps();
-        self.items.count()
+        let items = self.leads.items();
+        items.fits_maps();
+        items.count()
     }
 
     /// The form in which it is written: the only one for images of its profile and for graphs of its closed graph's version.
@@ -145,21 +141,21 @@ impl<'a, 'b> Mapped<'a, 'b> {
     pub fn items(&self) -> &'a Items<'b>
         ensures { result.now ≡ self.now.program }
     {
-        self.items
+        self.leads.items()
     }
 
     /// Its closed graph.
     pub fn closed(&self) -> &'a Closed
         ensures { result.now ≡ self.now.closed }
     {
-        self.closed
+        self.leads.closed()
     }
 
     /// The place where it is entered.
     pub fn entry(&self) -> u64
         ensures { result ≡ self.now.entry }
     {
-        self.entry
+        self.leads.entry()
     }
 
     /// The gates of its places.
@@ -181,7 +177,7 @@ impl<'a, 'b> Mapped<'a, 'b> {
         requires { k < count self.now.program }
         ensures { result ≡ item_of self.now.program k }
     {
-        self.items.item(k)
+        self.items().item(k)
     }
 
     /// The gate of a place.
@@ -199,7 +195,7 @@ impl<'a, 'b> Mapped<'a, 'b> {
         ensures near { result < 2 ^ 33 }
     {
         let _count = self.count();
-        self.gate(k) + u64::from(lead_size(self.closed, k))
+        self.gate(k) + u64::from(self.leads.size(k))
     }
 
     /// The instruction of a place, with the values of its relocations where they are in range; a section's end has none.
@@ -210,7 +206,9 @@ impl<'a, 'b> Mapped<'a, 'b> {
         ensures { result ≡ instr_here self.now k }
     {
         let _count = self.count();
-        self.items.instr_at(k, self.gates(), self.words()).unwrap()
+        self.items()
+            .instr_at(k, self.gates(), self.words())
+            .unwrap()
     }
 
     /// Where a value first leaves the range of its relocation.
@@ -218,7 +216,7 @@ impl<'a, 'b> Mapped<'a, 'b> {
         ensures { result ≡ first_astray self.now }
     {
         let _count = self.count();
-        self.items.out_of_range(self.gates(), self.words())
+        self.items().out_of_range(self.gates(), self.words())
     }
 
     /// The initialised data, with the values of their relocations where they are in range.
@@ -228,7 +226,7 @@ impl<'a, 'b> Mapped<'a, 'b> {
         ensures length { IfOk result (λ v. length v.items ≡ init_size self.now.program) }
     {
         let _count = self.count();
-        match self.items.data_at(alloc, self.gates()) {
+        match self.items().data_at(alloc, self.gates()) {
             Ok(data) => Ok(data),
             Err(End::Fault(_)) => unreachable!(),
             Err(End::NoMemory) => Err(NoMemory),

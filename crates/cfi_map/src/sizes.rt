@@ -1,21 +1,22 @@
-//! How many bytes the unit of each place has, and the words before it.
+//! How many bytes the unit of each place has.
 
 ghost use Rattle.std.specs.Prelude.{◌≡◌, ◌+◌, ◌<◌, ◌≤◌, ◌||◌, not, IfOk};
 ghost use Rattle.obj_program.specs.Program.{count, item_of};
+ghost use Rattle.cfi_leads.specs.Leads.{lead_size};
 ghost use Rattle.cfi_map.specs.Groups.{is_store};
-ghost use Rattle.cfi_map.specs.Placement.{call_size, is_ecall, is_ecall_instr, lead_size, size_of, whole_at};
+ghost use Rattle.cfi_map.specs.Placement.{call_size, is_ecall, is_ecall_instr, kind_size, lean_size, size_of, whole_at};
 ghost use Rattle.cfi_map.specs.Sizes.{grouped_parts};
 
-use crate::groups::is_store;
-use cfi_closed::Closed;
+use crate::groups::{is_short, is_store};
+use cfi_leads::Leads;
 use obj_input::ItemKind;
-use obj_program::{Item, Items};
+use obj_program::Item;
 use rv_code::decode;
 use rv_instr::Instr;
 use rv_word::unit_words::{
     BRANCH_WORDS, CALL_WORDS, ICALL_WORDS, IJUMP_WORDS, RETURN_WORDS, STORE_WORDS,
 };
-use rv_word::{NoMemory, Numbers};
+use rv_word::{GraphVersion, NoMemory, Numbers};
 use std::alloc::Global;
 
 /// Whether an instruction is ECALL.
@@ -43,14 +44,13 @@ fn call_size(calls: Option<Numbers>) -> u32
     }
 }
 
-/// How many bytes the unit of a place has: the whole, or one word of a branch that is short and of a store that is a later member of
-/// its group. That of an ECALL has more under a list of system calls.
-pub fn unit_size(closed: &Closed, item: &Item, whole: bool) -> u32
-    ensures value { result ≡ size_of closed.now.calls item.now whole }
+/// How many bytes the unit of a kind of place has where callers save sites.
+fn kind_size(calls: Option<Numbers>, kind: ItemKind, is_ecall: bool, whole: bool) -> u32
+    ensures value { result ≡ kind_size calls kind is_ecall whole }
     ensures small { result ≤ 80 }
 {
-    match item.kind {
-        ItemKind::System if is_ecall(item) => call_size(closed.calls()),
+    match kind {
+        ItemKind::System if is_ecall => call_size(calls),
         ItemKind::Store if whole => 4 * STORE_WORDS,
         ItemKind::Branch if whole => 4 * BRANCH_WORDS,
         ItemKind::Call => 4 * CALL_WORDS,
@@ -61,15 +61,50 @@ pub fn unit_size(closed: &Closed, item: &Item, whole: bool) -> u32
     }
 }
 
-/// How many bytes the words before the unit of a place have, if there are any.
-pub fn lead_size(closed: &Closed, place: u64) -> u32
-    ensures value { result ≡ lead_size closed.now.sides place }
-    ensures small { result ≤ 8 }
+/// How many bytes it has where callees do, behind a mask of one word if it is a store of its own that has a short one, in a leaf or in none.
+fn lean_size(
+    calls: Option<Numbers>,
+    kind: ItemKind,
+    is_ecall: bool,
+    is_short: bool,
+    in_leaf: bool,
+    whole: bool,
+) -> u32
+    ensures value { result ≡ lean_size calls kind is_ecall is_short in_leaf whole }
+    ensures small { result ≤ 80 }
 {
-    if closed.is_target(place) {
-        4 * closed.sides().len() as u32
-    } else {
-        0
+    match kind {
+        ItemKind::Store if whole => { if is_short { 8 } else { 12 } }
+        ItemKind::Call => 4,
+        ItemKind::Return if in_leaf => 4,
+        ItemKind::Ijump | ItemKind::Icall => 60,
+        kind => kind_size(calls, kind, is_ecall, whole),
+    }
+}
+
+/// How many bytes the unit of a place has: the whole, or one word of a branch that is short and of a store that is a later member of
+/// its group. That of an ECALL has more under a list of system calls.
+pub fn unit_size(leads: &Leads, k: u64, item: &Item, whole: bool) -> u32
+    requires { k < count leads.now.program }
+    ensures value { result ≡ size_of leads.now k item.now whole }
+    ensures small { result ≤ 80 }
+{
+    let calls = leads.closed().calls();
+    match leads.closed().version() {
+        GraphVersion::OneLabel | GraphVersion::TwoLabels => {
+            kind_size(calls, item.kind, is_ecall(item), whole)
+        }
+        GraphVersion::CalleeSaves => {
+            let in_leaf = leads.in_leaf(k);
+            lean_size(
+                calls,
+                item.kind,
+                is_ecall(item),
+                is_short(item),
+                in_leaf,
+                whole,
+            )
+        }
     }
 }
 
@@ -84,27 +119,26 @@ pub(crate) fn flag_at(flags: &[bool], place: u64) -> bool
 }
 
 /// How many bytes the part of a place has, where each branch is long, and these flags say which stores have their whole size.
-fn part_size(items: &Items, closed: &Closed, leads: &[bool], place: u64) -> u32
-    requires { place < count items.now }
-    ensures { result ≡ lead_size closed.now.sides place + size_of closed.now.calls (item_of items.now place) (whole_at leads.now place || not (is_store (item_of items.now place).kind)) }
+fn part_size(leads: &Leads, firsts: &[bool], place: u64) -> u32
+    requires { place < count leads.now.program }
+    ensures { result ≡ lead_size leads.now place + size_of leads.now place (item_of leads.now.program place) (whole_at firsts.now place || not (is_store (item_of leads.now.program place).kind)) }
 {
-    let item = items.item(place);
-    let whole = flag_at(leads, place) || !is_store(item.kind);
-    lead_size(closed, place) + unit_size(closed, &item, whole)
+    let item = leads.item(place);
+    let whole = flag_at(firsts, place) || !is_store(item.kind);
+    leads.size(place) + unit_size(leads, place, &item, whole)
 }
 
 /// The same of all places, in their order.
 pub(crate) fn grouped_sizes(
     alloc: Global,
-    items: &Items,
-    closed: &Closed,
-    leads: &[bool],
+    leads: &Leads,
+    firsts: &[bool],
 ) -> Result<Vec<u32>, NoMemory>
-    ensures { IfOk result (λ v. v.items ≡ grouped_parts items.now closed.now leads.now) }
+    ensures { IfOk result (λ v. v.items ≡ grouped_parts leads.now firsts.now) }
 {
     let mut sizes = Vec::new(alloc);
-    for k in 0..items.count() {
-        sizes.push(part_size(items, closed, leads, k))?;
+    for k in 0..leads.count() {
+        sizes.push(part_size(leads, firsts, k))?;
     }
     Ok(sizes)
 }

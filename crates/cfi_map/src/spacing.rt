@@ -5,7 +5,8 @@ ghost use Rattle.rv_word.specs.Form.{graph_version};
 ghost use Rattle.rv_word.specs.MemoryMap.{CODE_SIZE};
 ghost use Rattle.obj_program.specs.Program.{count};
 ghost use Rattle.cfi_layout.specs.Starts.{flag};
-ghost use Rattle.cfi_map.specs.Groups.{AreLeads, entries};
+ghost use Rattle.cfi_leads.specs.Entered.{entered_at};
+ghost use Rattle.cfi_map.specs.Groups.{AreLeads};
 ghost use Rattle.cfi_map.specs.Placement.{whole_at};
 ghost use Rattle.cfi_map.specs.Placing.{IsPlacementOf, IsShortened, PlaceEnds, joined};
 ghost use Rattle.cfi_map.specs.Sizes.{whole_size};
@@ -16,6 +17,7 @@ use crate::shorts::shorts;
 use crate::sizes::{flag_at, grouped_sizes};
 use cfi_closed::Closed;
 use cfi_layout::{CodeTooLarge, Placement, code_size, shorten};
+use cfi_leads::Leads;
 use obj_program::Items;
 use rv_word::memory_map::CODE_SIZE;
 use rv_word::{End, Form, NoMemory};
@@ -55,17 +57,12 @@ impl<'a, 'b> Spacing<'a, 'b> {
 }
 
 /// Whether the code of a program has room in a form with every branch long and no group.
-fn has_room(
-    alloc: Global,
-    form: Form,
-    items: &Items,
-    closed: &Closed,
-) -> Result<(), End<CodeTooLarge>>
+fn has_room(alloc: Global, form: Form, leads: &Leads) -> Result<(), End<CodeTooLarge>>
     ensures { MatchResult result
-        (λ _. whole_size form items.now closed.now ≤ CODE_SIZE)
-        (λ e. PlaceEnds form items.now closed.now e) }
+        (λ _. whole_size form leads.now ≤ CODE_SIZE)
+        (λ e. PlaceEnds form leads.now e) }
 {
-    let sizes = grouped_sizes(alloc, items, closed, &[])?;
+    let sizes = grouped_sizes(alloc, leads, &[])?;
     let bytes = code_size(form, sizes.as_slice());
     if bytes > u128::from(CODE_SIZE) {
         return Err(End::Fault(CodeTooLarge { bytes }));
@@ -74,38 +71,37 @@ fn has_room(
 }
 
 /// Which stores begin a group, where each that may join the one before it does.
-fn leads(alloc: Global, items: &Items, closed: &Closed, entry: u64) -> Result<Vec<bool>, NoMemory>
-    ensures { IfOk result (λ v. AreLeads (entries items.now closed.now entry) v.items) }
+fn first_stores(alloc: Global, leads: &Leads) -> Result<Vec<bool>, NoMemory>
+    ensures { IfOk result (λ v. AreLeads leads.now v.items) }
 {
-    let grouping = Grouping::of(alloc, items, closed, entry)?;
-    let leads = grouping.leads(alloc)?;
-    Ok(leads)
+    let grouping = Grouping::of(alloc, leads)?;
+    let firsts = grouping.first_stores(alloc)?;
+    Ok(firsts)
 }
 
 /// The placement of a program's parts, where these flags say which stores begin a group, with each branch short that can be.
 fn shortened(
     alloc: Global,
     form: Form,
-    items: &Items,
-    closed: &Closed,
-    leads: &[bool],
+    leads: &Leads,
+    firsts: &[bool],
 ) -> Result<Placement, NoMemory>
-    requires { whole_size form items.now closed.now ≤ CODE_SIZE }
-    ensures { IfOk result (λ p. IsShortened form items.now closed.now leads.now p) }
+    requires { whole_size form leads.now ≤ CODE_SIZE }
+    ensures { IfOk result (λ p. IsShortened form leads.now firsts.now p) }
 {
-    let sizes = grouped_sizes(alloc, items, closed, leads)?;
-    let branches = shorts(alloc, items, closed)?;
+    let sizes = grouped_sizes(alloc, leads, firsts)?;
+    let branches = shorts(alloc, leads)?;
     let placement = shorten(alloc, form, sizes.as_slice(), branches.as_slice())?;
     Ok(placement)
 }
 
 /// Whether a part has its whole size.
-fn is_whole(items: &Items, leads: &[bool], placement: &Placement, k: u64) -> bool
-    requires { k < count items.now }
-    ensures { result ≡ joined items.now leads.now placement.now.long k }
+fn is_whole(leads: &Leads, firsts: &[bool], placement: &Placement, k: u64) -> bool
+    requires { k < count leads.now.program }
+    ensures { result ≡ joined leads.now.program firsts.now placement.now.long k }
 {
-    if is_store(items.item(k).kind) {
-        flag_at(leads, k)
+    if is_store(leads.item(k).kind) {
+        flag_at(firsts, k)
     } else {
         placement.is_long(k as usize)
     }
@@ -114,16 +110,16 @@ fn is_whole(items: &Items, leads: &[bool], placement: &Placement, k: u64) -> boo
 /// Which parts have their whole size.
 fn whole_parts(
     alloc: Global,
-    items: &Items,
-    leads: &[bool],
+    leads: &Leads,
+    firsts: &[bool],
     placement: &Placement,
 ) -> Result<Vec<bool>, NoMemory>
-    requires { (k : ℕ) → flag placement.now.long k ≡ false → k < count items.now }
-    ensures { IfOk result (λ v. (k : ℕ) → whole_at v.items k ≡ joined items.now leads.now placement.now.long k) }
+    requires { (k : ℕ) → flag placement.now.long k ≡ false → k < count leads.now.program }
+    ensures { IfOk result (λ v. (k : ℕ) → whole_at v.items k ≡ joined leads.now.program firsts.now placement.now.long k) }
 {
     let mut whole = Vec::new(alloc);
-    for k in 0..items.count() {
-        whole.push(is_whole(items, leads, placement, k))?;
+    for k in 0..leads.count() {
+        whole.push(is_whole(leads, firsts, placement, k))?;
     }
     Ok(whole)
 }
@@ -132,22 +128,20 @@ fn whole_parts(
 fn spaced<'a, 'b>(
     alloc: Global,
     form: Form,
-    items: &'a Items<'b>,
-    closed: &'a Closed,
-    entry: u64,
-    leads: &[bool],
+    leads: Leads<'a, 'b>,
+    firsts: &[bool],
     placement: &Placement,
 ) -> Result<Spacing<'a, 'b>, NoMemory>
-    requires version { closed.now.version ≡ graph_version form }
-    requires leads { AreLeads (entries items.now closed.now entry) leads.now }
-    requires shortened { IsShortened form items.now closed.now leads.now placement.now }
-    requires entry { entry < count items.now }
-    ensures { IfOk result (λ s. IsPlacementOf form items.now closed.now entry s) }
+    requires version { leads.closed.version ≡ graph_version form }
+    requires firsts { AreLeads leads firsts.now }
+    requires shortened { IsShortened form leads firsts.now placement.now }
+    requires entry { leads.entry < count leads.program }
+    ensures { IfOk result (λ s. IsPlacementOf form leads.entry.program leads.entry.closed leads.entry.entry s) }
 {
-    let count = items.count() as usize;
-    let whole = whole_parts(alloc, items, leads, placement)?;
+    let count = leads.count() as usize;
+    let whole = whole_parts(alloc, &leads, firsts, placement)?;
     let gates = Vec::from_slice(alloc, &placement.starts()[..count])?;
-    let mapped = Mapped::of(alloc, form, items, closed, gates, entry)?;
+    let mapped = Mapped::of(alloc, form, leads, gates)?;
     Ok(Spacing { mapped, whole })
 }
 
@@ -165,12 +159,13 @@ pub fn place_program<'a, 'b>(
     requires entry { entry < count items.now }
     ensures { MatchResult result
         (λ s. IsPlacementOf form items.now closed.now entry s)
-        (λ e. PlaceEnds form items.now closed.now e) }
+        (λ e. PlaceEnds form (entered_at items.now closed.now entry) e) }
 {
-    has_room(alloc, form, items, closed)?;
-    let leads = leads(alloc, items, closed, entry)?;
-    let leads = leads.as_slice();
-    let placement = shortened(alloc, form, items, closed, leads)?;
-    let spacing = spaced(alloc, form, items, closed, entry, leads, &placement)?;
+    let leads = Leads::of(alloc, items, closed, entry)?;
+    has_room(alloc, form, &leads)?;
+    let firsts = first_stores(alloc, &leads)?;
+    let firsts = firsts.as_slice();
+    let placement = shortened(alloc, form, &leads, firsts)?;
+    let spacing = spaced(alloc, form, leads, firsts, &placement)?;
     Ok(spacing)
 }

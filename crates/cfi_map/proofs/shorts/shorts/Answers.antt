@@ -9,18 +9,18 @@ use Rattle.cfi_map.proofs.Shortened.{branches_fit, few_places}
 use Rattle.cfi_map.proofs.shorts.shorts.Goals as goal
 
 pub loop-k-init : goal.loop-k-init
-loop-k-init c = shorts_begin c.args.items.now c.args.closed.now _ c.new-shorts.ensures.items
+loop-k-init c = shorts_begin c.args.leads.now _ c.new-shorts.ensures.items
 
 pub short_at-requires-clause-few : goal.short_at-requires-clause-few
-short_at-requires-clause-few c = few_places c.args.items.now c.args.closed.now c.requires
+short_at-requires-clause-few c = few_places c.args.leads.now c.requires
 
 pub loop-k-preserved : goal.loop-k-preserved
 loop-k-preserved c =
-    shorts_more c.args.items.now c.args.closed.now c.loop-k.k c.loop-k.shorts.items _ _ c.loop-k.invariant c.short_at.ensures c.in_ok-push_some.ensures
+    shorts_more c.args.leads.now c.loop-k.k c.loop-k.shorts.items _ _ c.loop-k.invariant c.short_at.ensures c.in_ok-push_some.ensures
 
 pub returns-clause-fit : goal.returns-clause-fit
-returns-clause-fit c = λ leads.
-    let all : c.loop-k.k ≡ count c.args.items.now = omega arith in
-    subst (λ (shorts : List Short). AreShorts shorts (grouped_parts c.args.items.now c.args.closed.now leads))
-    (sym (c.loop-k.invariant ∙ ap (shorts_below c.args.items.now c.args.closed.now) all))
-    (branches_fit c.args.items.now c.args.closed.now leads c.count-k-end.ensures.sound)
+returns-clause-fit c = λ firsts.
+    let all : c.loop-k.k ≡ count c.args.leads.now.program = omega arith in
+    subst (λ (shorts : List Short). AreShorts shorts (grouped_parts c.args.leads.now firsts))
+    (sym (c.loop-k.invariant ∙ ap (shorts_below c.args.leads.now) all))
+    (branches_fit c.args.leads.now firsts c.count-k-end.ensures.sound)

@@ -5,7 +5,7 @@ use Rattle.cfi_map.proofs.sizes.grouped_sizes.Goals as goal
 pub loop-k-preserved : goal.loop-k-preserved
 loop-k-preserved c =
     rw c.in_ok-push.ensures.items
-    (grouped_more c.args.closed.now.calls c.args.closed.now.sides c.args.leads.now c.loop-k.k c.args.items.now.items c.loop-k.sizes.items _ c.part_size.result (omega arith) c.part_size.ensures c.loop-k.invariant)
+    (grouped_more c.args.leads.now c.args.firsts.now c.loop-k.k c.args.leads.now.program.items c.loop-k.sizes.items _ c.part_size.result (omega arith) c.part_size.ensures c.loop-k.invariant)
 
 pub returns : goal.returns
-returns c = grouped_end c.args.closed.now.calls c.args.closed.now.sides c.args.leads.now c.loop-k.k c.args.items.now.items c.loop-k.sizes.items _ (omega arith) c.loop-k.invariant
+returns c = grouped_end c.args.leads.now c.args.firsts.now c.loop-k.k c.args.leads.now.program.items c.loop-k.sizes.items _ (omega arith) c.loop-k.invariant

@@ -4,4 +4,4 @@ use Rattle.cfi_map.proofs.sizes.grouped_sizes.Given as goal
 
 abbrev pub invariant-loop-k : goal.invariant-loop-k
 invariant-loop-k l =
-    l.sizes.items ++ grouped_sizes l.closed.calls l.closed.sides l.leads l.k (drop l.k l.items.items) ≡ grouped_parts l.items l.closed l.leads
+    l.sizes.items ++ grouped_sizes l.leads l.firsts l.k (drop l.k l.leads.program.items) ≡ grouped_parts l.leads l.firsts

@@ -2,8 +2,8 @@ use Rattle.std.proofs.Common.{ℕ, List, ◌<◌, ◌^◌, get_or, ap, subst, sy
 use Rattle.cfi_map.specs.Placement.{words_from}
 use Rattle.cfi_map.proofs.mapped.Mapped.of.Goals as goal
 
-pub words_behind-requires : goal.words_behind-requires
-words_behind-requires c = subst (λ (gs : List ℕ). (k : ℕ) → get_or gs k 0 < 2 ^ 32) (sym c.as_slice.ensures.value) c.requires.near
+pub words_behind-requires-clause-near : goal.words_behind-requires-clause-near
+words_behind-requires-clause-near c = subst (λ (gs : List ℕ). (k : ℕ) → get_or gs k 0 < 2 ^ 32) (sym c.as_slice.ensures.value) c.requires.near
 
 pub invariant_of-result : goal.invariant_of-result
 invariant_of-result c = record {
@@ -11,6 +11,6 @@ invariant_of-result c = record {
   counted = c.requires.counted;
   near = c.requires.near;
   rising = c.requires.rising;
-  words_are = c.in_ok-words.ensures ∙ ap (words_from c.args.closed.now.sides 0) c.as_slice.ensures.value;
+  words_are = c.in_ok-words.ensures ∙ ap (words_from c.args.leads 0) c.as_slice.ensures.value;
   entry = c.requires.entry;
 }

@@ -1,5 +1,0 @@
-use Rattle.cfi_map.proofs.Greedy.{AreLeadsTo}
-use Rattle.cfi_map.proofs.groups.Grouping.leads.Given as goal
-
-abbrev pub invariant-loop-k : goal.invariant-loop-k
-invariant-loop-k l = AreLeadsTo l.self l.k l.leads.items l.before
