@@ -23,7 +23,7 @@ use Rattle.obj_program.specs.Sound.{IsSound, is_of}
 use Rattle.obj_program.specs.Suits as suits
 use Rattle.obj_program.proofs.Read.{read_there}
 use Rattle.cfi_map.specs.GraphAtMap.{ProgramAtMap, entered_in, words_at}
-use Rattle.cfi_map.specs.Groups.{AreGroups, bounds_in, MOST_STORES, is_entered, is_store, members_before}
+use Rattle.cfi_map.specs.Groups.{AreGroups, bounds_in, MOST_STORES, is_store, members_before}
 use Rattle.cfi_map.specs.Source.{Source, instr_here, source_start}
 use Rattle.cfi_map.specs.World.{SameWorld}
 use Rattle.cfi_map.specs.SourceStep.{SourceAfter, StepTurn, acts, after_steps, breaks, exits, going_on, ran, source_step, step_at, unless, unless_ended, untame}
