@@ -1,5 +1,6 @@
 pub mod Within
 pub mod Laws
+pub mod Openings
 pub mod Own
 pub mod Tame
 pub mod Matching
