@@ -5,7 +5,8 @@ ghost use Rattle.cfi_runs.specs.MatchLaws.{ClosingKeepsMatch, OpeningKeepsMatch,
 ghost use Rattle.cfi_runs.specs.WholeRun.{RunKeepsMatch};
 ghost use Rattle.cfi_runs.specs.GroupLaws.{GroupIsOneStep, GroupsAreMasked, PlacesWalked};
 
-/// Where nothing is disturbed a unit does, within as many steps as it has words, what its flow says.
+/// Where nothing is disturbed a unit does, within as many steps as it has words, what its flow says, and writes of the scratch registers
+/// those alone that some word of it writes.
 pub fn unit_runs()
     ensures { UnitRuns }
 {}
