@@ -1,9 +1,10 @@
 -- Meaning kept, by induction on the source machine's steps.
-use Rattle.std.proofs.Common.{◌≡◌, ℕ, ◌+◌, ◌≤◌, ◌⊎◌, true, false, inl, inr, List, [], length, Option, Some, None, refl, sym, ap, subst, ◌∙◌, arith}
+use Rattle.std.proofs.Common.{◌≡◌, ℕ, ◌+◌, ◌≤◌, ◌⊎◌, Bool, true, false, inl, inr, List, [], length, Option, Some, None, refl, sym, ap, subst, ◌∙◌, arith}
 use Rattle.std.proofs.lemmas.Bool.{cases_Bool}
 use Rattle.rv_word.specs.Image.{Contents}
 use Rattle.rv_word.specs.MemoryMap.{DATA_START, Profile}
 use Rattle.rv_word.specs.Memory.{placed, zeros}
+use Rattle.rv_word.proofs.Profiles.{full_saves}
 use Rattle.rv_instr.specs.Registers.{cleared}
 use Rattle.rv_code.specs.State.{After, last_exit}
 use Rattle.cfi_map.specs.Placement.{whole_at}
@@ -11,6 +12,7 @@ use Rattle.cfi_map.specs.Source.{Source, init_here, source_start}
 use Rattle.cfi_map.specs.SourceStep.{SourceAfter, StepTurn, after_steps, breaks, exits, ran, source_step, untame}
 use Rattle.cfi_map.specs.declared.reason.Reason.{Reason}
 use Rattle.cfi_map.proofs.LaterRuns.{past, past_few, past_some}
+use Rattle.cfi_runs.specs.Openings.{entry_pending}
 use Rattle.cfi_runs.specs.Own.{Own, own_start}
 use Rattle.cfi_runs.specs.WholeRun.{RunsTo, own_shared, undisturbed}
 use Rattle.cfi_writer.specs.Units.{Choice, entry_gate, is_later_at}
@@ -38,7 +40,8 @@ module _ (m : Choice) (image : Contents) (of : IsImageOf m image) (input : List 
 
   starts : own_of m.layout start ≡ own_start p 0 (entry_gate m) cleared (own_shared image input)
   starts =
-      ap (λ (bytes : List ℕ). own_start p 0 (entry_gate m) cleared (record { memory = placed zeros DATA_START bytes; left = input; output = []; events = [] })) (sym init)
+      ap (λ (callee : Bool). record (own_of m.layout start) { pending = entry_pending callee p.closing }) (sym (full_saves p of.accepted.profile))
+      ∙ ap (λ (bytes : List ℕ). own_start p 0 (entry_gate m) cleared (record { memory = placed zeros DATA_START bytes; left = input; output = []; events = [] })) (sym init)
 
   kept : (n : ℕ) (st : Source) → (l : Led m image n start st) → is_at_later m.layout st.place ≡ false → KeepsPlaces m image input l.places (own_of m.layout st)
   kept n st l free =

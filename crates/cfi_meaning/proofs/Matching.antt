@@ -23,7 +23,7 @@ use Rattle.cfi_meaning.specs.Matches.{Matches, MatchesIsOwn, own_of, sites_at, s
 module _ (layout : ProgramAtMap) (image : Contents) (st : Source) (after : After) where
   -- a run of the program's own comes to this state
   abbrev pub OwnComes : Type 0
-  OwnComes = ComesTo SHADOW_START (loaded image) (loaded image) (own_of layout st) after
+  OwnComes = ComesTo layout.profile.callee_saves SHADOW_START (loaded image) (loaded image) (own_of layout st) after
 
   -- of what is no data and no shadow stack code is a part
   pub to_own : Matches layout image st after → OwnComes
@@ -34,6 +34,7 @@ module _ (layout : ProgramAtMap) (image : Contents) (st : Source) (after : After
       regs = record { same = same.regs };
       shared = record { memory = same.in_data; left = same.left; output = same.output; events = same.events };
       pointer = same.pointer;
+      mask = same.mask;
       context = record {
         going = same.going;
         kept = record { code = λ a from to. same.code a (omega arith) (inl (omega arith)); held = same.slots; frame = same.code };
@@ -54,6 +55,7 @@ module _ (layout : ProgramAtMap) (image : Contents) (st : Source) (after : After
     pointer = comes.1.pointer;
     slots = comes.1.context.kept.held;
     room = room;
+    mask = comes.1.mask;
     code = comes.1.context.kept.frame;
   }
 

@@ -1,7 +1,7 @@
 -- From a place's gate the words before its unit, if it has any, lead to that.
 use Rattle.std.proofs.Common.{◌≡◌, ℕ, suc, ◌+◌, ◌*◌, ◌<◌, ◌==◌, inl, inr, ◌≤◌, true, false, List, [], ◌∷◌, length, Option, Some, None, lit≤, refl, sym, ap, subst, ◌∙◌, arith}
 use Rattle.std.specs.Prelude.{slice_get}
-use Rattle.std.proofs.lemmas.Bool.{cases_lt, eqb-true, or_cases}
+use Rattle.std.proofs.lemmas.Bool.{cases_lt, eqb-true, false≢true, or_cases}
 use Rattle.rv_instr.specs.Reserved.{is_reserved}
 use Rattle.rv_instr.specs.Registers.{Registers}
 use Rattle.rv_code.specs.declared.turn.Turn.TheVariants.{Ran}
@@ -13,7 +13,7 @@ use Rattle.obj_program.specs.Program.{count, is_end, item_of}
 use Rattle.cfi_map.specs.GraphAtMap.{gate, word}
 use Rattle.cfi_unit.specs.declared.unit.Unit as U
 use Rattle.cfi_unit.specs.Stand.{Stand}
-use Rattle.cfi_unit.specs.Templates.{is_full}
+use Rattle.cfi_unit.specs.Templates.{is_full, is_lean}
 use Rattle.cfi_unit.specs.UnitWords.{Fits, instrs_of, word_count}
 use Rattle.cfi_unit.proofs.EffectRows.{site_asked}
 use Rattle.cfi_unit.proofs.Flows.{full_asks}
@@ -54,24 +54,24 @@ goes_on : (p : Profile) (label : Option ℕ) (o : Own) → own_step p o (lead_un
 goes_on p None o = refl
 goes_on p (Some label) o = refl
 
-record Quiet (image : Memory) (u : U.Unit) (o : Own) : Type 0 where
+record Quiet (p : Profile) (image : Memory) (u : U.Unit) (o : Own) : Type 0 where
   label : Option ℕ
   same : lead_unit label ≡ u
-  step : TameStep image u o
+  step : TameStep p.callee_saves image u o
 
-runs_led : (p : Profile) (image : Memory) (us : List U.Unit) (o : Own) → ((j : ℕ) (u : U.Unit) → slice_get us j ≡ Some u → Quiet image u (record o { pc = o.pc + 4 * j })) →
+runs_led : (p : Profile) (image : Memory) (us : List U.Unit) (o : Own) → ((j : ℕ) (u : U.Unit) → slice_get us j ≡ Some u → Quiet p image u (record o { pc = o.pc + 4 * j })) →
     OwnRuns p image us o (record o { pc = o.pc + 4 * length us })
 runs_led p image [] o each = let same : o.pc + 4 * 0 ≡ o.pc = omega arith in ap (λ (a : ℕ). record o { pc = a }) same
 runs_led p image (u ∷ us) o each =
     let first : o.pc + 4 * 0 ≡ o.pc = omega arith in
     let here = each 0 u refl in
-    let tame : TameStep image u o = subst (λ (a : ℕ). TameStep image u (record o { pc = a })) first here.step in
+    let tame : TameStep p.callee_saves image u o = subst (λ (a : ℕ). TameStep p.callee_saves image u (record o { pc = a })) first here.step in
     let does : own_step p o u ≡ record { turn = Ran; state = record o { pc = o.pc + 4 } } = ap (own_step p o) (sym here.same) ∙ goes_on p here.label o in
     let last : o.pc + 4 + 4 * length us ≡ o.pc + 4 * length (u ∷ us) = omega arith in
     let rest = runs_led p image us (record o { pc = o.pc + 4 })
     (λ j w get.
     let there : o.pc + 4 * suc j ≡ o.pc + 4 + 4 * j = omega arith in
-    subst (λ (a : ℕ). Quiet image w (record o { pc = a })) there (each (suc j) w get)) in (
+    subst (λ (a : ℕ). Quiet p image w (record o { pc = a })) there (each (suc j) w get)) in (
       tame,
       ap (λ (a : OwnAfter). a.turn) does,
       subst (λ (a : OwnAfter). OwnRuns p image us a.state (record o { pc = o.pc + 4 * length (u ∷ us) })) (sym does)
@@ -100,6 +100,10 @@ module _ (m : Choice) (image : Contents) (of : IsImageOf m image) where
       stands_full m.layout.profile (inl of.accepted.profile) image (written_graph m image of) of.bytes (formed m image of) a u
       (full_saves m.layout.profile of.accepted.profile) e
 
+  -- whose callees do not, so nothing is asked of its units for the mask of stores in x4
+  not_lean : (u : U.Unit) → m.layout.profile.callee_saves ≡ true → is_lean u ≡ true
+  not_lean u callee = absurd (false≢true (sym (full_saves m.layout.profile of.accepted.profile) ∙ callee))
+
   pub unit_written : (k : ℕ) → k < count m.layout.program → is_later_at m k ≡ false →
       unit_at m.layout.profile (code_words image.code) (word m.layout k) ≡ Some (unit_here m k)
   unit_written k below first =
@@ -115,7 +119,7 @@ module _ (m : Choice) (image : Contents) (of : IsImageOf m image) where
   -- a place that has a unit, whose step is tame
   module _ (k : ℕ) (o : Own) (place : IsPlace m k) (first : is_later_at m k ≡ false) (at : o.pc ≡ gate m.layout k) (some : 0 < length o.pending)
       (tame : IsTame (loaded image) (unit_here m k) o.pending o.regs) where
-    tame_step : TameStep (loaded image) (unit_here m k) (at_word m k o)
+    tame_step : TameStep m.layout.profile.callee_saves (loaded image) (unit_here m k) (at_word m k o)
     tame_step =
         let written = unit_written k place.below first in
         let here = stands_here (word m.layout k) (unit_here m k) written in
@@ -124,11 +128,12 @@ module _ (m : Choice) (image : Contents) (of : IsImageOf m image) where
           stands = here.1;
           free = place_free m of.accepted k place first;
           some = site_asked (unit_here m k) o.pending some;
-          asks = λ r same. full_asks (unit_here m k) r (full_here (word m.layout k) (unit_here m k) written);
+          leaves = not_lean (unit_here m k);
+          asks = λ r same held. full_asks (unit_here m k) r (full_here (word m.layout k) (unit_here m k) written);
           tame = tame;
         }
 
-    lead_step : (j : ℕ) (u : U.Unit) → slice_get (lead m k) j ≡ Some u → Quiet (loaded image) u (record o { pc = o.pc + 4 * j })
+    lead_step : (j : ℕ) (u : U.Unit) → slice_get (lead m k) j ≡ Some u → Quiet m.layout.profile (loaded image) u (record o { pc = o.pc + 4 * j })
     lead_step j u get =
         let (label, led, same) = from_lead m k j u get in
         let written = lead_written k j u place.below get in
@@ -142,7 +147,8 @@ module _ (m : Choice) (image : Contents) (of : IsImageOf m image) where
             stands = subst (λ (a : ℕ). Stand (loaded image) a (instrs_of u a)) there here.1;
             free = subst NamesNoReserved same (lead_free label);
             some = site_asked u o.pending some;
-            asks = λ r alike. full_asks u r (full_here (gate m.layout k + 4 * j) u written);
+            leaves = not_lean u;
+            asks = λ r alike held. full_asks u r (full_here (gate m.layout k + 4 * j) u written);
             tame = subst (λ (v : U.Unit). IsTame (loaded image) v o.pending o.regs) same (lead_tame (loaded image) label o.pending o.regs);
           };
         }

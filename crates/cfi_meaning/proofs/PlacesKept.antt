@@ -124,7 +124,7 @@ places_kept m image input places next o of chain free on =
     let few = walk.few in
     let kept = run_keeps_match p image input (entry_gate m) walk.path o has walk.leads in
     record {
-      goes = more_steps p image input _ (most_steps m.layout (length places)) (ComesTo SHADOW_START (loaded image) (loaded image) o) (omega arith) kept.goes;
+      goes = more_steps p image input _ (most_steps m.layout (length places)) (ComesTo p.callee_saves SHADOW_START (loaded image) (loaded image) o) (omega arith) kept.goes;
       next = λ k other now.
           let here = place_runs m image k o of other now in
           let joined = paths_join p (loaded image) walk.path here.path first o (at_word m k o) walk.leads here.leads in
@@ -135,6 +135,6 @@ places_kept m image input places next o of chain free on =
           let then = run_keeps_match p image input (entry_gate m) (walk.path ++ here.path) (at_word m k o) has joined in
           subst (λ (a : OwnAfter). Ends p image input (most_steps m.layout (length places + 1)) a) (step_of_kind m image k o of.accepted other now)
           (more_steps p image input _ (most_steps m.layout (length places + 1))
-          (MatchesAfter SHADOW_START (loaded image) (loaded image) (own_step p (at_word m k o) (unit_here m k))) (omega arith) (then.next (unit_here m k) here.step));
-      closes = λ end. more_steps p image input _ (most_steps m.layout (length places)) (MatchesAfter SHADOW_START (loaded image) (loaded image) (own_closing p o)) (omega arith) (kept.closes end);
+          (MatchesAfter p.callee_saves SHADOW_START (loaded image) (loaded image) (own_step p (at_word m k o) (unit_here m k))) (omega arith) (then.next (unit_here m k) here.step));
+      closes = λ end. more_steps p image input _ (most_steps m.layout (length places)) (MatchesAfter p.callee_saves SHADOW_START (loaded image) (loaded image) (own_closing p o)) (omega arith) (kept.closes end);
     }

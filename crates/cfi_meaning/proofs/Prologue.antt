@@ -1,11 +1,13 @@
 -- What is written meets the rules, so its prologue stands.
-use Rattle.std.proofs.Common.{◌≡◌, ℕ, inl, length, refl, sym, ap, subst, ◌∙◌}
+use Rattle.std.proofs.Common.{◌≡◌, ℕ, Bool, inl, length, refl, sym, ap, subst, ◌∙◌}
 use Rattle.std.proofs.lemmas.Option.{same_Some}
 use Rattle.rv_word.specs.Image.{Contents}
 use Rattle.rv_word.specs.Memory.{loaded}
+use Rattle.rv_word.proofs.Profiles.{full_saves}
 use Rattle.cfi_graph.specs.Graph.{GraphParts}
 use Rattle.cfi_map.specs.GraphAtMap.{graph_lines}
 use Rattle.cfi_unit.proofs.PrologueUnits.{PrologueStands, prologue_stands}
+use Rattle.cfi_runs.specs.Openings.{EntryFits}
 use Rattle.cfi_runs.specs.WholeRun.{HasPrologue}
 use Rattle.cfi_rules.specs.Rules.{IsWellFormed}
 use Rattle.cfi_rules.specs.Split.{entry_of}
@@ -34,9 +36,9 @@ written_prologue m image of =
     same_Some found.0 (entry_gate m) (sym found.1.is ∙ ap (entry_of p) of.code ∙ written_entry m of.accepted) in
     let stands : PrologueStands p (loaded image) found.0 = prologue_stands p (inl is) (loaded image) found.0 found.1.stands in
     subst (λ (entry : ℕ). HasPrologue p image entry) same (record {
-      is = is;
+      is = inl is;
       bytes = loaded_small image of.bytes;
-      fits = call_fits p is found.0 found.1.reaches;
+      fits = subst (λ (callee : Bool). EntryFits callee p found.0) (sym (full_saves p is)) (call_fits p is found.0 found.1.reaches);
       opening = stands.opening;
       closing = stands.closing;
     })

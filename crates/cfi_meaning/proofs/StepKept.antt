@@ -78,9 +78,9 @@ module _ (m : Choice) (image : Contents) (of : IsImageOf m image) where
 
   -- what the own step comes to answers the source machine's
   pub answers : (turn : StepTurn) (next : Source) (o : OwnAfter) → IsOwn m.layout o turn next → SitesFit o.state.pending → (after : After) →
-      MatchesAfter SHADOW_START memory memory o after → Answers m.layout image turn next after
+      MatchesAfter p.callee_saves SHADOW_START memory memory o after → Answers m.layout image turn next after
   answers ran next o is fit after matches =
-      let those = subst (λ (a : OwnAfter). MatchesAfter SHADOW_START memory memory a after) is matches in
+      let those = subst (λ (a : OwnAfter). MatchesAfter p.callee_saves SHADOW_START memory memory a after) is matches in
       let fits = subst (λ (a : OwnAfter). SitesFit a.state.pending) is fit in
       from_own m.layout image next after fits.most (those.turn, those.going refl)
   answers (exits status) next o is fit after matches =
@@ -91,15 +91,15 @@ module _ (m : Choice) (image : Contents) (of : IsImageOf m image) where
 
   -- a path, then a unit, from any state that matches: the first step made
   along : (n : ℕ) (path : List U.Unit) (unit : U.Unit) (o last : Own) (h : Hart) (s : Shared) → words_along path + word_count unit ≤ suc n →
-      SitesFit o.pending → OwnRuns p memory path o last → TameStep memory unit last → own.Matches SHADOW_START memory memory o h s →
-      Within p n (MatchesAfter SHADOW_START memory memory (own_step p last unit)) (step p h s)
+      SitesFit o.pending → OwnRuns p memory path o last → TameStep p.callee_saves memory unit last → own.Matches p.callee_saves SHADOW_START memory memory o h s →
+      Within p n (MatchesAfter p.callee_saves SHADOW_START memory memory (own_step p last unit)) (step p h s)
   along n [] unit o last h s few fit same tame matches =
-      within_more p (MatchesAfter SHADOW_START memory memory (own_step p last unit)) (word_count unit - 1) n (step p h s) (omega arith)
+      within_more p (MatchesAfter p.callee_saves SHADOW_START memory memory (own_step p last unit)) (word_count unit - 1) n (step p h s) (omega arith)
       (unit_keeps_match p SHADOW_START memory memory unit last h s own_part has.bytes (subst (λ (x : Own). SitesFit x.pending) (sym same) fit) tame
-      (subst (λ (x : Own). own.Matches SHADOW_START memory memory x h s) (sym same) matches))
+      (subst (λ (x : Own). own.Matches p.callee_saves SHADOW_START memory memory x h s) (sym same) matches))
   along n (unit' ∷ path) unit o last h s few fit on tame matches =
-      let R : After → Type 0 = MatchesAfter SHADOW_START memory memory (own_step p o unit') in
-      let Q : After → Type 0 = MatchesAfter SHADOW_START memory memory (own_step p last unit) in
+      let R : After → Type 0 = MatchesAfter p.callee_saves SHADOW_START memory memory (own_step p o unit') in
+      let Q : After → Type 0 = MatchesAfter p.callee_saves SHADOW_START memory memory (own_step p last unit) in
       let some = some_word unit' in
       let fit' = sites_fit p memory unit' o on.0 fit in
       let further = words_along path + word_count unit in
@@ -107,7 +107,7 @@ module _ (m : Choice) (image : Contents) (of : IsImageOf m image) where
       (within_then p R Q (word_count unit' - 1) further (step p h s)
       (unit_keeps_match p SHADOW_START memory memory unit' o h s own_part has.bytes fit on.0 matches)
       (λ b r. within_going p Q further b (r.turn ∙ on.1)
-      (within_then p (ComesTo SHADOW_START memory memory last) Q (words_along path) (word_count unit) (stops b.hart b.shared Ran)
+      (within_then p (ComesTo p.callee_saves SHADOW_START memory memory last) Q (words_along path) (word_count unit) (stops b.hart b.shared Ran)
       (path_keeps_match p SHADOW_START memory memory path (own_step p o unit').state last b.hart b.shared own_part has.bytes fit' on.2 (r.going on.1))
       (λ c there. within_going p Q (word_count unit) c there.0
       (unit_within p SHADOW_START memory memory unit last c.hart c.shared own_part has.bytes
@@ -118,7 +118,7 @@ module _ (m : Choice) (image : Contents) (of : IsImageOf m image) where
 
   -- where a place's unit leads, within as many steps as it has words with those before it
   passes : (k : ℕ) (st : Source) (after : After) → Matches m.layout image st after → ComesToPlace m image k (own_of m.layout st) →
-      Within p most (MatchesAfter SHADOW_START memory memory (own_step p (at_word m k (own_of m.layout st)) (unit_here m k))) (step p after.hart after.shared)
+      Within p most (MatchesAfter p.callee_saves SHADOW_START memory memory (own_step p (at_word m k (own_of m.layout st)) (unit_here m k))) (step p after.hart after.shared)
   passes k st after same here =
       let o = own_of m.layout st in
       let few = here.few in
@@ -153,9 +153,9 @@ module _ (m : Choice) (image : Contents) (of : IsImageOf m image) where
             sym (at_later_is m (k + n + 1) of.accepted) ∙ subst (λ (place : Option ℕ). is_at_later m.layout place ≡ false) next free in
             let through = group_runs m image k (own_of m.layout st) o.state of store first (whole_group m image of n k st last o made now refl goes.turn past) in
             let fit : SitesFit o.state.pending = subst SitesFit (sym (goes.pending ∙ made.pending)) (fitting m of.accepted st same.room) in
-            within_weaker p (MatchesAfter SHADOW_START memory memory o) (Answers m.layout image turn state) (answers turn state o is fit) most
+            within_weaker p (MatchesAfter p.callee_saves SHADOW_START memory memory o) (Answers m.layout image turn state) (answers turn state o is fit) most
             (step p after.hart after.shared)
-            (subst (λ (a : OwnAfter). Within p most (MatchesAfter SHADOW_START memory memory a) (step p after.hart after.shared))
+            (subst (λ (a : OwnAfter). Within p most (MatchesAfter p.callee_saves SHADOW_START memory memory a) (step p after.hart after.shared))
             (through.leads ∙ ap (λ (t : Turn). record { state = o.state; turn = t }) (sym goes.turn)) (passes k st after same through.comes))
       ]
 
@@ -181,19 +181,19 @@ module _ (m : Choice) (image : Contents) (of : IsImageOf m image) where
   keeps_one st after same (at_place k at now is) other =
       let o = own_of m.layout st in
       let none = other k at in
-      within_weaker p (MatchesAfter SHADOW_START memory memory (place_step m k o))
+      within_weaker p (MatchesAfter p.callee_saves SHADOW_START memory memory (place_step m k o))
       (Answers m.layout image (source_step m.layout st).turn (source_step m.layout st).state)
       (answers (source_step m.layout st).turn (source_step m.layout st).state (place_step m k o) is (sites_after k o now (fitting m of.accepted st same.room))) most
       (step p after.hart after.shared)
-      (subst (λ (a : OwnAfter). Within p most (MatchesAfter SHADOW_START memory memory a) (step p after.hart after.shared)) (step_of_kind m image k o of.accepted none now)
+      (subst (λ (a : OwnAfter). Within p most (MatchesAfter p.callee_saves SHADOW_START memory memory a) (step p after.hart after.shared)) (step_of_kind m image k o of.accepted none now)
       (passes k st after same (place_runs m image k o of none now)))
   keeps_one st after same (at_closing nowhere is) other =
       let o = own_of m.layout st in
       let pc = ap (address_of m.layout) nowhere in
-      within_weaker p (MatchesAfter SHADOW_START memory memory (own_closing p o))
+      within_weaker p (MatchesAfter p.callee_saves SHADOW_START memory memory (own_closing p o))
       (Answers m.layout image (source_step m.layout st).turn (source_step m.layout st).state)
       (λ b ends. subst (λ (a : SourceAfter). Answers m.layout image a.turn a.state b) (sym is) (ends.turn, ends.shared)) most (step p after.hart after.shared)
-      (within_more p (MatchesAfter SHADOW_START memory memory (own_closing p o)) 1 most (step p after.hart after.shared) (omega arith)
+      (within_more p (MatchesAfter p.callee_saves SHADOW_START memory memory (own_closing p o)) 1 most (step p after.hart after.shared) (omega arith)
       (closing_keeps_match p SHADOW_START memory memory o after.hart after.shared own_part
       (subst (λ (a : ℕ). Stand memory a closing_instrs) (sym pc) has.closing) (to_own m.layout image st after same).1))
 

@@ -1,6 +1,6 @@
 -- When a state of the image's run matches one of the source machine: all that later steps of either see is the same. Of the
--- machine's own state nothing else is left but the units' scratch registers x4, x30 and x31, and slots of the shadow stack in which
--- no site is pending.
+-- machine's own state nothing else is left but the units' scratch registers x30 and x31, x4 where callers save sites, and slots of the
+-- shadow stack in which no site is pending.
 use Rattle.std.specs.Prelude.{◌≡◌, ◌↔◌, ℕ, ◌+◌, ◌≤◌, ◌<◌, ◌⊎◌, false, Option, Some, None, List, [], ◌∷◌, length}
 use Rattle.rv_word.specs.Image.{Contents}
 use Rattle.rv_word.specs.MemoryMap.{DATA_END, PART_SIZE, SHADOW_START}
@@ -11,6 +11,7 @@ use Rattle.rv_code.specs.declared.turn.Turn.TheVariants.{Ran}
 use Rattle.cfi_map.specs.GraphAtMap.{ProgramAtMap, gate}
 use Rattle.cfi_map.specs.Source.{Source}
 use Rattle.cfi_unit.specs.Shadow.{Holds, MOST_PENDING, slot}
+use Rattle.cfi_runs.specs.Mask.{HoldsMask}
 use Rattle.cfi_runs.specs.MatchLaws.{ComesTo}
 use Rattle.cfi_runs.specs.Own.{Own}
 
@@ -47,6 +48,8 @@ pub record Matches (layout : ProgramAtMap) (image : Contents) (st : Source) (aft
   pub pointer : after.hart.regs 3 ≡ slot SHADOW_START (length (sites_now layout st))
   pub slots : Holds SHADOW_START after.shared.memory (sites_now layout st)
   pub room : length (sites_now layout st) ≤ MOST_PENDING
+  -- where callees save sites, x4 holds the mask of stores
+  pub mask : HoldsMask layout.profile.callee_saves after.hart.regs
   -- code is the image's, as is all else that is neither data nor shadow stack
   pub code : (a : ℕ) → DATA_END ≤ a → (a < SHADOW_START) ⊎ (SHADOW_START + PART_SIZE ≤ a) → after.shared.memory a ≡ loaded image a
 
@@ -64,4 +67,4 @@ abbrev pub MatchesIsOwn : Type 0
 MatchesIsOwn =
     (layout : ProgramAtMap) (image : Contents) (st : Source) (after : After) →
     Matches layout image st after
-    ↔ ((length (sites_now layout st) ≤ MOST_PENDING) × ComesTo SHADOW_START (loaded image) (loaded image) (own_of layout st) after)
+    ↔ ((length (sites_now layout st) ≤ MOST_PENDING) × ComesTo layout.profile.callee_saves SHADOW_START (loaded image) (loaded image) (own_of layout st) after)

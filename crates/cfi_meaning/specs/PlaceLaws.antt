@@ -29,7 +29,7 @@ pub record ComesToPlace (m : Choice) (image : Contents) (k : ℕ) (o : Own) : Ty
   pub path : List U.Unit
   pub few : words_along path ≤ length m.layout.closed.sides
   pub leads : OwnRuns m.layout.profile (loaded image) path o (at_word m k o)
-  pub step : TameStep (loaded image) (unit_here m k) (at_word m k o)
+  pub step : TameStep m.layout.profile.callee_saves (loaded image) (unit_here m k) (at_word m k o)
 
 -- and that step leads to a state
 pub record ComesThrough (m : Choice) (image : Contents) (k : ℕ) (o last : Own) : Type 0 where

@@ -30,7 +30,7 @@ most_steps layout n = bound (length layout.closed.sides) (last_words layout.prof
 
 -- `o` is where the program comes over these places, each of which is an instruction's
 pub record KeepsPlaces (m : Choice) (image : Contents) (input : List ℕ) (places : List ℕ) (o : Own) : Type 0 where
-  pub goes : RunsTo m.layout.profile image input (most_steps m.layout (length places)) (ComesTo SHADOW_START (loaded image) (loaded image) o)
+  pub goes : RunsTo m.layout.profile image input (most_steps m.layout (length places)) (ComesTo m.layout.profile.callee_saves SHADOW_START (loaded image) (loaded image) o)
   pub next : (k : ℕ) → holds_store m k ≡ false → TamePlace m image k o →
       Ends m.layout.profile image input (most_steps m.layout (length places + 1)) (place_step m k o)
   pub closes : o.pc ≡ m.layout.profile.closing → Ends m.layout.profile image input (most_steps m.layout (length places)) (own_closing m.layout.profile o)

@@ -5,6 +5,7 @@ pub mod Alike
 pub mod AlikeCalls
 pub mod Matched
 pub mod Paths
+pub mod LeanOpening
 pub mod Ends
 pub mod WholeRun
 pub mod Worked

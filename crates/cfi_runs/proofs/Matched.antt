@@ -19,23 +19,27 @@ use Rattle.cfi_unit.specs.declared.members.Member.{Member}
 use Rattle.cfi_unit.specs.declared.target_word.TargetWord.{TargetWord}
 use Rattle.cfi_unit.specs.declared.target_word.TargetWord.TheVariants.{First, Third}
 use Rattle.cfi_unit.specs.declared.unit.Unit as U
+use Rattle.cfi_unit.specs.declared.unit.Unit.TheVariants as V
 use Rattle.cfi_unit.specs.declared.unit.SystemOp.TheVariants as S
 use Rattle.cfi_unit.specs.Flow as F
 use Rattle.cfi_unit.specs.Flow.{Act, Exit, Flow, flow_of}
-use Rattle.cfi_unit.specs.UnitWords.{Fits, after_unit, word_count}
+use Rattle.cfi_unit.specs.UnitWords.{Fits, after_unit, instrs_of, word_count}
 use Rattle.cfi_unit.specs.Shadow.{MOST_PENDING, slot}
 use Rattle.cfi_unit.specs.Between.{Unchanged}
 use Rattle.cfi_unit.specs.UnitLaw.{ReturnsTo}
 use Rattle.cfi_unit.specs.Leads.{HasLabel, sum_of, destination}
-use Rattle.cfi_unit.specs.Leaving.{CallsAt, SameRegisters, LeftTo, Executes, StoresEach, masked, pushed, stored_at, with_memory}
+use Rattle.cfi_unit.specs.Leaving.{CallsAt, SameRegisters, SameScratch, LeftTo, Executes, StoresEach, masked, pushed, stored_at, with_memory}
 use Rattle.cfi_unit.specs.Effect.{ActDoes, CallDoes, EnterDoes, ExitDoes, FlowDoes, ReturnDoes, UnitDoes}
-use Rattle.cfi_unit.specs.EffectLaw.{Enters}
+use Rattle.cfi_unit.specs.EffectLaw.{Enters, MakesMask, UnitIsDone}
+use Rattle.cfi_unit.specs.Templates.{is_lean}
 use Rattle.cfi_unit.proofs.Counts.{some_word}
 use Rattle.cfi_unit.proofs.EffectSteps.{same_link}
+use Rattle.cfi_unit.proofs.MaskKept.{unit_spares}
 use Rattle.cfi_unit.proofs.Flows.{ActFits, Suits, act_fits, entered, is_single, is_untested, linked_back, linking_call, linking_computed_call, single_word, suits, untested, direct_call, guarded_call, computed_jump, computed_call, turned_back}
 use Rattle.cfi_runs.specs.MatchLaws as law
 use Rattle.cfi_runs.specs.Matching.{SameData, Matches, MatchesAfter}
-use Rattle.cfi_runs.specs.Own.{Own, calls, computed, executes, goes, links, own_act, own_exit, own_step, returns, saves, stored_all}
+use Rattle.cfi_runs.specs.Mask.{HoldsMask}
+use Rattle.cfi_runs.specs.Own.{Own, OwnAfter, calls, computed, executes, goes, links, own_act, own_exit, own_step, returns, saves, stored_all}
 use Rattle.cfi_runs.specs.OwnRuns.{SitesFit}
 use Rattle.cfi_runs.specs.Tame.{ActTame, ExitTame, IsTame, NamesNoReserved, ReturnTame, TestTame, act_names, exit_names}
 use Rattle.cfi_runs.proofs.Alike.{AlikeAfter, sum_same, is_self, or_first, or_second, plain_alike, break_alike}
@@ -108,11 +112,12 @@ each_stored a v r (m ∷ members) s s' none each =
     ∙ ap (λ (y : ℕ). with_memory s (write (store_size m.op) s.memory (a + m.distance) y)) (other_same r v m.value none.0) in
     each_stored a v r members (stored_at a (set_reg r 31 v) m seen) s' none.1 others ∙ ap (λ (x : Shared). stored_all a r members x) first
 
+-- but for the mask of stores
 module _ (part : ℕ) (image base : Memory) where
   -- a unit that is left to an address
   left_matches : (o : Own) (next : ℕ) (regs : Registers) (s : Shared) → next ≡ o.pc → SameRegisters o.regs regs → SameData o.shared s →
       (after : After) → LeftTo part image base next o.pending regs (Unchanged s) after →
-      MatchesAfter part image base (record { state = o; turn = Ran }) after
+      MatchesAfter false part image base (record { state = o; turn = Ran }) after
   left_matches o next regs s e same alike after left =
       let shared = subst (λ (x : Shared). SameData o.shared x) (sym left.shared) alike in
       record {
@@ -123,6 +128,7 @@ module _ (part : ℕ) (image base : Memory) where
           regs = same_trans o.regs regs after.hart.regs same left.regs;
           shared = shared;
           pointer = left.pointer;
+          mask = tt;
           context = left.context;
         };
       }
@@ -131,7 +137,7 @@ module _ (part : ℕ) (image base : Memory) where
   executed_matches : (p : Profile) (instr : Instr) (o : Own) (past : ℕ) (h : Hart) (s : Shared) → past ≡ h.pc + 4 →
       h.regs 3 ≡ slot part (length o.pending) → AlikeAfter (exec p instr (record { pc = o.pc; regs = o.regs }) o.shared) (exec p instr h s) →
       (after : After) → Executes p part image base instr o.pending h (Unchanged s) after →
-      MatchesAfter part image base (executes p o instr o.regs past) after
+      MatchesAfter false part image base (executes p o instr o.regs past) after
   executed_matches p instr o past h s next x3 alike after does =
       let own = exec p instr (record { pc = o.pc; regs = o.regs }) o.shared in
       let e : after ≡ exec p instr h s = does.executed ∙ ap (exec p instr h) does.may_see in
@@ -145,11 +151,12 @@ module _ (part : ℕ) (image base : Memory) where
           regs = subst (λ (a : After). SameRegisters own.hart.regs a.hart.regs) (sym e) alike.regs;
           shared = shared;
           pointer = does.pointer ∙ x3;
+          mask = tt;
           context = does.context (turn ∙ ran);
         };
       }
 
-module _ (p : Profile) (part : ℕ) (image base : Memory) (o : Own) (h : Hart) (s : Shared) (low : SHADOW_START ≤ part) (m : Matches part image base o h s) where
+module _ (p : Profile) (callee : Bool) (part : ℕ) (image base : Memory) (o : Own) (h : Hart) (s : Shared) (low : SHADOW_START ≤ part) (m : Matches callee part image base o h s) where
   same : SameRegisters o.regs h.regs
   same = m.regs
 
@@ -214,11 +221,11 @@ module _ (p : Profile) (part : ℕ) (image base : Memory) (o : Own) (h : Hart) (
   at_here instr = subst (λ (x : ℕ). AlikeAfter (exec p instr (record { pc = x; regs = o.regs }) o.shared) (exec p instr h s)) m.pc
 
   goes_so : (next next' : ℕ) → next' ≡ next → (after : After) → LeftTo part image base next' o.pending h.regs (Unchanged s) after →
-      MatchesAfter part image base (goes p o next) after
+      MatchesAfter false part image base (goes p o next) after
   goes_so next next' e = left_matches part image base (record o { pc = next }) next' h.regs s e same alike
 
   called : (target target' site : ℕ) → target' ≡ target → length o.pending < MOST_PENDING → (after : After) →
-      CallDoes p part image base Unchanged h s target' site o.pending after → MatchesAfter part image base (calls p o target site) after
+      CallDoes p part image base Unchanged h s target' site o.pending after → MatchesAfter false part image base (calls p o target site) after
   called target target' site e room after (inl does) =
       left_matches part image base (record o { pc = target; regs = set_reg o.regs 1 site; pending = site ∷ o.pending }) target' _ _ e
       (same_link o.regs h.regs site site refl same) (pushed_here site) after does.1
@@ -226,20 +233,20 @@ module _ (p : Profile) (part : ℕ) (image base : Memory) (o : Own) (h : Hart) (
 
   -- where the callee saves sites
   linked : (target target' site : ℕ) → target' ≡ target → (after : After) →
-      LeftTo part image base target' o.pending (set_reg h.regs 1 site) (Unchanged s) after → MatchesAfter part image base (links p o target site) after
+      LeftTo part image base target' o.pending (set_reg h.regs 1 site) (Unchanged s) after → MatchesAfter false part image base (links p o target site) after
   linked target target' site e =
       left_matches part image base (record o { pc = target; regs = set_reg o.regs 1 site }) target' (set_reg h.regs 1 site) s e
       (same_link o.regs h.regs site site refl same) alike
 
   saved : (next : ℕ) → length o.pending < MOST_PENDING → (after : After) → EnterDoes p part image base Unchanged h s next o.pending after →
-      MatchesAfter part image base (saves p o next) after
+      MatchesAfter false part image base (saves p o next) after
   saved next room after (inl does) =
       let here = subst (λ (site : ℕ). LeftTo part image base next (site ∷ o.pending) h.regs (Unchanged (pushed part (length o.pending) site s)) after) (same.same 1 refl) does.1 in
       left_matches part image base (record o { pc = next; pending = o.regs 1 ∷ o.pending }) next h.regs _ refl same (pushed_here (o.regs 1)) after here
   saved next room after (inr full) = let none = full.0 in absurd (omega arith)
 
   returned : (sites : List ℕ) → ReturnTame sites o.regs → (after : After) → ReturnDoes p part image base Unchanged h s sites after →
-      MatchesAfter part image base (returns p o sites) after
+      MatchesAfter false part image base (returns p o sites) after
   returned [] tame after does = absurd tame
   returned (site ∷ sites) tame after (inl does) =
       left_matches part image base (record o { pc = site; pending = sites }) site h.regs s refl same alike after does.1
@@ -247,7 +254,7 @@ module _ (p : Profile) (part : ℕ) (image base : Memory) (o : Own) (h : Hart) (
 
   exit_matches : (exit : Exit) (past : ℕ) → is_untested exit ≡ true → ((k : ℕ) → exit_names exit k ≡ true → is_reserved k ≡ false) →
       ExitTame exit F.keeps o.pending o.regs → (after : After) → ExitDoes p part image base Unchanged h s exit F.keeps past o.pending after →
-      MatchesAfter part image base (own_exit p o exit F.keeps past) after
+      MatchesAfter false part image base (own_exit p o exit F.keeps past) after
   exit_matches (F.either op rs1 rs2 true target) past is free tame after does =
       goes_so _ _ (ap (λ (b : Bool). if b then target else past) (taken_here op rs1 rs2 (first_free rs1 rs2 free) (second_free rs1 rs2 free))) after does
   exit_matches (F.either op rs1 rs2 false target) past is free tame after does =
@@ -260,7 +267,7 @@ module _ (p : Profile) (part : ℕ) (image base : Memory) (o : Own) (h : Hart) (
   exit_matches other past is free tame after does = goes_so _ _ refl after does
 
   made : (past : ℕ) → 4 ≤ past → (after : After) → CallsAt p part image base (past - 4) o.pending h.regs (Unchanged s) after →
-      MatchesAfter part image base (executes p o Ecall o.regs past) after
+      MatchesAfter false part image base (executes p o Ecall o.regs past) after
   made past some after does =
       let here = does.here in
       executed_matches part image base p Ecall o past does.hart s (omega arith) does.pointer
@@ -268,7 +275,7 @@ module _ (p : Profile) (part : ℕ) (image base : Memory) (o : Own) (h : Hart) (
 
   act_matches : (act : Act) (exit : Exit) (past : ℕ) → is_untested exit ≡ true → ActFits act → (is_single act ≡ true → past ≡ h.pc + 4) → 4 ≤ past →
       ((k : ℕ) → act_names act exit k ≡ true → is_reserved k ≡ false) → ActTame act exit F.keeps o.pending o.regs → (after : After) →
-      ActDoes p part image base Unchanged h s act exit F.keeps past o.pending after → MatchesAfter part image base (own_act p o act exit F.keeps past) after
+      ActDoes p part image base Unchanged h s act exit F.keeps past o.pending after → MatchesAfter false part image base (own_act p o act exit F.keeps past) after
   act_matches F.none exit past is fits single some free tame after does = exit_matches exit past is free tame after does
   act_matches (F.does instr) exit past is fits single some free tame after does =
       executed_matches part image base p instr o past h s (single refl) m.pointer
@@ -287,7 +294,7 @@ module _ (p : Profile) (part : ℕ) (image base : Memory) (o : Own) (h : Hart) (
 
   flow_matches : (f : Flow) → Suits f → (past : ℕ) → ActFits f.act → (is_single f.act ≡ true → past ≡ h.pc + 4) → 4 ≤ past →
       ((k : ℕ) → act_names f.act f.exit k ≡ true → is_reserved k ≡ false) → TestTame image f.test f o.pending o.regs → (after : After) →
-      FlowDoes p part image base Unchanged h s f past o.pending after → MatchesAfter part image base (own_act p o f.act f.exit f.sites past) after
+      FlowDoes p part image base Unchanged h s f past o.pending after → MatchesAfter false part image base (own_act p o f.act f.exit f.sites past) after
   flow_matches f (untested exit act is) past fits single some free tame after does = act_matches act exit past is fits single some free tame after does
   flow_matches f (direct_call target) past fits single some free tame after does = called _ _ _ refl tame after does
   flow_matches f (guarded_call numbers) past fits single some free tame after (inl does) = made past some after does.1
@@ -312,10 +319,34 @@ module _ (p : Profile) (part : ℕ) (image base : Memory) (o : Own) (h : Hart) (
       goes_so _ _ (ap (λ (v : ℕ). v / 2 * 2) (sum_here 1 0 refl)) after does
 
   unit_matches : (unit : U.Unit) → Fits unit o.pc → NamesNoReserved unit → IsTame image unit o.pending o.regs → (after : After) →
-      UnitDoes p part image base Unchanged h s unit o.pc o.pending after → MatchesAfter part image base (own_step p o unit) after
+      UnitDoes p part image base Unchanged h s unit o.pc o.pending after → MatchesAfter false part image base (own_step p o unit) after
   unit_matches unit fits free tame =
       let e = m.pc in let some = some_word unit in
       flow_matches (flow_of unit) (suits unit) (after_unit unit o.pc) (act_fits unit o.pc fits) (λ single. let one = single_word unit single in omega arith) (omega arith) free tame
+
+  -- where x4 holds the mask of stores, it does so behind the unit: that is one that does not write it, or makes it again
+  mask_kept : (lean_code : Bool) (unit : U.Unit) → Fits unit o.pc → NamesNoReserved unit → IsTame image unit o.pending o.regs → (lean_code ≡ true → is_lean unit ≡ true) →
+      HoldsMask lean_code h.regs → (after : After) → SameScratch (instrs_of unit o.pc) h.regs after.hart.regs → MakesMask image h.regs unit after →
+      HoldsMask lean_code after.hart.regs
+  mask_kept false unit fits free tame lean held after scratch makes = tt
+  mask_kept true (V.Ijump which rs1 imm label) fits free tame lean held after scratch makes = absurd (false≢true (lean refl))
+  mask_kept true (V.Icall rs1 imm label) fits free tame lean held after scratch makes = absurd (false≢true (lean refl))
+  mask_kept true (V.LeanIjump rs1 imm label) fits free tame lean held after scratch makes =
+      makes (bears First rs1 imm label (free rs1 (is_self rs1)) tame)
+  mask_kept true (V.LeanIcall rs1 imm label) fits free tame lean held after scratch makes =
+      makes (bears Third rs1 imm label (free rs1 (is_self rs1)) tame)
+  mask_kept true other fits free tame lean held after scratch makes = scratch.x4 (unit_spares other o.pc fits refl) ∙ held
+
+-- what matches but for the mask, matches where that is held
+with_mask : (callee : Bool) (part : ℕ) (image base : Memory) (own : OwnAfter) (after : After) → HoldsMask callee after.hart.regs →
+    MatchesAfter false part image base own after → MatchesAfter callee part image base own after
+with_mask callee part image base own after held matches = record {
+  turn = matches.turn;
+  shared = matches.shared;
+  going = λ ran.
+      let here = matches.going ran in
+      record { pc = here.pc; regs = here.regs; shared = here.shared; pointer = here.pointer; mask = held; context = here.context };
+}
 
 -- the newest site is an instruction's address
 returns_to : (pending : List ℕ) → SitesFit pending → ReturnsTo pending
@@ -334,8 +365,11 @@ unit_keeps_match p part image base unit o h s own bytes fit step_is m =
       context = m.context;
       pc = m.pc;
       pointer = m.pointer;
-      asks = step_is.asks h.regs m.regs;
+      asks = step_is.asks h.regs m.regs m.mask;
     } in
-    within_weaker p (UnitDoes p part image base Unchanged h s unit o.pc o.pending) (MatchesAfter part image base (own_step p o unit))
-    (unit_matches p part image base o h s own.low m unit step_is.fits step_is.free step_is.tame)
+    within_weaker p (UnitIsDone p part image base Unchanged h s unit o.pc o.pending) (MatchesAfter p.callee_saves part image base (own_step p o unit))
+    (λ after done.
+    with_mask p.callee_saves part image base (own_step p o unit) after
+    (mask_kept p p.callee_saves part image base o h s own.low m p.callee_saves unit step_is.fits step_is.free step_is.tame step_is.leaves m.mask after done.1 done.2)
+    (unit_matches p p.callee_saves part image base o h s own.low m unit step_is.fits step_is.free step_is.tame after done.0))
     (word_count unit - 1) (step p h s) (unit_runs p part image base unit o.pc o.pending h s i)

@@ -60,7 +60,7 @@ module _ (p : Profile) (image : Memory) (o : Own) (past : ℕ) (even : past % 2 
   flow_fit f linked_back tame = fit
 
 -- a tame step leaves pending sites that fit: a call's lies in code, an enter's is an instruction's address
-pub sites_fit : (p : Profile) (image : Memory) (unit : U.Unit) (o : Own) → TameStep image unit o → SitesFit o.pending →
+pub sites_fit : (p : Profile) (image : Memory) (unit : U.Unit) (o : Own) → TameStep p.callee_saves image unit o → SitesFit o.pending →
     SitesFit (own_step p o unit).state.pending
 sites_fit p image unit o now fit =
     let round = now.stands.round in let high = now.stands.high in let most = most_words unit o.pc now.fits in
@@ -68,18 +68,18 @@ sites_fit p image unit o now fit =
 
 -- the first step made
 pub unit_within : (p : Profile) (part : ℕ) (image base : Memory) (unit : U.Unit) (o : Own) (h : Hart) (s : Shared) →
-    IsPart p part → ((k : ℕ) → image k < 2 ^ 8) → SitesFit o.pending → TameStep image unit o → Matches part image base o h s →
-    Within p (word_count unit) (MatchesAfter part image base (own_step p o unit)) (stops h s Ran)
+    IsPart p part → ((k : ℕ) → image k < 2 ^ 8) → SitesFit o.pending → TameStep p.callee_saves image unit o → Matches p.callee_saves part image base o h s →
+    Within p (word_count unit) (MatchesAfter p.callee_saves part image base (own_step p o unit)) (stops h s Ran)
 unit_within p part image base unit o h s own bytes fit now m =
-    subst (λ (n : ℕ). Within p n (MatchesAfter part image base (own_step p o unit)) (stops h s Ran)) (one_word unit)
+    subst (λ (n : ℕ). Within p n (MatchesAfter p.callee_saves part image base (own_step p o unit)) (stops h s Ran)) (one_word unit)
     (inr (refl, unit_keeps_match p part image base unit o h s own bytes fit now m))
 
 pub path_keeps_match : law.PathKeepsMatch
 path_keeps_match p part image base [] o o' h s own bytes fit same m =
-    (refl, subst (λ (x : Own). Matches part image base x h s) (sym same) m)
+    (refl, subst (λ (x : Own). Matches p.callee_saves part image base x h s) (sym same) m)
 path_keeps_match p part image base (unit ∷ path) o o' h s own bytes fit on m =
-    let R : After → Type 0 = MatchesAfter part image base (own_step p o unit) in
-    let Q : After → Type 0 = ComesTo part image base o' in
+    let R : After → Type 0 = MatchesAfter p.callee_saves part image base (own_step p o unit) in
+    let Q : After → Type 0 = ComesTo p.callee_saves part image base o' in
     within_then p R Q (word_count unit) (words_along path) (stops h s Ran) (unit_within p part image base unit o h s own bytes fit on.0 m)
     (λ b r. within_going p Q (words_along path) b (r.turn ∙ on.1)
     (path_keeps_match p part image base path (own_step p o unit).state o' b.hart b.shared own bytes

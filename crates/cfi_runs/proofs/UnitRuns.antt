@@ -4,17 +4,17 @@ use Rattle.rv_code.specs.State.{After}
 use Rattle.cfi_unit.specs.UnitWords.{word_count}
 use Rattle.cfi_unit.specs.Prologue.{opening_instrs}
 use Rattle.cfi_unit.specs.Between.{Unchanged}
-use Rattle.cfi_unit.specs.Effect.{UnitDoes}
+use Rattle.cfi_unit.specs.EffectLaw.{UnitIsDone}
 use Rattle.cfi_unit.specs.PrologueEffect.{OpeningDoes, ClosingDoes}
-use Rattle.cfi_unit.proofs.EffectRows.{unit_within, unchanged_harmless}
+use Rattle.cfi_unit.proofs.EffectRows.{unit_done_within, unchanged_harmless}
 use Rattle.cfi_unit.proofs.PrologueEffect.{opening_does, closing_does}
 use Rattle.cfi_runs.specs.Laws as law
 use Rattle.cfi_runs.proofs.Calmly.{from_first}
 
 pub unit_runs : law.UnitRuns
 unit_runs p part image base unit at pending h s i =
-    let Q : After → Type 0 = UnitDoes p part image base Unchanged h s unit at pending in
-    from_first p Q Q (λ b q. q) (word_count unit - 1) h s (unit_within p part image base unit at pending h s i)
+    let Q : After → Type 0 = UnitIsDone p part image base Unchanged h s unit at pending in
+    from_first p Q Q (λ b q. q) (word_count unit - 1) h s (unit_done_within p part image base unit at pending h s i)
 
 pub opening_runs : law.OpeningRuns
 opening_runs p image base entry hart h s i =

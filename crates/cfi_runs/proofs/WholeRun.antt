@@ -1,5 +1,5 @@
 -- The opening, then a path, then a step or the closing: all of it is one run.
-use Rattle.std.proofs.Common.{inl, ◌≡◌, ℕ, suc, ◌+◌, ◌-◌, ◌==◌, inr, List, [], ◌∷◌, length, None, refl, sym, subst, arith}
+use Rattle.std.proofs.Common.{inl, ◌≡◌, ℕ, suc, ◌+◌, ◌-◌, ◌==◌, inr, Bool, true, false, List, [], ◌∷◌, length, None, refl, sym, subst, arith}
 use Rattle.std.proofs.lemmas.Bool.{cases_Bool}
 use Rattle.rv_word.specs.Image.{Contents}
 use Rattle.rv_word.specs.MemoryMap.{CODE_START, Profile, SHADOW_START}
@@ -13,13 +13,13 @@ use Rattle.rv_code.proofs.Frames.{placed_outside}
 use Rattle.cfi_unit.specs.declared.unit.Unit as U
 use Rattle.cfi_unit.specs.UnitWords.{word_count}
 use Rattle.cfi_unit.specs.Prologue.{opening_instrs, closing_instrs}
-use Rattle.cfi_unit.specs.PrologueEffect.{EntersOpening}
 use Rattle.cfi_unit.specs.Leaving.{SameRegisters}
 use Rattle.cfi_unit.specs.Shadow.{IsPart}
 use Rattle.cfi_unit.specs.Stand.{Stand}
-use Rattle.cfi_unit.proofs.Parts.{call_site, opening_length, own_is_part}
+use Rattle.cfi_unit.proofs.Parts.{opening_length, own_is_part}
 use Rattle.cfi_runs.specs.Matching.{SameData, MatchesAfter}
 use Rattle.cfi_runs.specs.MatchLaws.{ComesTo}
+use Rattle.cfi_runs.specs.Openings.{AtOpening, entry_pending}
 use Rattle.cfi_runs.specs.Own.{Own, own_step, own_closing, own_start}
 use Rattle.cfi_runs.specs.OwnRuns.{OwnRuns, SitesFit, words_along}
 use Rattle.cfi_runs.specs.WholeRun.{own_shared, CLOSING_WORDS, opening_words, HasPrologue, Keeps, RunsTo, RunKeepsMatch}
@@ -49,19 +49,19 @@ module _ (p : Profile) (image : Contents) (input : List ℕ) (entry : ℕ) (has 
   }
 
   abbrev At : Own → After → Type 0
-  At o = ComesTo SHADOW_START memory memory o
+  At o = ComesTo p.callee_saves SHADOW_START memory memory o
 
   fresh : last_exit (start_shared image input).events ≡ None
   unfolding last_exit
   fresh = refl
 
   own : IsPart p SHADOW_START
-  own = let laid = laid_out p (inl has.is) in own_is_part p (inl has.is) 0 (omega arith)
+  own = let laid = laid_out p has.is in own_is_part p has.is 0 (omega arith)
 
-  enters : EntersOpening p memory memory entry 0 (start_hart 0) (start_shared image input)
+  enters : AtOpening p memory memory entry 0 (start_hart 0) (start_shared image input)
   enters = record {
     is = has.is;
-    below = let laid = laid_out p (inl has.is) in omega arith;
+    below = let laid = laid_out p has.is in omega arith;
     number = refl;
     fits = has.fits;
     stands = has.opening;
@@ -75,14 +75,25 @@ module _ (p : Profile) (image : Contents) (input : List ℕ) (entry : ℕ) (has 
 
   opened : Within p (opening_words p) (At first) start
   opened =
-      let whole = opening_length p (inl has.is) entry in
-      let site = call_site p has.is in
+      let whole = opening_length p has.is entry in
+      let laid = laid_out p has.is in
+      let first_unit = laid.closing in
+      let low = laid.low in
       let count : suc (length (opening_instrs p entry) - 1) ≡ opening_words p = omega arith in
       subst (λ (n : ℕ). Within p n (At first) start) count
       (inr (refl, opening_keeps_match p memory memory entry 0 cleared (own_shared image input) (start_hart 0) (start_shared image input) enters same_regs same_start))
 
+  entry_fit : (callee : Bool) → SitesFit (entry_pending callee p.closing)
+  entry_fit false =
+      let laid = laid_out p has.is in
+      let first_unit = laid.closing in
+      let round = laid.round in
+      let high = laid.high in
+      record { each = ((omega arith, omega arith), tt); most = omega arith }
+  entry_fit true = record { each = tt; most = omega arith }
+
   first_fit : SitesFit first.pending
-  first_fit = let site = call_site p has.is in let laid = laid_out p (inl has.is) in record { each = ((omega arith, omega arith), tt); most = omega arith }
+  first_fit = entry_fit p.callee_saves
 
   walked : (path : List U.Unit) (o : Own) → OwnRuns p memory path first o → Within p (opening_words p + words_along path) (At o) start
   walked path o on =
@@ -109,9 +120,9 @@ module _ (p : Profile) (image : Contents) (input : List ℕ) (entry : ℕ) (has 
   pub keeps : (path : List U.Unit) (o : Own) → OwnRuns p memory path first o → Keeps p image input entry path o
   keeps path o on = record {
     goes = told (opening_words p + words_along path) (At o) (walked path o on);
-    next = λ unit now. last path o (word_count unit) (MatchesAfter SHADOW_START memory memory (own_step p o unit)) on
+    next = λ unit now. last path o (word_count unit) (MatchesAfter p.callee_saves SHADOW_START memory memory (own_step p o unit)) on
         (λ h s here. unit_within p SHADOW_START memory memory unit o h s own has.bytes (path_fit path first o on first_fit) now here.1);
-    closes = λ pc. last path o CLOSING_WORDS (MatchesAfter SHADOW_START memory memory (own_closing p o)) on
+    closes = λ pc. last path o CLOSING_WORDS (MatchesAfter p.callee_saves SHADOW_START memory memory (own_closing p o)) on
         (λ h s here. inr (
           refl,
           closing_keeps_match p SHADOW_START memory memory o h s own (subst (λ (a : ℕ). Stand memory a closing_instrs) (sym pc) has.closing) here.1,

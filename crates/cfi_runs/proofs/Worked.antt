@@ -123,7 +123,7 @@ bytes k =
 
 has_prologue : HasPrologue version_1 image entry
 has_prologue = record {
-  is = inl refl;
+  is = inl (inl refl);
   bytes = bytes;
   fits = (refl, refl);
   opening = record { round = refl; low = lit≤ tt; high = lit≤ tt; words = opening_words };
@@ -153,13 +153,14 @@ third = (own_step version_1 second saves).state
 abbrev pub last : Own
 last = (own_step version_1 third V.Return).state
 
-pub seven_steps : TameStep (loaded image) (V.Plain seven) first
+pub seven_steps : TameStep false (loaded image) (V.Plain seven) first
 seven_steps = record {
   fits = ((lit< tt, lit< tt, lit< tt), refl);
   stands = record { round = refl; low = lit≤ tt; high = lit≤ tt; words = seven_word };
   free = seven_free;
   some = tt;
-  asks = λ r same. tt;
+  leaves = λ is. absurd (cc);
+  asks = λ r same held. tt;
   tame = lit≤ tt;
 }
 
@@ -168,23 +169,25 @@ saved_free zero below = refl
 saved_free (suc zero) below = refl
 saved_free (suc (suc i)) below = absurd (omega arith)
 
-pub saves_steps : TameStep (loaded image) saves second
+pub saves_steps : TameStep false (loaded image) saves second
 saves_steps = record {
   fits = (lit< tt, lit< tt, record { some = lit< tt; most = lit≤ tt; each = ((lit< tt, lit< tt), ((lit< tt, lit< tt), tt)) }, tt);
   stands = record { round = refl; low = lit≤ tt; high = lit≤ tt; words = saves_words };
   free = stores_free member 2 (field low) 1 2 refl saved_free;
   some = tt;
-  asks = λ r same. tt;
+  leaves = λ is. absurd (cc);
+  asks = λ r same held. tt;
   tame = lit< tt;
 }
 
-pub return_steps : TameStep (loaded image) V.Return third
+pub return_steps : TameStep false (loaded image) V.Return third
 return_steps = record {
   fits = refl;
   stands = record { round = refl; low = lit≤ tt; high = lit≤ tt; words = return_words };
   free = λ k named. absurd (cc);
   some = lit< tt;
-  asks = λ r same. tt;
+  leaves = λ is. absurd (cc);
+  asks = λ r same held. tt;
   tame = refl;
 }
 

@@ -10,8 +10,7 @@ use Rattle.cfi_unit.specs.declared.unit.Unit as U
 use Rattle.cfi_unit.specs.UnitWords.{word_count}
 use Rattle.cfi_unit.specs.Prologue.{opening_instrs, closing_instrs}
 use Rattle.cfi_unit.specs.Between.{Unchanged}
-use Rattle.cfi_unit.specs.Effect.{UnitDoes}
-use Rattle.cfi_unit.specs.EffectLaw.{Enters}
+use Rattle.cfi_unit.specs.EffectLaw.{Enters, UnitIsDone}
 use Rattle.cfi_unit.specs.PrologueEffect.{OpeningDoes, ClosingDoes, EntersOpening, EntersClosing}
 use Rattle.cfi_runs.specs.Within.{Within}
 
@@ -19,7 +18,7 @@ abbrev pub UnitRuns : Type 0
 UnitRuns =
     (p : Profile) (part : ℕ) (image base : Memory) (unit : U.Unit) (at : ℕ) (pending : List ℕ) (h : Hart) (s : Shared) →
     Enters p part image base unit at pending h s →
-    Within p (word_count unit - 1) (UnitDoes p part image base Unchanged h s unit at pending) (step p h s)
+    Within p (word_count unit - 1) (UnitIsDone p part image base Unchanged h s unit at pending) (step p h s)
 
 abbrev pub OpeningRuns : Type 0
 OpeningRuns =

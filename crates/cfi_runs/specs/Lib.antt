@@ -1,5 +1,7 @@
 pub mod Within
 pub mod Laws
+pub mod Openings
+pub mod Mask
 pub mod Own
 pub mod Tame
 pub mod Matching

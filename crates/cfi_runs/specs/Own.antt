@@ -19,6 +19,7 @@ use Rattle.cfi_unit.specs.UnitWords.{BAD_RETURN, after_unit, system_instr}
 use Rattle.cfi_unit.specs.Leads.{sum_of}
 use Rattle.cfi_unit.specs.Leaving.{stored_at}
 use Rattle.cfi_unit.specs.PrologueEffect.{stack_of}
+use Rattle.cfi_runs.specs.Openings.{entry_pending}
 
 pub record Own : Type 0 where
   pub pc : ℕ
@@ -107,12 +108,12 @@ module _ (p : Profile) (o : Own) where
   abbrev pub own_closing : OwnAfter
   own_closing = executes Ecall (set_reg o.regs 17 93) o.pc
 
--- a hart's run starts at the entry, x1 has it return to the closing, and x2 is the end of the hart's
--- stack of data
+-- a hart's run starts at the entry, x1 has it return to the closing, which is pending where the opening has saved it, and x2 is the end
+-- of the hart's stack of data
 abbrev pub own_start : Profile → ℕ → ℕ → Registers → Shared → Own
 own_start p hart entry r t = record {
   pc = entry;
   regs = set_reg (set_reg r 2 (stack_of hart)) 1 p.closing;
   shared = t;
-  pending = p.closing ∷ [];
+  pending = entry_pending p.callee_saves p.closing;
 }

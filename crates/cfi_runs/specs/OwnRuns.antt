@@ -14,7 +14,7 @@ use Rattle.cfi_runs.specs.Tame.{TameStep}
 abbrev pub OwnRuns : Profile → Memory → List U.Unit → Own → Own → Type 0
 OwnRuns p image [] o o' = o' ≡ o
 OwnRuns p image (unit ∷ path) o o' =
-    TameStep image unit o × ((own_step p o unit).turn ≡ Ran) × OwnRuns p image path (own_step p o unit).state o'
+    TameStep p.callee_saves image unit o × ((own_step p o unit).turn ≡ Ran) × OwnRuns p image path (own_step p o unit).state o'
 
 -- how many words the units of a path have
 abbrev pub words_along : List U.Unit → ℕ

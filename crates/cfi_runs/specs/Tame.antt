@@ -1,7 +1,8 @@
 -- Which steps of the program's own its units keep: those that load in the window of data, [0, 2 ^ 28),
 -- store past an address in it, make no system call that is not listed where calls are, call no deeper
 -- than the shadow stack, go to a target of their class and return to their newest site, and name no
--- register that units keep for themselves. What a unit asks of the registers has to hold whatever those hold.
+-- register that units keep for themselves. What a unit asks of the registers has to hold whatever those hold, but for the mask of
+-- stores in x4.
 use Rattle.std.specs.Prelude.{◌≡◌, ℕ, ◌+◌, ◌%◌, ◌^◌, ◌≤◌, ◌<◌, ◌==◌, ◌||◌, Bool, true, false, List, [], ◌∷◌, length}
 use Rattle.std.specs.List.{list_any}
 use Rattle.rv_word.specs.Memory.{Memory}
@@ -22,7 +23,8 @@ use Rattle.cfi_unit.specs.Stand.{Stand}
 use Rattle.cfi_unit.specs.Leads.{HasLabel, sum_of}
 use Rattle.cfi_unit.specs.Leaving.{SameRegisters}
 use Rattle.cfi_unit.specs.EffectLaw.{AsksSite}
-use Rattle.cfi_unit.specs.Templates.{Asks}
+use Rattle.cfi_unit.specs.Templates.{Asks, is_lean}
+use Rattle.cfi_runs.specs.Mask.{HoldsMask}
 use Rattle.cfi_runs.specs.Own.{Own, computed}
 
 -- the end of the bytes that a load or a store touches
@@ -83,12 +85,13 @@ own_names unit k = act_names (flow_of unit).act (flow_of unit).exit k
 abbrev pub NamesNoReserved : U.Unit → Type 0
 NamesNoReserved unit = (k : ℕ) → own_names unit k ≡ true → is_reserved k ≡ false
 
--- a unit whose words stand at the pc takes a tame step. What it asks of the registers the program's own tell: so no store is tame
--- behind a mask that x4 holds
-pub record TameStep (image : Memory) (unit : U.Unit) (o : Own) : Type 0 where
+-- a unit whose words stand at the pc takes a tame step. What it asks of the registers the program's own tell, with x4 where that holds
+-- the mask of stores: there the unit is one that leaves it so
+pub record TameStep (masked : Bool) (image : Memory) (unit : U.Unit) (o : Own) : Type 0 where
   pub fits : Fits unit o.pc
   pub stands : Stand image o.pc (instrs_of unit o.pc)
   pub free : NamesNoReserved unit
   pub some : AsksSite unit o.pending
-  pub asks : (r : Registers) → SameRegisters o.regs r → Asks unit r
+  pub leaves : masked ≡ true → is_lean unit ≡ true
+  pub asks : (r : Registers) → SameRegisters o.regs r → HoldsMask masked r → Asks unit r
   pub tame : IsTame image unit o.pending o.regs

@@ -3,18 +3,18 @@
 -- the path have words; and where the program's next step ends its run, the machine's ends alike.
 use Rattle.std.specs.Prelude.{ℕ, ◌+◌, ◌-◌, ◌/◌, ◌^◌, ◌<◌, ◌≤◌, ◌≡◌, List, [], replicate}
 use Rattle.rv_word.specs.Image.{Contents}
-use Rattle.rv_word.specs.MemoryMap.{DATA_START, IsFullProfile, Profile, SHADOW_START}
+use Rattle.rv_word.specs.MemoryMap.{DATA_START, IsProfile, Profile, SHADOW_START}
 use Rattle.rv_word.specs.Memory.{loaded, placed, zeros}
 use Rattle.rv_instr.specs.Registers.{cleared}
 use Rattle.rv_code.specs.Run.{ByteChange, run_alone}
 use Rattle.rv_code.specs.State.{Shared, After, start_hart, start_shared}
 use Rattle.cfi_unit.specs.declared.unit.Unit as U
-use Rattle.cfi_unit.specs.declared.unit.Unit.TheVariants as V
-use Rattle.cfi_unit.specs.UnitWords.{Fits, word_count}
-use Rattle.cfi_unit.specs.Prologue.{OPENING, call_at, opening_instrs, closing_instrs}
+use Rattle.cfi_unit.specs.UnitWords.{word_count}
+use Rattle.cfi_unit.specs.Prologue.{OPENING, opening_instrs, closing_instrs}
 use Rattle.cfi_unit.specs.Stand.{Stand}
 use Rattle.cfi_runs.specs.Matching.{MatchesAfter}
 use Rattle.cfi_runs.specs.MatchLaws.{ComesTo}
+use Rattle.cfi_runs.specs.Openings.{EntryFits}
 use Rattle.cfi_runs.specs.Own.{Own, OwnAfter, own_step, own_closing, own_start}
 use Rattle.cfi_runs.specs.OwnRuns.{OwnRuns, words_along}
 use Rattle.cfi_runs.specs.Tame.{TameStep}
@@ -29,9 +29,9 @@ own_shared image input = record { memory = placed zeros DATA_START image.init; l
 
 -- the opening and the closing stand in an image of bytes
 pub record HasPrologue (p : Profile) (image : Contents) (entry : ℕ) : Type 0 where
-  pub is : IsFullProfile p
+  pub is : IsProfile p
   pub bytes : (k : ℕ) → loaded image k < 2 ^ 8
-  pub fits : Fits (V.Call entry) (call_at p)
+  pub fits : EntryFits p.callee_saves p entry
   pub opening : Stand (loaded image) OPENING (opening_instrs p entry)
   pub closing : Stand (loaded image) p.closing closing_instrs
 
@@ -48,12 +48,12 @@ module _ (p : Profile) (image : Contents) (input : List ℕ) where
   RunsTo most Q = (m : ℕ) × (m ≤ most) × Q (undisturbed p image input m)
 
   abbrev pub Ends : ℕ → OwnAfter → Type 0
-  Ends most own = RunsTo most (MatchesAfter SHADOW_START (loaded image) (loaded image) own)
+  Ends most own = RunsTo most (MatchesAfter p.callee_saves SHADOW_START (loaded image) (loaded image) own)
 
   -- `o` is where the program's own run comes along a path
   pub record Keeps (entry : ℕ) (path : List U.Unit) (o : Own) : Type 0 where
-    pub goes : RunsTo (opening_words p + words_along path) (ComesTo SHADOW_START (loaded image) (loaded image) o)
-    pub next : (unit : U.Unit) → TameStep (loaded image) unit o →
+    pub goes : RunsTo (opening_words p + words_along path) (ComesTo p.callee_saves SHADOW_START (loaded image) (loaded image) o)
+    pub next : (unit : U.Unit) → TameStep p.callee_saves (loaded image) unit o →
         Ends (opening_words p + (words_along path + word_count unit)) (own_step p o unit)
     pub closes : o.pc ≡ p.closing → Ends (opening_words p + (words_along path + CLOSING_WORDS)) (own_closing p o)
 

@@ -1,10 +1,12 @@
 //! Each function states one law; nothing is computed.
 ghost use Rattle.cfi_runs.specs.Laws.{ClosingRuns, OpeningRuns, UnitRuns};
+ghost use Rattle.cfi_runs.specs.Openings.{LeanOpeningRuns};
 ghost use Rattle.cfi_runs.specs.MatchLaws.{ClosingKeepsMatch, OpeningKeepsMatch, PathKeepsMatch, UnitKeepsMatch};
 ghost use Rattle.cfi_runs.specs.WholeRun.{RunKeepsMatch};
 ghost use Rattle.cfi_runs.specs.GroupLaws.{GroupIsOneStep, GroupsAreMasked, PlacesWalked};
 
-/// Where nothing is disturbed a unit does, within as many steps as it has words, what its flow says.
+/// Where nothing is disturbed a unit does, within as many steps as it has words, what its flow says, and writes of the scratch registers
+/// those alone that some word of it writes.
 pub fn unit_runs()
     ensures { UnitRuns }
 {}
@@ -12,6 +14,11 @@ pub fn unit_runs()
 /// The opening is left to the entry.
 pub fn opening_runs()
     ensures { OpeningRuns }
+{}
+
+/// So is a lean one, with the mask of stores in x4, its own site in x1 and none on the shadow stack.
+pub fn lean_opening_runs()
+    ensures { LeanOpeningRuns }
 {}
 
 /// The closing makes system call 93.
