@@ -26,7 +26,7 @@ use Rattle.cfi_unit.specs.UnitWords.{words_of}
 use Rattle.cfi_rules.specs.Placed.{code_from}
 use Rattle.cfi_writer.specs.Accepted.{IsAccepted}
 use Rattle.cfi_map.specs.Shorts.{IsShortAt, is_branch}
-use Rattle.cfi_writer.specs.Units.{Choice, entered_at, followers, is_later_at, units_of}
+use Rattle.cfi_writer.specs.Units.{Choice, bounds_at, followers, is_later_at, units_of}
 use Rattle.cfi_writer.proofs.Grouping.{later_below}
 use Rattle.cfi_writer.proofs.WrittenRows.{pointer, short, short_of_harts}
 
@@ -47,7 +47,7 @@ only_side side (suc j) other there = absurd (cc)
 
 -- where no place holds a later store there is nothing to ask
 no_groups : (m : Choice) → agree_below (is_later_at m) (λ k. false) (count m.layout.program) ≡ true →
-    AreGroups (item_of m.layout.program) (entered_at m) (whole_at m.whole)
+    AreGroups (item_of m.layout.program) (bounds_at m) (whole_at m.whole)
 no_groups m none k later =
     let first = agree_below_at (is_later_at m) (λ n. false) (count m.layout.program) k none (later_below m k later) in
     let wrong : true ≡ false = sym later ∙ first in

@@ -16,19 +16,22 @@ use Rattle.obj_program.proofs.Read.{read_there}
 use Rattle.obj_input.specs.declared.item_kind.ItemKind.{ItemKind}
 use Rattle.obj_input.specs.declared.item_kind.ItemKind.TheVariants as is
 use Rattle.rv_code.specs.Decode.{decoded}
-use Rattle.cfi_map.specs.GraphAtMap.{gate, words_at}
+use Rattle.cfi_map.specs.GraphAtMap.{entered_in, gate, words_at}
+use Rattle.cfi_graph.specs.Graph.{has_leaves}
 use Rattle.cfi_closed.specs.Closed.{is_target}
+use Rattle.cfi_leads.specs.Leads.{lead_size}
 use Rattle.cfi_map.specs.Groups.{AreGroups, is_direct_target}
-use Rattle.cfi_map.specs.Placement.{AreGates, is_ecall, is_ecall_instr, lead_size, whole_at}
+use Rattle.cfi_map.specs.Placement.{AreGates, is_ecall, is_ecall_instr, whole_at}
 use Rattle.cfi_unit.specs.declared.unit.Unit as U
 use Rattle.cfi_unit.specs.UnitWords.{word_count}
 use Rattle.cfi_rules.specs.Placed.{code_from, placed_code}
 use Rattle.cfi_rules.proofs.UnitIn.{length-code_from, length-placed_code}
 use Rattle.cfi_map.specs.Sizes.{part_sizes}
-use Rattle.cfi_writer.specs.Units.{Choice, behind, entered_at, entry_gate, group_at, instr_of, is_later_at, later_from, lead, low_at, member_at, unit_here, unit_places, units, units_of}
+use Rattle.cfi_writer.specs.Units.{Choice, behind, bounds_at, entry_gate, group_at, instr_of, is_later_at, later_from, lead, low_at, member_at, unit_here, unit_places, units, units_of}
 use Rattle.cfi_writer.proofs.Grouping.{entered_first, no_first_later, none_behind, none_later, whole_first}
 use Rattle.cfi_writer.proofs.InstrAt.{own_system}
-use Rattle.cfi_writer.proofs.Runs.{AreSingle, AreSized, Run, lead_bytes, lead_single, legal_run}
+use Rattle.cfi_writer.proofs.Plain.{no_plain_lead, plain_size}
+use Rattle.cfi_writer.proofs.Runs.{AreSingle, AreSized, Run, lead_bytes, lead_single, lead_sized, legal_run}
 use Rattle.cfi_writer.proofs.UnitOf.{is_right, unit_size}
 
 -- the words before a unit, and of what follows them
@@ -52,13 +55,14 @@ run_bytes m at last (k ∷ places) run =
     omega arith
 
 -- what is a target may be entered
-pub target_entered : (m : Choice) (k : ℕ) → is_target m.layout.closed.sides k ≡ true → entered_at m k ≡ true
+pub target_entered : (m : Choice) (k : ℕ) → is_target m.layout.closed.sides k ≡ true → (bounds_at m).entered k ≡ true
 target_entered m k target =
     or_right (k == m.layout.entry) _ (or_right (is_direct_target m.layout.program k) _ (or_left (is_target m.layout.closed.sides k) _ target))
 
 module _ (m : Choice) (sound : IsSound m.layout.program)
     (values : (k : ℕ) → k < count m.layout.program → is_end (item_of m.layout.program k).kind ≡ false →
-    is_some (instr_at m.layout.program m.layout.gates (words_at m.layout) k) ≡ true) where
+    is_some (instr_at m.layout.program m.layout.gates (words_at m.layout) k) ≡ true)
+    (plain : has_leaves m.layout.closed.version ≡ false) where
   -- the instruction that has a value is the one at the map
   instr_is : (k : ℕ) → k < count m.layout.program → is_end (item_of m.layout.program k).kind ≡ false →
       instr_at m.layout.program m.layout.gates (words_at m.layout) k ≡ Some (instr_of m k)
@@ -88,21 +92,23 @@ module _ (m : Choice) (sound : IsSound m.layout.program)
       subst (λ (kind : ItemKind). is_of kind (item_of m.layout.program k).patch (decoded (item_of m.layout.program k).word) ≡ true) system (read_there m.layout.program k sound below some) in
       ap is_ecall_instr (own_system m.layout.program m.layout.gates (words_at m.layout) k (instr_of m k) read (instr_is k below some))
 
-  module _ (groups : AreGroups (item_of m.layout.program) (entered_at m) (whole_at m.whole)) where
-    no_lead : (k : ℕ) → is_later_at m k ≡ true → lead_size m.layout.closed.sides k ≡ 0
+  module _ (groups : AreGroups (item_of m.layout.program) (bounds_at m) (whole_at m.whole)) where
+    no_lead : (k : ℕ) → is_later_at m k ≡ true → lead_size (entered_in m.layout) k ≡ 0
     no_lead k later =
         elim (cases_Bool (is_target m.layout.closed.sides k)) [
           | inl target ↦
               let wrong : true ≡ false = sym later ∙ entered_first m groups k (target_entered m k target) in
               absurd (cc)
-          | inr other ↦ rw other refl
+          | inr other ↦ no_plain_lead (entered_in m.layout) k plain other
         ]
 
     pub sized : AreSized m
     sized = record {
+      led = λ k. lead_sized m k plain;
       later = no_lead;
       first = λ k below first.
-          unit_size m.layout.closed.calls (item_of m.layout.program k).kind (instr_of m k) (is_ecall (item_of m.layout.program k)) (whole_at m.whole k) _ _ _ (group_at m k)
+          ap (λ (n : ℕ). n + 4 * behind m k) (plain_size (entered_in m.layout) k (item_of m.layout.program k) (whole_at m.whole k) plain)
+          ∙ unit_size m.layout.closed.calls (item_of m.layout.program k).kind (instr_of m k) (is_ecall (item_of m.layout.program k)) (whole_at m.whole k) _ _ _ (group_at m k)
           (behind m k) (right k below) (ecall_told k below)
           (λ store. (whole_first m k store first, length-map-range_with_len (member_at m (low_at m k)) k (suc (behind m k))))
           (none_behind m groups k);
@@ -112,21 +118,21 @@ module _ (m : Choice) (sound : IsSound m.layout.program)
     start = omega arith
 
     -- units stand so from the first on
-    pub whole_run : (gates : List ℕ) → m.layout.gates ≡ gates → AreGates m.layout.closed.calls m.layout.closed.sides m.whole 0 m.layout.profile.units_from m.layout.program.items gates →
+    pub whole_run : (gates : List ℕ) → m.layout.gates ≡ gates → AreGates (entered_in m.layout) m.whole 0 m.layout.profile.units_from m.layout.program.items gates →
         Run m m.layout.profile.units_from (unit_places m 0 (count m.layout.program))
-        (m.layout.profile.units_from + sum (part_sizes m.layout.closed.calls m.layout.closed.sides m.whole 0 m.layout.program.items))
+        (m.layout.profile.units_from + sum (part_sizes (entered_in m.layout) m.whole 0 m.layout.program.items))
     whole_run gates same legal =
         let none = none_later m 0 (no_first_later m groups) in
         let zero_more : (i : ℕ) → 0 + i ≡ i = λ i. omega arith in
         let from : m.layout.profile.units_from + 4 * later_from m 0 ≡ m.layout.profile.units_from = omega arith in
-        subst (λ (b : ℕ). Run m b (unit_places m 0 (count m.layout.program)) (m.layout.profile.units_from + sum (part_sizes m.layout.closed.calls m.layout.closed.sides m.whole 0 m.layout.program.items))) from
+        subst (λ (b : ℕ). Run m b (unit_places m 0 (count m.layout.program)) (m.layout.profile.units_from + sum (part_sizes (entered_in m.layout) m.whole 0 m.layout.program.items))) from
         (legal_run m sized 0 m.layout.profile.units_from m.layout.program.items gates
         (λ i. ap (gate m.layout) (zero_more i) ∙ ap (λ (gs : List ℕ). slice_index gs i) same) (λ i less. ap (item_of m.layout.program) (zero_more i)) (omega arith) legal)
 
     -- and the code has room where the parts have
     pub room_there : IsProfile m.layout.profile →
-        AreGates m.layout.closed.calls m.layout.closed.sides m.whole 0 m.layout.profile.units_from m.layout.program.items m.layout.gates →
-        m.layout.profile.units_from - CODE_START + sum (part_sizes m.layout.closed.calls m.layout.closed.sides m.whole 0 m.layout.program.items) ≤ CODE_SIZE →
+        AreGates (entered_in m.layout) m.whole 0 m.layout.profile.units_from m.layout.program.items m.layout.gates →
+        m.layout.profile.units_from - CODE_START + sum (part_sizes (entered_in m.layout) m.whole 0 m.layout.program.items) ≤ CODE_SIZE →
         4 * length (placed_code m.layout.profile (entry_gate m) (units m)) ≤ CODE_SIZE
     room_there is legal room =
         let whole = length-placed_code m.layout.profile is (entry_gate m) (units m) in

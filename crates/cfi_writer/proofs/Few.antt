@@ -27,13 +27,20 @@ use Rattle.cfi_flow.specs.Closing.{IsClosed}
 use Rattle.cfi_class.specs.Classes.{has}
 use Rattle.cfi_map.specs.LabelOf.{Tagged, all_classes, empty_classes, tag, tagged, with_empty}
 use Rattle.cfi_flow.specs.Labels.{is_gate, used_labels}
-use Rattle.cfi_map.specs.Placement.{is_ecall, kind_size, lead_size, size_of}
+use Rattle.rv_word.specs.declared.version.GraphVersion.{GraphVersion}
+use Rattle.rv_word.specs.declared.version.GraphVersion.TheVariants.{OneLabel, TwoLabels, CalleeSaves}
+use Rattle.cfi_leads.specs.Entered.{Entered, entered_at}
+use Rattle.cfi_leads.specs.Leads.{lead_size}
+use Rattle.cfi_leads.specs.Leaves.{in_leaf}
+use Rattle.cfi_map.specs.Groups.{is_short}
+use Rattle.cfi_map.specs.Placement.{is_ecall, kind_size, lean_size, size_by, size_of}
 use Rattle.cfi_flow.specs.Sites.{site_kind}
 use Rattle.cfi_flow.specs.Policy.{IsRaw}
 use Rattle.cfi_flow.specs.Raw.{RawGraph}
 use Rattle.cfi_flow.proofs.Laws.{is_kind_of, is_site_of, members_there, place_of_site, side_places}
 use Rattle.cfi_writer.specs.GraphOf.{IsGraphOf}
 use Rattle.cfi_map.specs.Sizes.{part_sizes, whole_sizes}
+use Rattle.cfi_writer.proofs.Plain.{lead_some}
 use Rattle.cfi_writer.proofs.SideLabels.{any_get}
 use Rattle.cfi_writer.proofs.SitesThere.{side_at}
 
@@ -42,42 +49,72 @@ AreTargets : List Side → ℕ → ℕ → List ℕ → Type 0
 AreTargets sides k n [] = Unit {0}
 AreTargets sides k n (x ∷ xs) = (k ≤ x) × (x < n) × (is_target sides x ≡ true) × AreTargets sides (x + 1) n xs
 
-abbrev unit_bytes : Option (List ℕ) → Item → ℕ
-unit_bytes calls i = size_of calls i true
+-- of sites and labels of the program's own, each has a unit
+abbrev is_site_item : Item → Bool
+is_site_item i = is_some (site_kind i.kind)
 
--- each of them has a word for each side before its unit
-gates_few : (calls : Option (List ℕ)) (sides : List Side) (k n : ℕ) (items : List Item) (xs : List ℕ) → n ≡ k + length items → AreTargets sides k n xs →
-    sum_by (λ x. 4 * length sides) xs + sum_by (unit_bytes calls) items ≤ sum (part_sizes calls sides [] k items)
+abbrev is_gate_item : Item → Bool
+is_gate_item i = is_gate i.kind
+
+abbrev unit_bytes : Item → ℕ
+unit_bytes i = 8 * cond (is_site_item i) 1 0 + 4 * cond (is_gate_item i) 1 0
+
+one_kind : (calls : Option (List ℕ)) (kind : ItemKind) (ecall : Bool) → 8 * cond (is_some (site_kind kind)) 1 0 + 4 * cond (is_gate kind) 1 0 ≤ kind_size calls kind ecall true
+one_kind calls is.Icall ecall = omega arith
+one_kind calls is.Ijump ecall = omega arith
+one_kind calls is.Gate ecall = omega arith
+one_kind calls other ecall = omega arith
+
+one_lean : (calls : Option (List ℕ)) (kind : ItemKind) (ecall short inside : Bool) →
+    8 * cond (is_some (site_kind kind)) 1 0 + 4 * cond (is_gate kind) 1 0 ≤ lean_size calls kind ecall short inside true
+one_lean calls is.Icall ecall short inside = omega arith
+one_lean calls is.Ijump ecall short inside = omega arith
+one_lean calls is.Gate ecall short inside = omega arith
+one_lean calls other ecall short inside = omega arith
+
+one_by : (version : GraphVersion) (calls : Option (List ℕ)) (inside : Bool) (item : Item) → unit_bytes item ≤ size_by version calls inside item true
+one_by OneLabel calls inside item = one_kind calls item.kind (is_ecall item)
+one_by TwoLabels calls inside item = one_kind calls item.kind (is_ecall item)
+one_by CalleeSaves calls inside item = one_lean calls item.kind (is_ecall item) (is_short item) inside
+
+one_unit : (of : Entered) (k : ℕ) (item : Item) → unit_bytes item ≤ size_of of k item true
+one_unit of k item = one_by of.closed.version of.closed.calls (in_leaf of k) item
+
+-- each of these numbers has a word before its unit
+gates_few : (of : Entered) (k n : ℕ) (items : List Item) (xs : List ℕ) → n ≡ k + length items → AreTargets of.closed.sides k n xs →
+    sum_by (λ x. 4) xs + sum_by unit_bytes items ≤ sum (part_sizes of [] k items)
 unfolding AreTargets part_sizes
-gates_few calls sides k n [] [] all are = omega arith
-gates_few calls sides k n [] (x ∷ xs) all are = absurd (omega (arith, are.0, are.1))
-gates_few calls sides k n (item ∷ items) [] all are =
-    let part = lead_size sides k + unit_bytes calls item in
+gates_few of k n [] [] all are = omega arith
+gates_few of k n [] (x ∷ xs) all are = absurd (omega (arith, are.0, are.1))
+gates_few of k n (item ∷ items) [] all are =
+    let part = lead_size of k + size_of of k item true in
     omega (
       arith,
-      gates_few calls sides (k + 1) n items [] (omega arith) tt,
-      sum_by-cons (unit_bytes calls) item items,
-      sum_by-cons (λ (m : ℕ). m) part (part_sizes calls sides [] (k + 1) items),
+      gates_few of (k + 1) n items [] (omega arith) tt,
+      one_unit of k item,
+      sum_by-cons unit_bytes item items,
+      sum_by-cons (λ (m : ℕ). m) part (part_sizes of [] (k + 1) items),
     )
-gates_few calls sides k n (item ∷ items) (x ∷ xs) all are =
-    let part = lead_size sides k + unit_bytes calls item in
-    let units = sum_by-cons (unit_bytes calls) item items in
-    let parts = sum_by-cons (λ (m : ℕ). m) part (part_sizes calls sides [] (k + 1) items) in
+gates_few of k n (item ∷ items) (x ∷ xs) all are =
+    let part = lead_size of k + size_of of k item true in
+    let units = sum_by-cons unit_bytes item items in
+    let own = one_unit of k item in
+    let parts = sum_by-cons (λ (m : ℕ). m) part (part_sizes of [] (k + 1) items) in
     elim (cases_eq x k) [
       | inl same ↦
-          let target : is_target sides k ≡ true = ap (is_target sides) (sym same) ∙ are.2 in
-          let gate : lead_size sides k ≡ 4 * length sides = rw target refl in
-          let rest = gates_few calls sides (k + 1) n items xs (omega arith) (subst (λ (m : ℕ). AreTargets sides (m + 1) n xs) same are.3) in
-          omega (arith, gate, rest, units, parts, sum_by-cons (λ (y : ℕ). 4 * length sides) x xs)
+          let target : is_target of.closed.sides k ≡ true = ap (is_target of.closed.sides) (sym same) ∙ are.2 in
+          let gate = lead_some of k target in
+          let rest = gates_few of (k + 1) n items xs (omega arith) (subst (λ (m : ℕ). AreTargets of.closed.sides (m + 1) n xs) same are.3) in
+          omega (arith, gate, rest, own, units, parts, sum_by-cons (λ (y : ℕ). 4) x xs)
       | inr differ ↦
           let above : k + 1 ≤ x = omega (arith, are.0) in
-          let rest = gates_few calls sides (k + 1) n items (x ∷ xs) (omega arith) (above, are.1, are.2, are.3) in
-          omega (arith, rest, units, parts)
+          let rest = gates_few of (k + 1) n items (x ∷ xs) (omega arith) (above, are.1, are.2, are.3) in
+          omega (arith, rest, own, units, parts)
     ]
 
-no_gates : (calls : Option (List ℕ)) (sides : List Side) (items : List Item) → sum_by (unit_bytes calls) items ≤ sum (part_sizes calls sides [] 0 items)
+no_gates : (of : Entered) → sum_by unit_bytes of.program.items ≤ sum (whole_sizes of)
 unfolding AreTargets
-no_gates calls sides items = let all = gates_few calls sides 0 (length items) items [] (omega arith) tt in omega (arith, all)
+no_gates of = let all = gates_few of 0 (count of.program) of.program.items [] (omega arith) tt in omega (arith, all)
 
 abbrev first_of : List ℕ → ℕ
 first_of class = get_or class 0 0
@@ -102,27 +139,13 @@ firsts_are sides k n (class ∷ some) from each rising = (
       (λ i j d less lt. rising (suc i) (suc j) d (omega arith) (omega arith)),
 )
 
--- of sites and labels of the program's own, each has a unit
-abbrev is_site_item : Item → Bool
-is_site_item i = is_some (site_kind i.kind)
-
-abbrev is_gate_item : Item → Bool
-is_gate_item i = is_gate i.kind
-
-one_unit : (calls : Option (List ℕ)) (kind : ItemKind) (ecall : Bool) → 8 * cond (is_some (site_kind kind)) 1 0 + 4 * cond (is_gate kind) 1 0 ≤ kind_size calls kind ecall true
-one_unit calls is.Icall ecall = omega arith
-one_unit calls is.Ijump ecall = omega arith
-one_unit calls is.Gate ecall = omega arith
-one_unit calls other ecall = omega arith
-
-units_few : (calls : Option (List ℕ)) (items : List Item) → 8 * count_by is_site_item items + 4 * count_by is_gate_item items ≤ sum_by (unit_bytes calls) items
-units_few calls [] = omega arith
-units_few calls (item ∷ items) =
+units_few : (items : List Item) → 8 * count_by is_site_item items + 4 * count_by is_gate_item items ≤ sum_by unit_bytes items
+units_few [] = omega arith
+units_few (item ∷ items) =
     omega (
       arith,
-      units_few calls items,
-      one_unit calls item.kind (is_ecall item),
-      sum_by-cons (unit_bytes calls) item items,
+      units_few items,
+      sum_by-cons unit_bytes item items,
       sum_by-cons (λ (i : Item). cond (is_site_item i) 1 0) item items,
       sum_by-cons (λ (i : Item). cond (is_gate_item i) 1 0) item items,
     )
@@ -170,18 +193,14 @@ fours : (xs : List ℕ) → sum_by (λ (x : ℕ). 4) xs ≡ 4 * length xs
 fours [] = refl
 fours (x ∷ xs) = omega (arith, fours xs, sum_by-cons (λ (y : ℕ). 4) x xs)
 
-eights : (xs : List ℕ) → sum_by (λ (x : ℕ). 8) xs ≡ 8 * length xs
-eights [] = refl
-eights (x ∷ xs) = omega (arith, eights xs, sum_by-cons (λ (y : ℕ). 8) x xs)
-
 -- the labels of a side have room: each class has a target, each other label a site
-record HasRoom (lead units parts sites : ℕ) (side : Side) : Type 0 where
-  gates : sum_by (λ (x : ℕ). lead) (map first_of side.classes) + units ≤ parts
+record HasRoom (units parts sites : ℕ) (side : Side) : Type 0 where
+  gates : sum_by (λ (x : ℕ). 4) (map first_of side.classes) + units ≤ parts
   empties : length (empty_classes side.sites) ≤ sites
 
-module _ (program : Program) (policy : PolicyParts) (raw : RawGraph) (closed : ClosedGraph) (is : IsRaw program policy raw) (closes : IsClosed closed.version raw closed) where
+module _ (entry : ℕ) (program : Program) (policy : PolicyParts) (raw : RawGraph) (closed : ClosedGraph) (is : IsRaw program policy raw) (closes : IsClosed closed.version raw closed) where
   has_room : (j : ℕ) (side : Side) → slice_get closed.sides j ≡ Some side →
-      HasRoom (4 * length closed.sides) (sum_by (unit_bytes closed.calls) program.items) (sum (whole_sizes program closed)) (count_by is_site_item program.items) side
+      HasRoom (sum_by unit_bytes program.items) (sum (whole_sizes (entered_at program closed entry))) (count_by is_site_item program.items) side
   has_room j side there =
       let of = side_at program policy raw is closed.version closed.sides closes.sorts closes.sides j side there in
       let classes = side.classes in
@@ -199,7 +218,7 @@ module _ (program : Program) (policy : PolicyParts) (raw : RawGraph) (closed : C
       let sites = site_count side.sort program (count program) (omega arith) in
       let every = ap (count_by is_site_item) (take-length program.items) in
       record {
-        gates = gates_few closed.calls sides 0 (count program) program.items (map first_of classes) (omega arith) targets;
+        gates = gates_few (entered_at program closed entry) 0 (count program) program.items (map first_of classes) (omega arith) targets;
         empties = omega (arith, places, sites, every, empty_few side.sites, length-map side.sites place_of_site);
       }
 
@@ -214,27 +233,24 @@ side_many side rest =
     )
 
 two_few : (sides : List Side) (units parts sites used : ℕ) → length sides ≤ 2 →
-    ((j : ℕ) (side : Side) → slice_get sides j ≡ Some side → HasRoom (4 * length sides) units parts sites side) →
-    8 * sites + 4 * used ≤ units → units ≤ parts → parts < CODE_SIZE → length (tagged sides) + used < 2 ^ 18
+    ((j : ℕ) (side : Side) → slice_get sides j ≡ Some side → HasRoom units parts sites side) →
+    8 * sites + 4 * used ≤ units → units ≤ parts → parts < CODE_SIZE → length (tagged sides) + used < 2 ^ 19
 unfolding tagged
 two_few [] units parts sites used few each some less room = omega arith
 two_few (s ∷ []) units parts sites used few each some less room =
     let one = each 0 s refl in
-    let gates : sum_by (λ (x : ℕ). 4) (map first_of s.classes) + units ≤ parts = one.gates in
-    omega (arith, gates, one.empties, fours (map first_of s.classes), length-map s.classes first_of, side_many s [])
+    omega (arith, one.gates, one.empties, fours (map first_of s.classes), length-map s.classes first_of, side_many s [])
 two_few (s ∷ t ∷ []) units parts sites used few each some less room =
     let one = each 0 s refl in
     let two = each 1 t refl in
-    let gates : sum_by (λ (x : ℕ). 8) (map first_of s.classes) + units ≤ parts = one.gates in
-    let more : sum_by (λ (x : ℕ). 8) (map first_of t.classes) + units ≤ parts = two.gates in
     omega (
       arith,
-      gates,
-      more,
+      one.gates,
+      two.gates,
       one.empties,
       two.empties,
-      eights (map first_of s.classes),
-      eights (map first_of t.classes),
+      fours (map first_of s.classes),
+      fours (map first_of t.classes),
       length-map s.classes first_of,
       length-map t.classes first_of,
       side_many s (map (tag t.sort) (all_classes t) ++ []),
@@ -242,14 +258,14 @@ two_few (s ∷ t ∷ []) units parts sites used few each some less room =
     )
 two_few (s ∷ t ∷ u ∷ sides) units parts sites used few each some less room = absurd (omega arith)
 
-pub labels_few : (program : Program) (closed : ClosedGraph) → IsGraphOf program closed → sum (whole_sizes program closed) < CODE_SIZE →
-    length (tagged closed.sides) + length (used_labels program) < 2 ^ 18
-labels_few program closed (policy, raw, is, closes) room =
-    let fit : 8 * count_by is_site_item program.items + 4 * length (used_labels program) ≤ sum_by (unit_bytes closed.calls) program.items =
-    omega (arith, units_few closed.calls program.items, length-filter is_gate_item program.items, length-map (filter is_gate_item program.items) (λ (i : Item). i.word / 2 ^ 12)) in
-    let less : sum_by (unit_bytes closed.calls) program.items ≤ sum (whole_sizes program closed) = no_gates closed.calls closed.sides program.items in
-    two_few closed.sides (sum_by (unit_bytes closed.calls) program.items) (sum (whole_sizes program closed)) (count_by is_site_item program.items) (length (used_labels program))
-    (few_sides closed.version closed.sides closes.sorts) (has_room program policy raw closed is closes) fit less room
+pub labels_few : (program : Program) (closed : ClosedGraph) (entry : ℕ) → IsGraphOf program closed →
+    sum (whole_sizes (entered_at program closed entry)) < CODE_SIZE → length (tagged closed.sides) + length (used_labels program) < 2 ^ 19
+labels_few program closed entry (policy, raw, is, closes) room =
+    let of = entered_at program closed entry in
+    let fit : 8 * count_by is_site_item program.items + 4 * length (used_labels program) ≤ sum_by unit_bytes program.items =
+    omega (arith, units_few program.items, length-filter is_gate_item program.items, length-map (filter is_gate_item program.items) (λ (i : Item). i.word / 2 ^ 12)) in
+    two_few closed.sides (sum_by unit_bytes program.items) (sum (whole_sizes of)) (count_by is_site_item program.items) (length (used_labels program))
+    (few_sides closed.version closed.sides closes.sorts) (has_room entry program policy raw closed is closes) fit (no_gates of) room
 
 -- while a loop counts the sites without targets
 drop_step : (sites : List Site) (k : ℕ) (site : Site) → slice_get sites k ≡ Some site → drop k sites ≡ site ∷ drop (k + 1) sites

@@ -1,9 +1,10 @@
 -- A choice that is accepted has as many gates as places.
 use Rattle.std.proofs.Common.{◌≡◌, length}
 use Rattle.obj_program.specs.Program.{count}
+use Rattle.cfi_map.specs.GraphAtMap.{entered_in}
 use Rattle.cfi_map.proofs.Placing.{as_many_gates}
 use Rattle.cfi_writer.specs.Accepted.{IsAccepted}
 use Rattle.cfi_writer.specs.Units.{Choice}
 
 pub gates_counted : (m : Choice) → IsAccepted m → length m.layout.gates ≡ count m.layout.program
-gates_counted m accepted = as_many_gates m.layout.closed.calls m.layout.closed.sides m.whole 0 _ m.layout.program.items m.layout.gates accepted.legal
+gates_counted m accepted = as_many_gates (entered_in m.layout) m.whole 0 _ m.layout.program.items m.layout.gates accepted.legal

@@ -1,5 +1,6 @@
 -- What the loops over a group's stores come to.
-use Rattle.std.proofs.Common.{◌≡◌, ℕ, suc, ◌+◌, ◌-◌, ◌^◌, ◌<◌, ◌≤◌, Bool, true, false, List, [], ◌∷◌, ◌++◌, length, Some, refl, sym, ap, subst, ◌∙◌, arith, inl, inr, min}
+use Rattle.std.specs.Prelude.{if◌then◌else◌}
+use Rattle.std.proofs.Common.{◌≡◌, ℕ, suc, ◌+◌, ◌-◌, ◌^◌, ◌<◌, ◌≤◌, Bool, true, false, List, [], ◌∷◌, ◌++◌, length, Some, None, refl, sym, ap, subst, ◌∙◌, arith, inl, inr, min}
 use Rattle.std.proofs.lemmas.Bool.{cases_Bool}
 use Rattle.std.proofs.lemmas.List.FromFn.{length-map-range_with_len, map-range_with_len_more}
 use Rattle.std.proofs.lemmas.Option.{same_Some}
@@ -18,6 +19,7 @@ use Rattle.cfi_unit.specs.declared.members.Member.{Member}
 use Rattle.cfi_runs.specs.Distances.{level, lowest}
 use Rattle.cfi_runs.specs.GroupStores.{members_from}
 use Rattle.cfi_runs.proofs.Distances.{lowest_least}
+use Rattle.cfi_closed.specs.Closed.{ClosedGraph}
 use Rattle.cfi_rules.specs.Lines.{jump_word}
 use Rattle.cfi_writer.specs.Accepted.{IsAccepted}
 use Rattle.cfi_writer.specs.Chosen.{instr_if}
@@ -46,6 +48,24 @@ store_unit m k u i store there all =
     all (whole_at m.whole k) (gate_to m.layout (item_of m.layout.program k).target) (jump_word m.layout.closed.version) (site_label m.labels m.layout.closed.sides k)
     ∙ ap (λ (x : Instr). unit_of m.layout.closed.calls is.Store x (whole_at m.whole k) (gate_to m.layout (item_of m.layout.program k).target) (jump_word m.layout.closed.version) (site_label m.labels m.layout.closed.sides k) (group_at m k)) instr
     ∙ ap (λ (kind : ItemKind). unit_of m.layout.closed.calls kind (instr_of m k) (whole_at m.whole k) (gate_to m.layout (item_of m.layout.program k).target) (jump_word m.layout.closed.version) (site_label m.labels m.layout.closed.sides k) (group_at m k)) (sym same)
+
+-- and so is that of another place, by its parts
+instr_there : (last : Bool) (i j : Instr) → Some i ≡ (if last then None else Some j) → i ≡ j
+instr_there true i j there = absurd (cc)
+instr_there false i j there = same_Some i j there
+
+pub other_unit : (m : Choice) (k : ℕ) (u : U.Unit) (i : Instr) (kind : ItemKind) (closed : ClosedGraph) (whole : Bool) (target label : ℕ) → Some i ≡ instr_if m k →
+    kind ≡ (item_of m.layout.program k).kind → closed ≡ m.layout.closed → whole ≡ whole_at m.whole k → target ≡ gate_to m.layout (item_of m.layout.program k).target →
+    label ≡ site_label m.labels m.layout.closed.sides k → u ≡ unit_of closed.calls kind i whole target (jump_word closed.version) label (group_at m k) → u ≡ unit_here m k
+other_unit m k u i kind closed whole target label there kind_is closed_is whole_is target_is label_is is =
+    let instr : i ≡ instr_of m k = instr_there (is_end (item_of m.layout.program k).kind) i (instr_of m k) there in
+    is
+    ∙ ap (λ (x : Instr). unit_of closed.calls kind x whole target (jump_word closed.version) label (group_at m k)) instr
+    ∙ ap (λ (x : ItemKind). unit_of closed.calls x (instr_of m k) whole target (jump_word closed.version) label (group_at m k)) kind_is
+    ∙ ap (λ (x : ClosedGraph). unit_of x.calls (item_of m.layout.program k).kind (instr_of m k) whole target (jump_word x.version) label (group_at m k)) closed_is
+    ∙ ap (λ (x : Bool). unit_of m.layout.closed.calls (item_of m.layout.program k).kind (instr_of m k) x target (jump_word m.layout.closed.version) label (group_at m k)) whole_is
+    ∙ ap (λ (x : ℕ). unit_of m.layout.closed.calls (item_of m.layout.program k).kind (instr_of m k) (whole_at m.whole k) x (jump_word m.layout.closed.version) label (group_at m k)) target_is
+    ∙ ap (λ (x : ℕ). unit_of m.layout.closed.calls (item_of m.layout.program k).kind (instr_of m k) (whole_at m.whole k) (gate_to m.layout (item_of m.layout.program k).target) (jump_word m.layout.closed.version) x (group_at m k)) label_is
 
 -- the first place behind that is no later store ends the group
 pub none_left : (m : Choice) (k j : ℕ) → k + 1 ≤ j → later_from m (k + 1) ≡ (j - (k + 1)) + later_from m j → is_later_at m j ≡ false → j - k - 1 ≡ behind m k

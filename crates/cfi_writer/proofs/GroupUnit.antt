@@ -27,7 +27,7 @@ use Rattle.cfi_runs.specs.Distances.{level}
 use Rattle.cfi_runs.specs.GroupStores.{IsMasked, members_from}
 use Rattle.cfi_runs.proofs.Distances.{groups_are_masked}
 use Rattle.cfi_writer.specs.Accepted.{IsAccepted}
-use Rattle.cfi_writer.specs.Units.{Choice, behind, entered_at, group_at, instr_of, is_later_at, low_at, member_at, member_for, offset_at, offset_of}
+use Rattle.cfi_writer.specs.Units.{Choice, behind, bounds_at, group_at, instr_of, is_later_at, low_at, member_at, member_for, offset_at, offset_of}
 use Rattle.cfi_writer.proofs.Fitting.{FitsMask}
 use Rattle.cfi_writer.proofs.Grouping.{group_there, later_below, later_behind, later_store}
 use Rattle.cfi_writer.proofs.Standing.{instr_in_range, instr_is, right}
@@ -107,8 +107,8 @@ module _ (m : Choice) (ok : IsAccepted m) where
         ]
 
     -- with others there they are a group
-    of_group : 1 ≤ behind m k → Grouped (item_of m.layout.program) (entered_at m) k (behind m k + 1)
-    of_group some = grouped (item_of m.layout.program) (entered_at m) (whole_at m.whole) ok.groups k (behind m k + 1) (group_there m k store first) (omega arith)
+    of_group : 1 ≤ behind m k → Grouped (item_of m.layout.program) (bounds_at m) k (behind m k + 1)
+    of_group some = grouped (item_of m.layout.program) (bounds_at m) (whole_at m.whole) ok.groups k (behind m k + 1) (group_there m k store first) (omega arith)
 
     word_says : 1 ≤ behind m k → (i : ℕ) → i ≤ behind m k → decoded (item_of m.layout.program (k + i)).word ≡ Some (instr_of m (k + i))
     word_says some i few =

@@ -6,14 +6,14 @@ use Rattle.rv_code.specs.Encode.{code_of}
 use Rattle.obj_input.specs.declared.item_kind.ItemKind.TheVariants as is
 use Rattle.obj_program.specs.AtMap.{instr_at}
 use Rattle.obj_program.specs.Program.{Program, item_of}
-use Rattle.cfi_map.specs.GraphAtMap.{word}
+use Rattle.cfi_map.specs.GraphAtMap.{word, entered_in}
 use Rattle.cfi_map.specs.Groups.{all_from, may_join, members_before}
 use Rattle.cfi_map.specs.LabelOf.{empty_classes, label_at, labels_of, site_label, site_number, tagged}
 use Rattle.cfi_map.specs.Placement.{AreGates, whole_at, words_from}
 use Rattle.cfi_unit.specs.UnitWords.{words_of}
 use Rattle.cfi_rules.specs.Placed.{code_from}
 use Rattle.cfi_writer.specs.Laws.{written_code}
-use Rattle.cfi_writer.specs.Units.{Choice, behind, entered_at, followers, units_of}
+use Rattle.cfi_writer.specs.Units.{Choice, behind, bounds_at, followers, units_of}
 use Rattle.cfi_writer.proofs.WrittenRows.{layout, place}
 
 -- `addi x2, x2, -32`, `sd x1, 24(x2)`, `sd x8, 16(x2)`, `ld x1, 24(x2)`, `addi x2, x2, 32`, `ret`
@@ -36,7 +36,7 @@ grouped = record {
   labels = [];
 }
 
-grouped_gates : AreGates grouped.layout.closed.calls grouped.layout.closed.sides grouped.whole 0 UNITS_START saving.items grouped.layout.gates
+grouped_gates : AreGates (entered_in grouped.layout) grouped.whole 0 UNITS_START saving.items grouped.layout.gates
 unfolding AreGates
 grouped_gates = (refl, (refl, (refl, (refl, (refl, (refl, (refl, tt)))))))
 
@@ -47,7 +47,7 @@ unfolding units_of followers code_from words_of code_of instr_at decoded words_f
 grouped_rows = (refl, refl, refl, refl)
 
 -- the second may join the first, and the first nothing
-grouped_joins : (members_before (item_of saving) (whole_at grouped.whole) 2 ≡ 1) × (may_join (item_of saving) (entered_at grouped) 2 1 ≡ true)
-    × (members_before (item_of saving) (whole_at grouped.whole) 1 ≡ 0) × (may_join (item_of saving) (entered_at grouped) 1 0 ≡ false)
+grouped_joins : (members_before (item_of saving) (whole_at grouped.whole) 2 ≡ 1) × (may_join (item_of saving) (bounds_at grouped) 2 1 ≡ true)
+    × (members_before (item_of saving) (whole_at grouped.whole) 1 ≡ 0) × (may_join (item_of saving) (bounds_at grouped) 1 0 ≡ false)
 unfolding members_before all_from decoded
 grouped_joins = (refl, refl, refl, refl)

@@ -7,11 +7,11 @@ use Rattle.obj_program.specs.Program.{count, item_of, no_item}
 use Rattle.cfi_map.specs.Groups.{AreGroups, IsGroup, is_store, members_before}
 use Rattle.cfi_map.specs.Placement.{whole_at}
 use Rattle.cfi_map.proofs.GroupFacts.{Joins, joins, later_if, later_parts, none_at_start, none_before}
-use Rattle.cfi_writer.specs.Units.{Choice, behind, entered_at, followers, is_later_at, later_from}
+use Rattle.cfi_writer.specs.Units.{Choice, behind, bounds_at, followers, is_later_at, later_from}
 
 -- a later store is one, without its whole size, and there is a place with it
 pub later_store : (m : Choice) (k : ℕ) → is_later_at m k ≡ true → (is_store (item_of m.layout.program k).kind ≡ true) × (whole_at m.whole k ≡ false)
-later_store m k later = later_parts (item_of m.layout.program) (entered_at m) (whole_at m.whole) k later
+later_store m k later = later_parts (item_of m.layout.program) (bounds_at m) (whole_at m.whole) k later
 
 pub later_below : (m : Choice) (k : ℕ) → is_later_at m k ≡ true → k < count m.layout.program
 later_below m k later =
@@ -29,7 +29,7 @@ whole_first m k store first =
     elim (cases_Bool (whole_at m.whole k)) [
       | inl whole ↦ whole
       | inr less ↦
-          let wrong : false ≡ true = sym first ∙ later_if (item_of m.layout.program) (entered_at m) (whole_at m.whole) k store less in
+          let wrong : false ≡ true = sym first ∙ later_if (item_of m.layout.program) (bounds_at m) (whole_at m.whole) k store less in
           absurd (cc)
     ]
 
@@ -116,12 +116,12 @@ group_there m k store first = record {
   others = λ i some less. (later_store m (k + i) (later_behind m k i some (omega arith))).1;
 }
 
-module _ (m : Choice) (groups : AreGroups (item_of m.layout.program) (entered_at m) (whole_at m.whole)) where
-  later_joins : (k : ℕ) → is_later_at m k ≡ true → Joins (item_of m.layout.program) (entered_at m) (whole_at m.whole) k (members_before (item_of m.layout.program) (whole_at m.whole) k)
-  later_joins k later = joins (item_of m.layout.program) (entered_at m) (whole_at m.whole) k _ (groups k later)
+module _ (m : Choice) (groups : AreGroups (item_of m.layout.program) (bounds_at m) (whole_at m.whole)) where
+  later_joins : (k : ℕ) → is_later_at m k ≡ true → Joins (item_of m.layout.program) (bounds_at m) (whole_at m.whole) k (members_before (item_of m.layout.program) (whole_at m.whole) k)
+  later_joins k later = joins (item_of m.layout.program) (bounds_at m) (whole_at m.whole) k _ (groups k later)
 
   -- what is entered is no later store
-  pub entered_first : (k : ℕ) → entered_at m k ≡ true → is_later_at m k ≡ false
+  pub entered_first : (k : ℕ) → (bounds_at m).entered k ≡ true → is_later_at m k ≡ false
   entered_first k entered =
       elim (cases_Bool (is_later_at m k)) [
         | inr first ↦ first
@@ -135,7 +135,7 @@ module _ (m : Choice) (groups : AreGroups (item_of m.layout.program) (entered_at
         | inl store ↦ store
         | inr other ↦
             let some = (later_joins (suc k) later).some in
-            let none = none_before (item_of m.layout.program) (entered_at m) (whole_at m.whole) k other in
+            let none = none_before (item_of m.layout.program) (bounds_at m) (whole_at m.whole) k other in
             absurd (omega arith)
       ]
 
@@ -145,7 +145,7 @@ module _ (m : Choice) (groups : AreGroups (item_of m.layout.program) (entered_at
         | inr first ↦ first
         | inl later ↦
             let some = (later_joins 0 later).some in
-            let none = none_at_start (item_of m.layout.program) (entered_at m) (whole_at m.whole) in
+            let none = none_at_start (item_of m.layout.program) (bounds_at m) (whole_at m.whole) in
             absurd (omega arith)
       ]
 

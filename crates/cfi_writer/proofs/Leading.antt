@@ -13,10 +13,10 @@ use Rattle.obj_input.specs.declared.item_kind.ItemKind.{ItemKind}
 use Rattle.obj_input.specs.declared.item_kind.ItemKind.TheVariants as is
 use Rattle.obj_program.specs.Program.{Program, count, is_end, item_of}
 use Rattle.obj_program.specs.Sound.{aims, is_direct}
-use Rattle.cfi_map.specs.GraphAtMap.{gate, gate_to, word}
+use Rattle.cfi_map.specs.GraphAtMap.{entered_in, gate, gate_to, word}
 use Rattle.cfi_map.specs.LabelOf.{labels_of, site_label}
 use Rattle.cfi_map.specs.Placement.{whole_at}
-use Rattle.cfi_closed.specs.Closed.{is_target}
+use Rattle.cfi_leads.specs.Leads.{lead_size}
 use Rattle.cfi_unit.specs.declared.target_word.TargetWord.{TargetWord}
 use Rattle.cfi_unit.specs.declared.unit.Unit as U
 use Rattle.cfi_unit.specs.declared.unit.Unit.TheVariants as V
@@ -31,6 +31,7 @@ use Rattle.cfi_writer.specs.Units.{Choice, Group, call_unit, group_at, instr_of,
 use Rattle.cfi_writer.proofs.Grouping.{first_after, other_first}
 use Rattle.cfi_writer.proofs.GroupUnit.{fits_mask}
 use Rattle.cfi_writer.proofs.Fitting.{IsThere, near_target, unit_fits}
+use Rattle.cfi_writer.proofs.Plain.{no_plain_lead}
 use Rattle.cfi_writer.proofs.Runs.{IsUnit, from_lead, lead_cases, lead_word, own}
 use Rattle.cfi_writer.proofs.SideLabels.{label_in, site_small}
 use Rattle.cfi_writer.proofs.Standing.{at_gate, found, gate_lies, gates_rise, instr_in_range, laid, lead_there, next_after, right, unit_lies, unit_there}
@@ -56,7 +57,7 @@ branch_stores_none : (kind : ItemKind) → is_branch kind ≡ true → is_store 
 branch_stores_none is.Branch e = refl
 branch_stores_none other e = absurd (cc)
 
-skipped_stores_none : (kind : ItemKind) → is_skipped kind false ≡ true → is_store kind ≡ false
+skipped_stores_none : (kind : ItemKind) → is_skipped kind 0 ≡ true → is_store kind ≡ false
 skipped_stores_none is.Jump e = refl
 skipped_stores_none is.End e = refl
 skipped_stores_none other e = absurd (cc)
@@ -90,7 +91,7 @@ skip_kind calls kind i whole target which label group a right skip = absurd (cc)
 
 -- what begins with a jump is a jump or a stop
 jump_kind : (calls : Option (List ℕ)) (kind : ItemKind) (i : Instr) (whole : Bool) (target : ℕ) (which : TargetWord) (label : ℕ) (group : Group) → is_right kind i ≡ true → is_jump_unit (unit_of calls kind i whole target which label group) ≡ true →
-    is_skipped kind false ≡ true
+    is_skipped kind 0 ≡ true
 jump_kind calls is.Jump i whole target which label group right jump = refl
 jump_kind calls is.End i whole target which label group right jump = refl
 jump_kind calls is.Branch (I.Branch op rs1 rs2 imm) false target which label group right jump = absurd (cc)
@@ -252,12 +253,12 @@ module _ (m : Choice) (ok : IsAccepted m) where
             let same : unit_here m (k + 1) ≡ v =
             same_Some _ v (sym (unit_there m ok (k + 1) more (first_after m ok.groups k other)) ∙ ap (unit_in (units m) m.layout.profile.units_from) stands ∙ here) in
             let jumps = ap is_jump_unit same ∙ jump in
-            let skipped : is_skipped (item_of m.layout.program (k + 1)).kind false ≡ true =
+            let skipped : is_skipped (item_of m.layout.program (k + 1)).kind 0 ≡ true =
             jump_kind m.layout.closed.calls (item_of m.layout.program (k + 1)).kind (instr_of m (k + 1)) (whole_at m.whole (k + 1)) _ _ _ (group_at m (k + 1)) (right m ok (k + 1) more) jumps in
             let second : t ≡ k + 2 = second_after k t more there (omega arith) stands (skipped_stores_none (item_of m.layout.program (k + 1)).kind skipped) (jump_size _ jumps) in
-            let held : is_kept m.layout.program m.layout.closed k t ≡ true =
-            and_from (t == k + 2) (is_skipped (item_of m.layout.program (k + 1)).kind (is_target m.layout.closed.sides (k + 1))) (eq-eqb t (k + 2) second)
-            (ap (is_skipped (item_of m.layout.program (k + 1)).kind) no_target ∙ skipped) in
+            let held : is_kept (entered_in m.layout) k t ≡ true =
+            and_from (t == k + 2) (is_skipped (item_of m.layout.program (k + 1)).kind (lead_size (entered_in m.layout) (k + 1))) (eq-eqb t (k + 2) second)
+            (ap (is_skipped (item_of m.layout.program (k + 1)).kind) (no_plain_lead (entered_in m.layout) (k + 1) ok.version no_target) ∙ skipped) in
             let wrong : true ≡ false = sym held ∙ short.free in
             absurd (cc)
       ]

@@ -9,12 +9,12 @@ use Rattle.rv_word.specs.declared.form.Form.{Form}
 use Rattle.obj_program.specs.declared.item.Item.{Item}
 use Rattle.obj_program.specs.Program.{count, item_of, no_item}
 use Rattle.cfi_map_text.specs.declared.map.MapLine.{MapLine}
-use Rattle.cfi_map.specs.GraphAtMap.{ProgramAtMap}
+use Rattle.cfi_map.specs.GraphAtMap.{ProgramAtMap, entered_in}
 use Rattle.cfi_map.specs.LegalMap.{IsLegalMap, gates_of}
 use Rattle.cfi_map.specs.Placement.{AreGates, IsLegal}
 use Rattle.cfi_writer.specs.Accepted.{IsAccepted}
 use Rattle.cfi_writer.specs.MapLines.{lines_from, map_line, map_lines}
-use Rattle.cfi_writer.specs.Units.{Choice, entered_at}
+use Rattle.cfi_writer.specs.Units.{Choice}
 use Rattle.cfi_writer.proofs.Gates.{gates_counted}
 
 -- these are the lines of the first places
@@ -64,9 +64,9 @@ gates_from layout k (item ∷ items) all =
     ∙ sym (drop-cons layout.gates k 0 (omega arith))
 
 legal_gates : (m : Choice) → IsAccepted m → (gates : List ℕ) → gates ≡ m.layout.gates
-    → IsLegal m.layout.profile.units_from m.layout.closed.calls m.layout.closed.sides (entered_at m) m.layout.program.items gates
+    → IsLegal m.layout.profile.units_from (entered_in m.layout) m.layout.program.items gates
 legal_gates m accepted gates is =
-    (m.whole, subst (λ (gs : List ℕ). AreGates m.layout.closed.calls m.layout.closed.sides m.whole 0 m.layout.profile.units_from m.layout.program.items gs) (sym is) accepted.legal, accepted.groups)
+    (m.whole, subst (λ (gs : List ℕ). AreGates (entered_in m.layout) m.whole 0 m.layout.profile.units_from m.layout.program.items gs) (sym is) accepted.legal, accepted.groups)
 
 pub gates_are : (m : Choice) → IsAccepted m → gates_of (map_lines m.layout) ≡ m.layout.gates
 gates_are m accepted = let counted = gates_counted m accepted in gates_from m.layout 0 m.layout.program.items (omega arith)
@@ -78,6 +78,6 @@ legal_map form m accepted one =
       sections = sections_of m.layout 0 m.layout.program.items;
       offsets = offsets_of m.layout 0 m.layout.program.items;
       gates =
-          subst (λ (p : Profile). IsLegal p.units_from m.layout.closed.calls m.layout.closed.sides (entered_at m) m.layout.program.items (gates_of (map_lines m.layout))) one
+          subst (λ (p : Profile). IsLegal p.units_from (entered_in m.layout) m.layout.program.items (gates_of (map_lines m.layout))) one
           (legal_gates m accepted (gates_of (map_lines m.layout)) (gates_are m accepted));
     }

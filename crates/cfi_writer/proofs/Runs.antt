@@ -7,15 +7,14 @@ use Rattle.std.proofs.lemmas.List.{length-map}
 use Rattle.std.proofs.lemmas.List.Sums.{sum_by-cons}
 use Rattle.std.proofs.lemmas.Option.{same_Some, slice_get-map}
 use Rattle.rv_word.proofs.Cases.{mapped}
-use Rattle.obj_input.specs.declared.item_kind.ItemKind.{ItemKind}
-use Rattle.obj_input.specs.declared.item_kind.ItemKind.TheVariants as is
 use Rattle.obj_program.specs.declared.item.Item.{Item}
 use Rattle.obj_program.specs.Program.{count, item_of, no_item}
+use Rattle.cfi_graph.specs.Graph.{has_leaves}
 use Rattle.cfi_closed.specs.Closed.{Side, is_target}
-use Rattle.cfi_map.specs.GraphAtMap.{gate, word}
-use Rattle.cfi_map.specs.Groups.{is_store}
+use Rattle.cfi_leads.specs.Leads.{lead_size}
+use Rattle.cfi_map.specs.GraphAtMap.{entered_in, gate, word}
 use Rattle.cfi_map.specs.LabelOf.{label_at, labels_of}
-use Rattle.cfi_map.specs.Placement.{AreGates, is_ecall, kind_size, lead_size, size_of, whole_at}
+use Rattle.cfi_map.specs.Placement.{AreGates, size_of, whole_at}
 use Rattle.cfi_map.specs.Sizes.{part_sizes}
 use Rattle.cfi_unit.specs.declared.unit.Unit as U
 use Rattle.cfi_unit.specs.UnitWords.{word_count}
@@ -23,6 +22,7 @@ use Rattle.cfi_rules.specs.Split.{unit_in}
 use Rattle.cfi_rules.proofs.UnitIn.{in_here, in_later, in_past}
 use Rattle.cfi_writer.specs.Units.{Choice, behind, is_later_at, later_from, lead, lead_unit, unit_here, unit_places, units_of}
 use Rattle.cfi_writer.proofs.Grouping.{later_below, later_store, none_later, one_later}
+use Rattle.cfi_writer.proofs.Plain.{plain_lead, size_later}
 use Rattle.cfi_writer.proofs.SideLabels.{length-labels_of}
 
 -- how many bytes the words before a place's unit have
@@ -76,13 +76,13 @@ lead_cases m k =
     ]
 
 -- they have the size that a placement gives them
-pub lead_sized : (m : Choice) (k : ℕ) → lead_size m.layout.closed.sides k ≡ lead_bytes m k
-lead_sized m k =
+pub lead_sized : (m : Choice) (k : ℕ) → has_leaves m.layout.closed.version ≡ false → lead_size (entered_in m.layout) k ≡ lead_bytes m k
+lead_sized m k plain =
     let all = labels_of m.labels m.layout.closed.sides k in
     let many : length (map lead_unit all) ≡ length m.layout.closed.sides = length-map all lead_unit ∙ length-labels_of m.labels m.layout.closed.sides k in
     elim (cases_Bool (is_target m.layout.closed.sides k)) [
-      | inl target ↦ rw target (ap (λ (n : ℕ). 4 * n) (sym many))
-      | inr other ↦ rw other refl
+      | inl target ↦ plain_lead (entered_in m.layout) k plain ∙ rw target (ap (λ (n : ℕ). 4 * n) (sym many))
+      | inr other ↦ plain_lead (entered_in m.layout) k plain ∙ rw other refl
     ]
 
 pub lead_few : (m : Choice) (k : ℕ) → length (lead m k) ≤ length m.layout.closed.sides
@@ -153,18 +153,15 @@ Run m at (k ∷ places) last =
 -- a later store has no words before it; the size that a placement gives another place, with a word for each store that follows, is that
 -- of its unit
 pub record AreSized (m : Choice) : Type 0 where
-  pub later : (k : ℕ) → is_later_at m k ≡ true → lead_size m.layout.closed.sides k ≡ 0
+  pub led : (k : ℕ) → lead_size (entered_in m.layout) k ≡ lead_bytes m k
+  pub later : (k : ℕ) → is_later_at m k ≡ true → lead_size (entered_in m.layout) k ≡ 0
   pub first : (k : ℕ) → k < count m.layout.program → is_later_at m k ≡ false →
-      size_of m.layout.closed.calls (item_of m.layout.program k) (whole_at m.whole k) + 4 * behind m k ≡ 4 * word_count (unit_here m k)
+      size_of (entered_in m.layout) k (item_of m.layout.program k) (whole_at m.whole k) + 4 * behind m k ≡ 4 * word_count (unit_here m k)
 
-size_later : (calls : Option (List ℕ)) (kind : ItemKind) (ecall whole : Bool) → is_store kind ≡ true → whole ≡ false → kind_size calls kind ecall whole ≡ 4
-size_later calls is.Store ecall whole store less = rw less refl
-size_later calls other ecall whole store less = absurd (cc)
-
-pub later_size : (m : Choice) (k : ℕ) → is_later_at m k ≡ true → size_of m.layout.closed.calls (item_of m.layout.program k) (whole_at m.whole k) ≡ 4
+pub later_size : (m : Choice) (k : ℕ) → is_later_at m k ≡ true → size_of (entered_in m.layout) k (item_of m.layout.program k) (whole_at m.whole k) ≡ 4
 later_size m k later =
     let (store, less) = later_store m k later in
-    size_later m.layout.closed.calls (item_of m.layout.program k).kind (is_ecall (item_of m.layout.program k)) (whole_at m.whole k) store less
+    size_later (entered_in m.layout) k (item_of m.layout.program k) (whole_at m.whole k) store less
 
 past_first : (m : Choice) (k : ℕ) → count m.layout.program ≤ k → is_later_at m k ≡ false
 past_first m k past =
@@ -176,8 +173,8 @@ past_first m k past =
 -- the gates of a placement make units stand so
 pub legal_run : (m : Choice) → AreSized m → (k at : ℕ) (items : List Item) (gates : List ℕ) → ((i : ℕ) → gate m.layout (k + i) ≡ slice_index gates i) →
     ((i : ℕ) → i < length items → item_of m.layout.program (k + i) ≡ get_or items i no_item) → k + length items ≡ count m.layout.program →
-    AreGates m.layout.closed.calls m.layout.closed.sides m.whole k at items gates →
-    Run m (at + 4 * later_from m k) (unit_places m k (length items)) (at + sum (part_sizes m.layout.closed.calls m.layout.closed.sides m.whole k items))
+    AreGates (entered_in m.layout) m.whole k at items gates →
+    Run m (at + 4 * later_from m k) (unit_places m k (length items)) (at + sum (part_sizes (entered_in m.layout) m.whole k items))
 unfolding Run AreGates part_sizes
 legal_run m sized k at [] [] same are all legal =
     let none = none_later m k (past_first m k (omega arith)) in
@@ -189,14 +186,14 @@ legal_run m sized k at (item ∷ items) (g ∷ gates) same are all legal =
     let next : (i : ℕ) → k + 1 + i ≡ k + suc i = λ i. omega arith in
     let here : gate m.layout k ≡ g = ap (gate m.layout) (sym start) ∙ same 0 in
     let item_is : item_of m.layout.program k ≡ item = ap (item_of m.layout.program) (sym start) ∙ are 0 (omega arith) in
-    let size = size_of m.layout.closed.calls item (whole_at m.whole k) in
-    let size_is : size_of m.layout.closed.calls (item_of m.layout.program k) (whole_at m.whole k) ≡ size = ap (λ (x : Item). size_of m.layout.closed.calls x (whole_at m.whole k)) item_is in
-    let led = lead_size m.layout.closed.sides k in
-    let last = at + sum (part_sizes m.layout.closed.calls m.layout.closed.sides m.whole k (item ∷ items)) in
+    let size = size_of (entered_in m.layout) k item (whole_at m.whole k) in
+    let size_is : size_of (entered_in m.layout) k (item_of m.layout.program k) (whole_at m.whole k) ≡ size = ap (λ (x : Item). size_of (entered_in m.layout) k x (whole_at m.whole k)) item_is in
+    let led = lead_size (entered_in m.layout) k in
+    let last = at + sum (part_sizes (entered_in m.layout) m.whole k (item ∷ items)) in
     let rest = legal_run m sized (k + 1) (at + led + size) items gates (λ i. ap (gate m.layout) (next i) ∙ same (suc i))
     (λ i less. ap (item_of m.layout.program) (next i) ∙ are (suc i) (omega arith)) (omega arith) legal.1 in
-    let more = sum_by-cons (λ (x : ℕ). x) (led + size) (part_sizes m.layout.closed.calls m.layout.closed.sides m.whole (k + 1) items) in
-    let to : at + led + size + sum (part_sizes m.layout.closed.calls m.layout.closed.sides m.whole (k + 1) items) ≡ last = omega arith in
+    let more = sum_by-cons (λ (x : ℕ). x) (led + size) (part_sizes (entered_in m.layout) m.whole (k + 1) items) in
+    let to : at + led + size + sum (part_sizes (entered_in m.layout) m.whole (k + 1) items) ≡ last = omega arith in
     elim (cases_Bool (is_later_at m k)) [
       | inl later ↦
           let no_lead = sized.later k later in
@@ -208,7 +205,7 @@ legal_run m sized k at (item ∷ items) (g ∷ gates) same are all legal =
           (subst (Run m (at + led + size + 4 * later_from m (k + 1)) (unit_places m (k + 1) (length items))) to rest))
       | inr first ↦
           let none = none_later m k first in
-          let bytes = lead_sized m k in
+          let bytes = sized.led k in
           let all = sized.first k (omega arith) first in
           let gate_is : gate m.layout k ≡ at + 4 * later_from m k = here ∙ legal.0 ∙ omega arith in
           let from : at + led + size + 4 * later_from m (k + 1) ≡ at + 4 * later_from m k + lead_bytes m k + 4 * word_count (unit_here m k) = omega arith in

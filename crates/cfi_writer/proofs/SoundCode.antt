@@ -37,8 +37,9 @@ use Rattle.cfi_rules.specs.declared.asks.Asks.{Asks}
 use Rattle.cfi_writer.specs.Accepted.{IsAccepted}
 use Rattle.cfi_writer.specs.Laws.{WrittenIsSound, written_classes, written_heads}
 use Rattle.cfi_writer.specs.SideLaws.{AreLabelled, word_read}
-use Rattle.cfi_map.specs.Groups.{aims_at, is_direct_target, is_store}
-use Rattle.cfi_writer.specs.Units.{Choice, Group, entered_at, entry_gate, group_at, instr_of, is_later_at, lead, lead_unit, unit_here, unit_of, unit_places, units, units_of}
+use Rattle.cfi_leads.specs.Entries.{aims_at}
+use Rattle.cfi_map.specs.Groups.{is_direct_target, is_store}
+use Rattle.cfi_writer.specs.Units.{Choice, Group, bounds_at, entry_gate, group_at, instr_of, is_later_at, lead, lead_unit, unit_here, unit_of, unit_places, units, units_of}
 use Rattle.cfi_writer.proofs.CodeRoom.{target_entered}
 use Rattle.cfi_writer.proofs.Grouping.{entered_first, other_first}
 use Rattle.cfi_writer.proofs.ClassLines.{targets_of}
@@ -82,7 +83,7 @@ end_stores_none is.End last = refl
 end_stores_none other last = absurd (cc)
 
 -- the entry and what a direct transfer leads to may be entered
-entry_entered : (m : Choice) → entered_at m m.layout.entry ≡ true
+entry_entered : (m : Choice) → (bounds_at m).entered m.layout.entry ≡ true
 entry_entered m = or_left (m.layout.entry == m.layout.entry) _ (eq-eqb m.layout.entry m.layout.entry refl)
 
 aimed : (items : List Item) (k t : ℕ) (item : Item) → slice_get items k ≡ Some item → item.target ≡ Some t → list_any (λ (i : Item). aims_at t i.target) items ≡ true
@@ -92,7 +93,7 @@ aimed (x ∷ items) zero t item get some =
     or_left (aims_at t x.target) _ (ap (λ (i : Item). aims_at t i.target) same ∙ ap (aims_at t) some ∙ eq-eqb t t refl)
 aimed (x ∷ items) (suc k) t item get some = or_right (aims_at t x.target) _ (aimed items k t item get some)
 
-target_is_entered : (m : Choice) (k t : ℕ) → k < count m.layout.program → (item_of m.layout.program k).target ≡ Some t → entered_at m t ≡ true
+target_is_entered : (m : Choice) (k t : ℕ) → k < count m.layout.program → (item_of m.layout.program k).target ≡ Some t → (bounds_at m).entered t ≡ true
 target_is_entered m k t below some =
     or_right (t == m.layout.entry) _
     (or_left (is_direct_target m.layout.program t) _

@@ -16,9 +16,10 @@ use Rattle.obj_program.specs.AtMap.{instr_at}
 use Rattle.obj_program.specs.Program.{count, is_end, item_of}
 use Rattle.obj_program.specs.Suits.{names_reserved, suits}
 use Rattle.obj_program.proofs.Kept.{kept}
-use Rattle.cfi_map.specs.GraphAtMap.{gate, word, words_at}
+use Rattle.cfi_map.specs.GraphAtMap.{entered_in, gate, word, words_at}
+use Rattle.cfi_leads.specs.Leads.{lead_size}
 use Rattle.cfi_map.specs.Groups.{is_store}
-use Rattle.cfi_map.specs.Placement.{is_ecall, kind_size, lead_size, size_of, whole_at}
+use Rattle.cfi_map.specs.Placement.{is_ecall, kind_size, size_of, whole_at}
 use Rattle.cfi_map.specs.Sizes.{part_sizes}
 use Rattle.cfi_map.proofs.PartSizes.{unit_many}
 use Rattle.cfi_unit.specs.declared.unit.Unit as U
@@ -33,6 +34,7 @@ use Rattle.cfi_writer.proofs.CodeRoom.{run_bytes, sized, whole_run}
 use Rattle.cfi_writer.proofs.GateSteps.{next_from, within}
 use Rattle.cfi_writer.proofs.Grouping.{first_behind, later_behind, no_first_later, none_behind, one_later, other_first, store_before, whole_first}
 use Rattle.cfi_writer.proofs.InstrAt.{instr_there}
+use Rattle.cfi_writer.proofs.Plain.{plain_size}
 use Rattle.cfi_writer.proofs.Runs.{IsUnit, Run, found_at, later_size, lead_bytes, lead_cases, lead_sized, lead_stands, place_among, place_there, stands_at}
 use Rattle.cfi_writer.proofs.UnitOf.{is_right}
 
@@ -91,12 +93,12 @@ module _ (m : Choice) (ok : IsAccepted m) where
       ]
 
   pub the_run : Run m m.layout.profile.units_from (unit_places m 0 (count m.layout.program))
-      (m.layout.profile.units_from + sum (part_sizes m.layout.closed.calls m.layout.closed.sides m.whole 0 m.layout.program.items))
-  the_run = whole_run m ok.sound ok.values ok.groups m.layout.gates refl ok.legal
+      (m.layout.profile.units_from + sum (part_sizes (entered_in m.layout) m.whole 0 m.layout.program.items))
+  the_run = whole_run m ok.sound ok.values ok.version ok.groups m.layout.gates refl ok.legal
 
   -- how the code ends
   whole_bytes : m.layout.profile.units_from + 4 * length (code_from m.layout.profile.units_from (units m))
-      ≡ m.layout.profile.units_from + sum (part_sizes m.layout.closed.calls m.layout.closed.sides m.whole 0 m.layout.program.items)
+      ≡ m.layout.profile.units_from + sum (part_sizes (entered_in m.layout) m.whole 0 m.layout.program.items)
   whole_bytes = run_bytes m m.layout.profile.units_from _ (unit_places m 0 (count m.layout.program)) the_run
 
   pub unit_there : (k : ℕ) → k < count m.layout.program → is_later_at m k ≡ false →
@@ -112,8 +114,8 @@ module _ (m : Choice) (ok : IsAccepted m) where
         | inr first ↦ first
         | inl later ↦
             let within = slice_get_within (lead m k) j u some in
-            let bytes = lead_sized m k in
-            let none = (sized m ok.sound ok.values ok.groups).later k later in
+            let bytes = lead_sized m k ok.version in
+            let none = (sized m ok.sound ok.values ok.version ok.groups).later k later in
             absurd (omega arith)
       ]
 
@@ -124,7 +126,7 @@ module _ (m : Choice) (ok : IsAccepted m) where
       lead_stands m m.layout.profile.units_from _ (unit_places m 0 (count m.layout.program)) i k j u the_run get some
 
   pub word_is : (k : ℕ) → word m.layout k ≡ gate m.layout k + lead_bytes m k
-  word_is k = ap (λ n. gate m.layout k + n) (lead_sized m k)
+  word_is k = ap (λ n. gate m.layout k + n) (lead_sized m k ok.version)
 
   -- where no words are before a place's unit, it stands at its gate
   pub at_gate : (k : ℕ) → lead m k ≡ [] → word m.layout k ≡ gate m.layout k
@@ -166,7 +168,7 @@ module _ (m : Choice) (ok : IsAccepted m) where
 
   pub gate_lies : (k : ℕ) → k < count m.layout.program → (m.layout.profile.units_from ≤ gate m.layout k) × (gate m.layout k + 4 ≤ CODE_START + CODE_SIZE) × (gate m.layout k % 4 ≡ 0)
   gate_lies k below =
-      let at = within m.layout.closed.calls m.layout.closed.sides m.whole 0 m.layout.profile.units_from m.layout.program.items m.layout.gates ok.legal k below in
+      let at = within (entered_in m.layout) m.whole 0 m.layout.profile.units_from m.layout.program.items m.layout.gates ok.legal k below in
       let low = at.low in
       let high = at.high in
       let all = whole_bytes in
@@ -176,18 +178,18 @@ module _ (m : Choice) (ok : IsAccepted m) where
 
   -- the next gate stands behind the size of a place
   pub next_gate : (k : ℕ) → k + 1 < count m.layout.program →
-      gate m.layout (k + 1) ≡ word m.layout k + size_of m.layout.closed.calls (item_of m.layout.program k) (whole_at m.whole k)
+      gate m.layout (k + 1) ≡ word m.layout k + size_of (entered_in m.layout) k (item_of m.layout.program k) (whole_at m.whole k)
   next_gate k below =
       let next : suc k ≡ k + 1 = omega arith in
       let start : 0 + k ≡ k = omega arith in
       ap (gate m.layout) (sym next)
-      ∙ next_from m.layout.closed.calls m.layout.closed.sides m.whole 0 m.layout.profile.units_from m.layout.program.items m.layout.gates ok.legal k (omega arith)
-      ∙ ap (λ (n : ℕ). gate m.layout k + lead_size m.layout.closed.sides n + size_of m.layout.closed.calls (item_of m.layout.program k) (whole_at m.whole n)) start
+      ∙ next_from (entered_in m.layout) m.whole 0 m.layout.profile.units_from m.layout.program.items m.layout.gates ok.legal k (omega arith)
+      ∙ ap (λ (n : ℕ). gate m.layout k + lead_size (entered_in m.layout) n + size_of (entered_in m.layout) n (item_of m.layout.program k) (whole_at m.whole n)) start
 
   step_up : (k : ℕ) → k + 1 < count m.layout.program → gate m.layout k < gate m.layout (k + 1)
   step_up k below =
       let next = next_gate k below in
-      let some = unit_many m.layout.closed.calls (item_of m.layout.program k) (whole_at m.whole k) in
+      let some = unit_many (entered_in m.layout) k (item_of m.layout.program k) (whole_at m.whole k) in
       omega arith
 
   pub gates_rise : (i j : ℕ) → i < j → j < count m.layout.program → gate m.layout i < gate m.layout j
@@ -202,7 +204,7 @@ module _ (m : Choice) (ok : IsAccepted m) where
 
   -- a later store's word is its gate
   pub later_word : (k : ℕ) → is_later_at m k ≡ true → word m.layout k ≡ gate m.layout k
-  later_word k later = let none = (sized m ok.sound ok.values ok.groups).later k later in omega arith
+  later_word k later = let none = (sized m ok.sound ok.values ok.version ok.groups).later k later in omega arith
 
   -- the gates behind the stores of a group
   pub group_gate : (k i : ℕ) → is_store (item_of m.layout.program k).kind ≡ true → is_later_at m k ≡ false → i ≤ behind m k → k + (i + 1) < count m.layout.program →
@@ -211,7 +213,9 @@ module _ (m : Choice) (ok : IsAccepted m) where
       let start : k + (0 + 1) ≡ k + 1 = omega arith in
       let next = next_gate k (omega arith) in
       let whole = whole_first m k store first in
-      let size : size_of m.layout.closed.calls (item_of m.layout.program k) (whole_at m.whole k) ≡ 16 = first_size m.layout.closed.calls (item_of m.layout.program k).kind (is_ecall (item_of m.layout.program k)) (whole_at m.whole k) store whole in
+      let size : size_of (entered_in m.layout) k (item_of m.layout.program k) (whole_at m.whole k) ≡ 16 =
+      plain_size (entered_in m.layout) k (item_of m.layout.program k) (whole_at m.whole k) ok.version
+      ∙ first_size m.layout.closed.calls (item_of m.layout.program k).kind (is_ecall (item_of m.layout.program k)) (whole_at m.whole k) store whole in
       ap (gate m.layout) start ∙ omega arith
   group_gate k (suc i) store first few below =
       let before = group_gate k i store first (omega arith) (omega arith) in
@@ -226,11 +230,13 @@ module _ (m : Choice) (ok : IsAccepted m) where
   pub gate_after : (k : ℕ) → is_later_at m k ≡ false → k + (behind m k + 1) < count m.layout.program →
       gate m.layout (k + (behind m k + 1)) ≡ word m.layout k + 4 * word_count (unit_here m k)
   gate_after k first below =
-      let size = (sized m ok.sound ok.values ok.groups).first k (omega arith) first in
+      let size = (sized m ok.sound ok.values ok.version ok.groups).first k (omega arith) first in
       elim (cases_Bool (is_store (item_of m.layout.program k).kind)) [
         | inl store ↦
             let last = group_gate k (behind m k) store first (omega arith) below in
-            let whole = first_size m.layout.closed.calls (item_of m.layout.program k).kind (is_ecall (item_of m.layout.program k)) (whole_at m.whole k) store (whole_first m k store first) in
+            let whole =
+            plain_size (entered_in m.layout) k (item_of m.layout.program k) (whole_at m.whole k) ok.version
+            ∙ first_size m.layout.closed.calls (item_of m.layout.program k).kind (is_ecall (item_of m.layout.program k)) (whole_at m.whole k) store (whole_first m k store first) in
             omega arith
         | inr other ↦
             let none = none_behind m ok.groups k other in

@@ -20,7 +20,7 @@ use Rattle.cfi_graph.specs.declared.line.GraphLine.TheVariants.{Call, Class, Edg
 use Rattle.cfi_graph.specs.declared.line.SiteKind.TheVariants as site
 use Rattle.cfi_graph.specs.declared.line.Sort.TheVariants.{Both, Calls, Jumps}
 use Rattle.cfi_closed.specs.Closed.{Side}
-use Rattle.cfi_map.specs.GraphAtMap.{ProgramAtMap, class_lines, graph_lines, place_lines}
+use Rattle.cfi_map.specs.GraphAtMap.{ProgramAtMap, class_lines, graph_lines, place_lines, entered_in}
 use Rattle.cfi_map.specs.LabelOf.{empty_classes, label_at, labels_of, site_label, site_number, tagged}
 use Rattle.cfi_map.specs.Placement.{AreGates, words_from}
 use Rattle.cfi_unit.specs.UnitWords.{words_of}
@@ -77,7 +77,7 @@ whole = record {
 }
 
 short_rows : (length (written_code short) ≡ 24) × (slice_get (written_code short) 16 ≡ Some 0x00050463) × (slice_get (written_code short) 17 ≡ Some 0x00100513)
-    × (is_kept short.layout.program short.layout.closed 0 2 ≡ false)
+    × (is_kept (entered_in short.layout) 0 2 ≡ false)
     × (graph_lines short.layout [] ≡ Call 0x4000000c 0x40000040 ∷ Edge 0x40000040 0x40000048 ∷ [])
 unfolding units_of followers code_from words_of code_of instr_at decoded words_from labels_of label_at site_label site_number tagged class_lines place_lines empty_classes
 short_rows = (refl, refl, refl, refl, refl)
@@ -90,7 +90,7 @@ short_of_harts_rows = (refl, refl, refl, refl)
 
 -- the long one is `bne x10, x0, +8` and `j` to the place of `ret`
 long_rows : (length (written_code whole) ≡ 25) × (slice_get (written_code whole) 16 ≡ Some 0x00051463) × (slice_get (written_code whole) 17 ≡ Some 0x0080006f)
-    × (slice_get (written_code whole) 18 ≡ Some 0x0040006f) × (is_kept whole.layout.program whole.layout.closed 0 2 ≡ true)
+    × (slice_get (written_code whole) 18 ≡ Some 0x0040006f) × (is_kept (entered_in whole.layout) 0 2 ≡ true)
     × (graph_lines whole.layout [] ≡ Call 0x4000000c 0x40000040 ∷ Edge 0x40000040 0x4000004c ∷ Edge 0x40000048 0x4000004c ∷ [])
 unfolding units_of followers code_from words_of code_of instr_at decoded words_from labels_of label_at site_label site_number tagged class_lines place_lines empty_classes
 long_rows = (refl, refl, refl, refl, refl, refl)
@@ -161,7 +161,7 @@ pointer = record {
   labels = 1 ∷ [];
 }
 
-pointer_gates : AreGates pointer.layout.closed.calls pointer.layout.closed.sides [] 0 UNITS_START pointer.layout.program.items pointer.layout.gates
+pointer_gates : AreGates (entered_in pointer.layout) [] 0 UNITS_START pointer.layout.program.items pointer.layout.gates
 unfolding AreGates
 pointer_gates = (refl, (refl, (refl, (refl, (refl, (refl, (refl, (refl, (refl, (refl, (refl, (refl, (refl, tt)))))))))))))
 
@@ -206,7 +206,7 @@ jumping = record {
 abbrev both_ways : Choice
 both_ways = record { layout = jumping; whole = []; labels = 1 ∷ 2 ∷ [] }
 
-both_ways_gates : AreGates jumping.closed.calls jumping.closed.sides [] 0 UNITS_START jumping.program.items jumping.gates
+both_ways_gates : AreGates (entered_in jumping) [] 0 UNITS_START jumping.program.items jumping.gates
 unfolding AreGates jumping
 both_ways_gates = (refl, (refl, (refl, (refl, (refl, (refl, (refl, (refl, (refl, (refl, tt))))))))))
 

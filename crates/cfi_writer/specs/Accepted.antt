@@ -14,7 +14,7 @@ use Rattle.cfi_graph.specs.Graph.{has_leaves}
 use Rattle.cfi_graph.specs.declared.line.SiteKind.{SiteKind}
 use Rattle.cfi_closed.specs.declared.side.Site.{Site}
 use Rattle.cfi_closed.specs.Closed.{Side, has_site, is_of, sorts_of}
-use Rattle.cfi_map.specs.GraphAtMap.{words_at}
+use Rattle.cfi_map.specs.GraphAtMap.{entered_in, words_at}
 use Rattle.cfi_map.specs.LabelOf.{tagged}
 use Rattle.cfi_flow.specs.Labels.{used_labels}
 use Rattle.cfi_map.specs.Placement.{AreGates, whole_at}
@@ -22,7 +22,7 @@ use Rattle.cfi_map.specs.Shorts.{IsShortAt, is_branch}
 use Rattle.cfi_flow.specs.Sites.{site_kind}
 use Rattle.cfi_rules.specs.Placed.{placed_code}
 use Rattle.cfi_map.specs.Groups.{AreGroups}
-use Rattle.cfi_writer.specs.Units.{Choice, entered_at, entry_gate, units}
+use Rattle.cfi_writer.specs.Units.{Choice, bounds_at, entry_gate, units}
 
 -- one of the sides has a site at a place, and is of its sort
 pub record IsSiteOf (sides : List Side) (k : ℕ) (kind : SiteKind) : Type 0 where
@@ -44,9 +44,9 @@ pub record IsAccepted (m : Choice) : Type 0 where
   pub last : (k : ℕ) × (count m.layout.program ≡ k + 1) × (is_end (item_of m.layout.program k).kind ≡ true)
   pub entry_there : m.layout.entry < count m.layout.program
   -- its gates are a placement's, its code has room, and each instruction has its values
-  pub legal : AreGates m.layout.closed.calls m.layout.closed.sides m.whole 0 m.layout.profile.units_from m.layout.program.items m.layout.gates
+  pub legal : AreGates (entered_in m.layout) m.whole 0 m.layout.profile.units_from m.layout.program.items m.layout.gates
   -- its later stores may be that
-  pub groups : AreGroups (item_of m.layout.program) (entered_at m) (whole_at m.whole)
+  pub groups : AreGroups (item_of m.layout.program) (bounds_at m) (whole_at m.whole)
   pub room : 4 * length (placed_code m.layout.profile (entry_gate m) (units m)) ≤ CODE_SIZE
   pub values : (k : ℕ) → k < count m.layout.program → is_end (item_of m.layout.program k).kind ≡ false →
       is_some (instr_at m.layout.program m.layout.gates (words_at m.layout) k) ≡ true

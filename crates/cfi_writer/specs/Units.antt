@@ -11,8 +11,8 @@ use Rattle.obj_input.specs.declared.item_kind.ItemKind.{ItemKind}
 use Rattle.obj_input.specs.declared.item_kind.ItemKind.TheVariants as is
 use Rattle.obj_program.specs.declared.item.Item.{Item}
 use Rattle.obj_program.specs.Program.{count, item_of}
-use Rattle.cfi_map.specs.GraphAtMap.{ProgramAtMap, gate, gate_to}
-use Rattle.cfi_map.specs.Groups.{is_entered, is_later}
+use Rattle.cfi_map.specs.GraphAtMap.{ProgramAtMap, entered_in, gate, gate_to}
+use Rattle.cfi_map.specs.Groups.{Bounds, bounds_in, is_later}
 use Rattle.cfi_map.specs.LabelOf.{labels_of, site_label}
 use Rattle.cfi_map.specs.Placement.{whole_at}
 use Rattle.cfi_map.specs.Source.{instr_here}
@@ -52,9 +52,9 @@ abbrev pub branch_of : Bool → BranchOp → ℕ → ℕ → ℕ → U.Unit
 branch_of true op rs1 rs2 target = V.Branch (inverse op) rs1 rs2 target
 branch_of false op rs1 rs2 target = V.Near op rs1 rs2 target
 
--- which places may be entered from elsewhere than the place before, and which hold a later store of a group
-abbrev pub entered_at : Choice → ℕ → Bool
-entered_at m = is_entered m.layout.program m.layout.closed m.layout.entry
+-- what bounds its groups of stores, and which places hold a later store of one
+abbrev pub bounds_at : Choice → Bounds
+bounds_at m = bounds_in (entered_in m.layout)
 
 abbrev pub is_later_at : Choice → ℕ → Bool
 is_later_at m k = is_later (item_of m.layout.program) (whole_at m.whole) k

@@ -1,10 +1,11 @@
 //! Labels for classes and for sites without targets.
 
-ghost use Rattle.std.specs.Prelude.{◌≡◌, ◌^◌, ◌<◌, IfOk, length, sum};
+ghost use Rattle.std.specs.Prelude.{◌≡◌, ℕ, ◌^◌, ◌<◌, IfOk, length, sum};
 ghost use Rattle.std.specs.List.{All};
 ghost use Rattle.std.specs.List.Sorted.{IsStrictlyIncreasing};
 ghost use Rattle.rv_word.specs.MemoryMap.{CODE_SIZE};
 ghost use Rattle.cfi_class.specs.Labels.{AreLabels};
+ghost use Rattle.cfi_leads.specs.Entered.{entered_at};
 ghost use Rattle.cfi_map.specs.LabelOf.{empty_classes, tagged};
 ghost use Rattle.cfi_flow.specs.Labels.{used_labels};
 ghost use Rattle.cfi_writer.specs.Chosen.{AreStarts};
@@ -61,7 +62,7 @@ fn label_count(alloc: Global, closed: &Closed) -> Result<u64, NoMemory>
 /// have for itself. They are few, since the code of the program has room with every branch long.
 pub fn class_labels(alloc: Global, items: &Items, closed: &Closed) -> Result<Vec<u32>, NoMemory>
     requires graph { IsGraphOf items.now closed.now }
-    requires room { sum (whole_sizes items.now closed.now) < CODE_SIZE }
+    requires room { (entry : ℕ) × (sum (whole_sizes (entered_at items.now closed.now entry)) < CODE_SIZE) }
     ensures count { IfOk result (λ v. length v.items ≡ length (tagged closed.now.sides)) }
     ensures least { IfOk result (λ v. AreLabels (used_labels items.now) v.items) }
     ensures rising { IfOk result (λ v. IsStrictlyIncreasing v.items) }

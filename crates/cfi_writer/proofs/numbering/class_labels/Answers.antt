@@ -4,11 +4,11 @@ use Rattle.cfi_writer.proofs.numbering.class_labels.Goals as goal
 
 pub label_count-requires : goal.label_count-requires
 label_count-requires c =
-    let few = labels_few c.args.items.now c.args.closed.now c.requires.graph c.requires.room in
+    let few = labels_few c.args.items.now c.args.closed.now c.requires.room.0 c.requires.graph c.requires.room.1 in
     omega (arith, few)
 
 pub labels-requires : goal.labels-requires
 labels-requires c =
-    let few = labels_few c.args.items.now c.args.closed.now c.requires.graph c.requires.room in
+    let few = labels_few c.args.items.now c.args.closed.now c.requires.room.0 c.requires.graph c.requires.room.1 in
     let used = ap length (c.as_slice.ensures.value ∙ c.in_ok-used.ensures) in
     omega (arith, few, used, c.in_ok-count.ensures)

@@ -32,3 +32,18 @@ returns c =
     let is = r.following in
     all_members c.args.self.now c.count-count.ensures.accepted c.args.k r.place r.store r.first c.loop-i.i c.loop-i.members
     (subst (λ (n : ℕ). c.loop-i.members ≡ members_from (member_at c.args.self.now n) c.args.k c.loop-i.i) r.low c.loop-i.invariant) (omega arith) (omega arith)
+
+pub overflow_add-i-end : goal.overflow_add-i-end
+overflow_add-i-end c =
+    let r = c.requires in
+    let few = few_members c.args.self.now c.count-count.ensures.accepted c.args.k r.place r.store r.first c.args.following (omega (arith, r.following)) in
+    omega (arith, few)
+
+pub overflow_add-k : goal.overflow_add-k
+overflow_add-k c =
+    let r = c.requires in
+    let less = c.loop-i-test.true in
+    let is = r.following in
+    let inside = (inside_group c.args.self.now c.count-count.ensures.accepted c.args.k r.place r.store r.first c.loop-i.i (omega arith)).0 in
+    let few = c.count-count.ensures.accepted.sound.few in
+    omega (arith, inside, few)
