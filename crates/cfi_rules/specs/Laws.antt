@@ -12,6 +12,7 @@ use Rattle.cfi_rules.specs.Along.{AllRunAlong, AreStepsOf, IsSafe, MayStart}
 use Rattle.cfi_rules.specs.Reading.{AreUnitsOf}
 use Rattle.cfi_rules.specs.Rules.{IsWellFormed}
 use Rattle.cfi_rules.specs.Split.{code_words, place_at, unit_words, unit_at, unit_in}
+use Rattle.cfi_rules.specs.Taken.{steps_taken}
 use Rattle.cfi_rules.specs.Trails.{trail_of, IsInPlace}
 use Rattle.cfi_rules.specs.Walks.{walk_of, IsGraphWalk}
 
@@ -55,11 +56,11 @@ abbrev pub SafeWalksGraph : Type 0
 SafeWalksGraph =
     (p : Profile) (image : Contents) (graph : GraphParts) (count : ℕ) (harts : Harts) (s : Shared) (steps : List HartStep) (k : ℕ) →
     IsSafe p image graph → MayRun p count → MayStart image count harts s → AreStepsOf count steps →
-    IsGraphWalk p (code_words image.code) graph.lines (walk_of p (code_words image.code) k harts s steps)
+    IsGraphWalk p (code_words image.code) graph.lines (walk_of p (code_words image.code) k (steps_taken p harts s steps))
 
 -- each begun instruction of each hart in each run of a safe pair is in its place
 abbrev pub SafeStaysInPlace : Type 0
 SafeStaysInPlace =
     (p : Profile) (image : Contents) (graph : GraphParts) (count : ℕ) (harts : Harts) (s : Shared) (steps : List HartStep) (k : ℕ) →
     IsSafe p image graph → MayRun p count → MayStart image count harts s → AreStepsOf count steps →
-    AllByRecursion (IsInPlace p (code_words image.code)) (trail_of p (code_words image.code) k 0 harts s steps)
+    AllByRecursion (IsInPlace p (code_words image.code)) (trail_of p (code_words image.code) k 0 (steps_taken p harts s steps))
