@@ -281,7 +281,7 @@ module _ (p : Profile) (profile : IsProfile p) (image : Contents) (graph : Graph
     begins handler start pending is stage ready = (refl, tt)
     begins (opening entry) start pending is stage ready = absurd stage
     begins closing start pending is stage (inl ready) =
-        (closing_number refl, (subst (λ (x : Start). StackStands (part_of k) x h s.memory pending) stage.0 ready.0, mask_stands p.callee_saves h.regs ready.1))
+        (closing_number refl, (subst (λ (x : Start). StackStands (part_of k) x h s.memory pending) stage.0 ready.0, mask_stands p.callee_saves h.regs ready.1, stage.1))
     begins closing start pending is stage (inr low) =
         let layout = laid_out p profile in
         let facts : h.pc ≡ p.closing = place_facts p profile image graph bytes formed h.pc closing is in absurd (omega arith)

@@ -58,11 +58,11 @@ abbrev pub start_under : Bool → Start → Start
 start_under false start = saved
 start_under true start = start
 
--- so it stands where a unit or the closing starts; where a unit starts a site is pending
+-- so it stands where a unit or the closing starts; a site is pending where a unit starts, and none where the closing does
 abbrev pub ShadowStands : Profile → ℕ → Start → Place → Hart → Memory → List ℕ → Type 0
 ShadowStands p part start handler h m pending = Unit {0}
 ShadowStands p part start (opening entry) h m pending = Unit {0}
-ShadowStands p part start closing h m pending = StackStands part saved h m pending × MaskStands p.callee_saves h.regs
+ShadowStands p part start closing h m pending = StackStands part saved h m pending × MaskStands p.callee_saves h.regs × (pending ≡ [])
 ShadowStands p part start (body unit) h m pending =
     StackStands part (start_under p.callee_saves start) h m pending × MaskStands p.callee_saves h.regs × (0 < length pending)
 
