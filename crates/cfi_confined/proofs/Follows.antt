@@ -4,7 +4,7 @@ use Rattle.std.proofs.Common.{◌≡◌, ℕ, inl, inr, List, [], ◌∷◌, ref
 use Rattle.std.specs.List.{AllByRecursion}
 use Rattle.std.proofs.lemmas.Bool.{cond_both}
 use Rattle.rv_word.specs.Image.{Contents}
-use Rattle.rv_word.specs.MemoryMap.{Profile}
+use Rattle.rv_word.specs.MemoryMap.{Profile, part_of}
 use Rattle.rv_word.specs.Memory.{loaded}
 use Rattle.rv_word.specs.Numbers.{is_listed}
 use Rattle.rv_instr.specs.declared.instr.Instr.{Instr}
@@ -24,6 +24,7 @@ use Rattle.cfi_rules.specs.Taken.{steps_taken}
 use Rattle.cfi_rules.proofs.Taken.{after_step}
 use Rattle.cfi_confined.specs.Confined.{ConfinedAlong, IsAllowed, MayEcall, Pending, fetched, with_pending}
 use Rattle.cfi_confined.specs.Laws.{ConfinedIsListed, ConfinedKeepsCode}
+use Rattle.cfi_confined.proofs.Writes.{below_part}
 
 module _ (p : Profile) (graph : GraphParts) (calls : List ℕ) (list_is : calls_in graph.lines ≡ Some calls) (hart : ℕ) (h : Hart) (s : Shared) where
   -- what a step leaves
@@ -93,7 +94,7 @@ module _ (p : Profile) (graph : GraphParts) where
         let a = step p h now in
         let after = stepped p hs s t in
         let still : IsCodeOf (loaded image) a.shared.memory =
-        λ k from to. c.1.writes k (omega arith) (inl (omega arith)) ∙ changed_above s.memory t.changes low.0.changes k (omega arith) ∙ code k from to in
+        λ k from to. below_part p.callee_saves (part_of t.hart) (pending t.hart) now.memory a.shared.memory c.1.writes k (omega arith) (omega arith) ∙ changed_above s.memory t.changes low.0.changes k (omega arith) ∙ code k from to in
         stopped_or_on KeepsCode after.turn after (run p after.harts after.shared rest) still
         (λ ran.
         let on : ConfinedAlong p graph (with_pending pending t.hart c.0) (steps_taken p (with_hart hs t.hart a.hart) a.shared rest) = rw ran at c.2 in

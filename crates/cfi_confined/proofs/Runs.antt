@@ -55,7 +55,7 @@ use Rattle.cfi_rules.proofs.RuleFacts.{unit_stands_in}
 use Rattle.cfi_rules.proofs.Safety.{changed_above}
 use Rattle.cfi_rules.proofs.StartKinds.{full_there, stands_there, start_there}
 use Rattle.cfi_rules.proofs.Steps.{InOpens, InUnitNow, Inside, Now, Ready, are_sites, arrived, begins, full_opens, inside_kept, lean_opens, opens_at, starting, step_on, within}
-use Rattle.cfi_confined.specs.Confined.{ConfinedAlong, IsAllowed, IsHandler, MayEcall, MayStop, Moves, Pending, SavesNewest, WritesOwn, fetched, most_calls, slot_for, with_pending}
+use Rattle.cfi_confined.specs.Confined.{ConfinedAlong, IsAllowed, IsHandler, MayEcall, MayStop, Moves, Pending, Writes, fetched, most_calls, with_pending}
 use Rattle.cfi_confined.specs.Laws.{WellFormedIsConfined}
 use Rattle.cfi_confined.proofs.Moves.{Standing, moves, sites_of}
 use Rattle.cfi_confined.proofs.Sites.{Went, low_sites, site_stands}
@@ -402,8 +402,7 @@ module _ (p : Profile) (profile : IsProfile p) (image : Contents) (graph : Graph
 
     abbrev pub Owed : After → Type 0
     Owed a =
-        MayStop p h.pc a.turn × WritesOwn (part_of hart) (slot_for p (length pending)) s.memory a.shared.memory
-        × SavesNewest p.callee_saves (part_of hart) pending s.memory a.shared.memory × (a.turn ≡ Ran → Onward a)
+        MayStop p h.pc a.turn × Writes p.callee_saves (part_of hart) pending s.memory a.shared.memory × (a.turn ≡ Ran → Onward a)
 
     abbrev Given : After → Type 0
     Given a = MayEnd w.place h.pc a.turn × (a.turn ≡ Ran → Gone a)
@@ -431,8 +430,7 @@ module _ (p : Profile) (profile : IsProfile p) (image : Contents) (graph : Graph
         let on : left.turn ≡ Ran → (START ≤ h.pc) × Onward left = λ t. onward t (g.1 t) in
         let written = writes p (part_of hart) (omega arith) (loaded image) w.at pending word_is.stacked w.regs h s w.place word_is.full word_is.lean there.word its there.fact in (
           stops w.at h.pc w.place facts word left.turn g.0 (λ t. (on t).0),
-          written.own,
-          written.newest,
+          written.here,
           λ t. (on t).1,
         )
 
@@ -501,8 +499,8 @@ module _ (p : Profile) (profile : IsProfile p) (image : Contents) (graph : Graph
         let owes = owed ordered t.hart (omega arith) (pending t.hart) h now there.going there.code here Next go_on in
         let (newer, leads, later) =
         calls_after after.turn (steps_taken p (with_hart hs t.hart after.hart) after.shared rest)
-        (λ newer. (length newer ≤ most_calls p) × Moves p graph (fetched now.memory) (fetched now.memory h.pc) h.pc (pending t.hart) after.hart.pc newer) Along tt (rw code owes.3) in
-        (newer, record { ends = owes.0; calls = rw code call; writes = owes.1; saves = owes.2; leads = leads }, later)
+        (λ newer. (length newer ≤ most_calls p) × Moves p graph (fetched now.memory) (fetched now.memory h.pc) h.pc (pending t.hart) after.hart.pc newer) Along tt (rw code owes.2) in
+        (newer, record { ends = owes.0; calls = rw code call; writes = owes.1; leads = leads }, later)
 
     start_known : (hs : Harts) (s : Shared) → MayStart image count hs s → Known (λ k. []) hs s
     start_known hs s start =

@@ -1,5 +1,5 @@
 -- Small pairs with one fault each: their undisturbed runs take a step that is not confined.
-use Rattle.std.proofs.Common.{◌≡◌, ℕ, zero, ◌-◌, ◌+◌, suc, ◌<◌, ◌&&◌, Bool, true, false, inl, inr, List, [], ◌∷◌, ◌++◌, length, refl, sym, ap, subst, ◌∙◌, Option, Some, None, arith, lit<, lit≤}
+use Rattle.std.proofs.Common.{◌≡◌, ℕ, zero, ◌+◌, suc, ◌<◌, ◌&&◌, Bool, true, false, inl, inr, List, [], ◌∷◌, ◌++◌, refl, sym, ap, subst, ◌∙◌, Option, Some, None, arith, lit<, lit≤}
 use Rattle.std.specs.Prelude.{◌==◌, if◌then◌else◌, slice_get}
 use Rattle.std.specs.List.{Contains}
 use Rattle.std.proofs.lemmas.Bool.{and_parts, eq-eqb, false≢true}
@@ -24,14 +24,14 @@ use Rattle.cfi_graph.specs.declared.line.SiteKind.{SiteKind}
 use Rattle.cfi_graph.specs.declared.line.SiteKind.TheVariants as K
 use Rattle.cfi_unit.specs.UnitWords.{words_of}
 use Rattle.cfi_rules.specs.Taken.{TakenStep}
-use Rattle.cfi_rules.specs.Unsafe.{astray_call, astray_call_graph, breaking_closing, breaking_closing_graph, calling_opening, handler_graph, high_pointer, illegal_handler, loading_handler, one_pointer_graph, opening_graph, storing_handler, storing_opening}
+use Rattle.cfi_rules.specs.Unsafe.{astray_call, astray_call_graph, breaking_closing, breaking_closing_graph, calling_opening, handler_graph, high_pointer, illegal_handler, lean_opening_graph, loading_handler, one_pointer_graph, opening_graph, storing_handler, storing_opening}
 use Rattle.cfi_rules.proofs.Arrivals.{after_calm, calm_and, is_ran, ran_of}
 use Rattle.cfi_rules.proofs.OneHart.{one_may_run}
 use Rattle.cfi_rules.proofs.Starts.{machine_may_start}
 use Rattle.cfi_rules.proofs.Taken.{AreDataChanges, alone_taken, may_come, steps_of, taken_alone}
 use Rattle.cfi_rules.proofs.Unsafe.{calm_is_data}
-use Rattle.cfi_confined.specs.Confined.{ConfinedAlong, IsConfined, IsConfinedStep, Moves, Pending, SavesNewest, WritesOwn, fetched, with_pending}
-use Rattle.cfi_confined.specs.Unconfined.{FaultsAreUnconfined, borrowed_edge, borrowed_edge_graph, running_handler, early_return, early_return_graph, long_branch, long_branch_graph, unlisted_entry, unlisted_entry_graph, unlisted_jump, unlisted_jump_graph, lean_graph, moved_link, saved_high, saved_pointer, short_call, short_call_graph}
+use Rattle.cfi_confined.specs.Confined.{ConfinedAlong, IsConfined, IsConfinedStep, Moves, Pending, Writes, fetched, with_pending}
+use Rattle.cfi_confined.specs.Unconfined.{FaultsAreUnconfined, borrowed_edge, borrowed_edge_graph, running_handler, early_return, early_return_graph, long_branch, long_branch_graph, unlisted_entry, unlisted_entry_graph, unlisted_jump, unlisted_jump_graph, lean_graph, moved_link, saved_early, saved_high, saved_pointer, short_call, short_call_graph}
 
 -- no call and no return
 abbrev is_keeping : Option Instr → Bool
@@ -322,14 +322,20 @@ module _ (image : Contents) (graph : GraphParts) where
   lean_pending pending (inl (zero_is, to, same)) = absurd (differ refl zero_is)
   lean_pending pending (inr (one_is, line, new)) = new
 
+-- before the call no call is pending, so that no slot may be written
+early_unconfined : IsConfined lean_version_1 saved_early lean_opening_graph → ⊥
+unfolding loaded placed decoded code_of step write last_exit after_calm is_ran all_keep
+early_unconfined confined =
+    let c = lone_of lean_version_1 the_lean 5 saved_early lean_opening_graph 4 1 confined refl in differ refl (c.1.writes 0x60000008 (lit≤ tt))
+
 saved_unconfined : IsConfined lean_version_1 saved_pointer (lean_graph 0x30) → ⊥
 unfolding loaded placed decoded code_of step write last_exit after_calm is_ran all_keep
 saved_unconfined confined =
     let c = called_of lean_version_1 the_lean 5 saved_pointer (lean_graph 0x30) 0 1 confined refl refl refl in
     let pending = lean_pending saved_pointer (lean_graph 0x30) c.0 c.1 in
     let e = entered lean_version_1 the_lean 5 saved_pointer (lean_graph 0x30) in
-    let saves = subst (λ (l : List ℕ). SavesNewest true (part_of 0) l e.shared.memory (step lean_version_1 e.hart e.shared).shared.memory) pending c.2.1.saves in
-    elim saves [
+    let writes = subst (λ (l : List ℕ). Writes true (part_of 0) l e.shared.memory (step lean_version_1 e.hart e.shared).shared.memory) pending c.2.1.writes in
+    elim writes.1 [
       | inl before ↦ differ refl before
       | inr newest ↦ differ refl newest
     ]
@@ -341,8 +347,8 @@ high_unconfined confined =
     let c = called_of lean_version_1 the_lean 5 saved_high (lean_graph 0x30) 0 1 confined refl refl refl in
     let pending = lean_pending saved_high (lean_graph 0x30) c.0 c.1 in
     let e = entered lean_version_1 the_lean 5 saved_high (lean_graph 0x30) in
-    let writes = subst (λ (l : List ℕ). WritesOwn (part_of 0) (length l - 1) e.shared.memory (step lean_version_1 e.hart e.shared).shared.memory) pending c.2.1.writes in
-    differ refl (writes 0x60000010 (lit≤ tt) (inr (inl (lit≤ tt))))
+    let writes = subst (λ (l : List ℕ). Writes true (part_of 0) l e.shared.memory (step lean_version_1 e.hart e.shared).shared.memory) pending c.2.1.writes in
+    differ refl (writes.0 0x60000010 (lit≤ tt) (inr (inl (lit≤ tt))))
 
 no_site_line : (kind : SiteKind) (a b c label : ℕ) → Contains (Call a b ∷ []) (Site c kind label) → ⊥
 no_site_line kind a b c label (zero, below, is) = absurd (cc)
@@ -410,6 +416,7 @@ faults_unconfined = record {
   slot = slot_unconfined;
   part = part_unconfined;
   lean = record {
+    early = early_unconfined;
     saved = saved_unconfined;
     slot = high_unconfined;
     link = link_unconfined;

@@ -56,11 +56,6 @@ most_skip CalleeSaves = 64
 abbrev pub most_calls : Profile → ℕ
 most_calls p = if p.callee_saves then MOST_PENDING + 1 else MOST_PENDING
 
--- which slot of the shadow stack may be written while so many calls are pending: that of the next call, or, where
--- callees save, that of the newest one
-abbrev pub slot_for : Profile → ℕ → ℕ
-slot_for p n = if p.callee_saves then n - 1 else n
-
 -- the sort of the classes that serve one kind of computed transfers alone, and the line of such a class
 abbrev pub sort_of : SiteKind → Sort
 sort_of K.Call = sorts.Calls
@@ -155,25 +150,30 @@ MayEcall p graph other pc number = Unit {0}
 abbrev pub fetched : Memory → ℕ → Option Instr
 fetched m a = decoded (read 4 m a)
 
+-- memory is as it was outside of data
+abbrev pub WritesData : Memory → Memory → Type 0
+WritesData before after = (a : ℕ) → DATA_END ≤ a → after a ≡ before a
+
 -- memory is as it was outside of data and of a slot in a hart's own part of the shadow stack
 abbrev pub WritesOwn : ℕ → ℕ → Memory → Memory → Type 0
 WritesOwn part n before after =
     (a : ℕ) → DATA_END ≤ a → (a < slot part n) ⊎ ((slot part n + 8 ≤ a) ⊎ (part + PART_SIZE ≤ a)) → after a ≡ before a
 
--- where callees save, what is written there is the return address of the newest call
-abbrev pub SavesNewest : Bool → ℕ → List ℕ → Memory → Memory → Type 0
-SavesNewest false part pending before after = Unit {0}
-SavesNewest true part [] before after = Unit {0}
-SavesNewest true part (site ∷ pending) before after =
-    let slot_at = slot part (length pending) in (read 8 after slot_at ≡ read 8 before slot_at) ⊎ (read 8 after slot_at ≡ site)
+-- what may be written, by the calls that are pending: data, and the slot of the next call; where callees save, that of
+-- the newest call, and there its return address, and no slot where none is pending
+abbrev pub Writes : Bool → ℕ → List ℕ → Memory → Memory → Type 0
+Writes false part pending before after = WritesOwn part (length pending) before after
+Writes true part [] before after = WritesData before after
+Writes true part (site ∷ older) before after =
+    let slot_at = slot part (length older) in
+    WritesOwn part (length older) before after × ((read 8 after slot_at ≡ read 8 before slot_at) ⊎ (read 8 after slot_at ≡ site))
 
 -- a step is confined: how it ends, which system call it makes, what it writes, and, where the next step may come,
 -- where it leads; `pending` are the return addresses of the hart's calls before it, `newer` those after it
 pub record IsConfinedStep (p : Profile) (graph : GraphParts) (pending : List ℕ) (t : TakenStep) (newer : List ℕ) : Type 0 where
   pub ends : MayStop p t.before.pc t.after.turn
   pub calls : MayEcall p graph (fetched t.shared.memory t.before.pc) t.before.pc (t.before.regs 17)
-  pub writes : WritesOwn (part_of t.hart) (slot_for p (length pending)) t.shared.memory t.after.shared.memory
-  pub saves : SavesNewest p.callee_saves (part_of t.hart) pending t.shared.memory t.after.shared.memory
+  pub writes : Writes p.callee_saves (part_of t.hart) pending t.shared.memory t.after.shared.memory
   pub leads : t.after.turn ≡ Ran
       → (length newer ≤ most_calls p)
       × Moves p graph (fetched t.shared.memory) (fetched t.shared.memory t.before.pc) t.before.pc pending t.after.hart.pc newer
