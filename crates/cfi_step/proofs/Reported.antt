@@ -10,7 +10,6 @@ use Rattle.rv_word.proofs.Cases.{mapped}
 use Rattle.rv_code.specs.State.{Harts, Shared, start_hart, start_shared}
 use Rattle.rv_machine.specs.Harts.{harts_in, harts_share}
 use Rattle.cfi_graph.specs.Graph.{GraphParts}
-use Rattle.cfi_graph.specs.declared.line.GraphLine.{GraphLine}
 use Rattle.cfi_unit.specs.Prologue.{OPENING}
 use Rattle.cfi_rules.specs.Along.{AreStepsOf, IsSafe}
 use Rattle.cfi_rules.specs.Split.{code_words}
