@@ -1,21 +1,36 @@
--- The steps that a run takes: what holds of those after a step, and those of one hart alone.
+-- The steps that a run takes: what holds of those after a step, where they lead, and those of one hart alone.
 use Rattle.std.proofs.Common.{◌≡◌, ◌<◌, ℕ, Bool, List, [], ◌∷◌, map, refl, ap, ◌∙◌}
 use Rattle.std.specs.Prelude.{if◌then◌else◌}
 use Rattle.std.specs.List.{AllByRecursion}
 use Rattle.std.proofs.lemmas.Bool.{eq-eqb}
 use Rattle.rv_word.specs.MemoryMap.{Profile}
-use Rattle.rv_code.specs.Run.{ByteChange, HartStep, IsDataChange, disturbed, if_ran}
+use Rattle.rv_code.specs.Run.{ByteChange, HartStep, IsDataChange, RunAfter, disturbed, if_ran, next_or_stop, run}
 use Rattle.rv_code.specs.State.{Hart, Harts, Shared, with_hart}
 use Rattle.rv_code.specs.Step.{step}
 use Rattle.rv_code.specs.declared.turn.Turn.{Turn}
 use Rattle.rv_code.specs.declared.turn.Turn.TheVariants.{Ran}
 use Rattle.cfi_rules.specs.Along.{AreStepsOf}
+use Rattle.cfi_rules.specs.Laws.{RunIsReached, reached}
 use Rattle.cfi_rules.specs.Taken.{TakenStep, steps_taken}
 
 -- after a step that ran the later ones come, and after a stop none
 pub after_step : {A : Type 0} (P : List A → Type 0) (turn : Turn) (later : List A) → P [] → (turn ≡ Ran → P later) → P (if_ran turn later)
 after_step P Ran later none on = on refl
 after_step P other later none on = none
+
+-- after a step that ran a run is where the later ones lead, and after a stop where the step left it
+led_on : (turn : Turn) (harts : Harts) (s : Shared) (later : List TakenStep) (end : RunAfter) → end ≡ reached (record { harts = harts; shared = s; turn = Ran }) later →
+    next_or_stop turn (record { harts = harts; shared = s; turn = turn }) end ≡ reached (record { harts = harts; shared = s; turn = turn }) (if_ran turn later)
+led_on Ran harts s later end same = same
+led_on other harts s later end same = refl
+
+pub run_reached : RunIsReached
+unfolding run steps_taken
+run_reached p harts s [] = refl
+run_reached p harts s (t ∷ rest) =
+    let after = step p (harts t.hart) (disturbed s t.changes) in
+    let next = with_hart harts t.hart after.hart in
+    led_on after.turn next after.shared (steps_taken p next after.shared rest) (run p next after.shared rest) (run_reached p next after.shared rest)
 
 -- the steps of one hart, `k`, by the changes before each of them
 abbrev pub steps_of : ℕ → List (List ByteChange) → List HartStep
