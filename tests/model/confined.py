@@ -284,39 +284,44 @@ class Statement:
         """`WritesOwn`, by the bytes that the step has written."""
         return all(memory[a] == byte for a, byte in memory.was.items() if self.is_kept(part, n, a))
 
+    def writes_data(self, memory):
+        """`WritesData`, by these bytes."""
+        return all(memory[a] == byte for a, byte in memory.was.items() if DATA_END <= a)
+
+    def is_saved(self, at, site, memory):
+        """Whether a slot has what it had before the step, or a return address, as `Writes` asks."""
+        before = bytes(memory.was.get(a, memory.get(a, 0)) for a in range(at, at + 8))
+        after = bytes(memory.get(a, 0) for a in range(at, at + 8))
+        return after in (before, site.to_bytes(8, "little"))
+
+    def writes(self, part, pending, memory):
+        """`Writes`"""
+        if not self.p.callee_saves:
+            return self.writes_own(part, len(pending), memory)
+        if not pending:
+            return self.writes_data(memory)
+        newest = len(pending) - 1
+        return self.writes_own(part, newest, memory) and self.is_saved(slot(part, newest), pending[0], memory)
+
     def most_calls(self):
         """`most_calls`"""
         return MOST_PENDING + 1 if self.p.callee_saves else MOST_PENDING
 
-    def slot_for(self, n):
-        """`slot_for`"""
-        return max(n - 1, 0) if self.p.callee_saves else n
-
-    def saves_newest(self, part, pending, memory):
-        """`SavesNewest`, by the bytes of the slot before the step and after it."""
-        if not self.p.callee_saves or not pending:
-            return True
-        at = range(slot(part, len(pending) - 1), slot(part, len(pending)))
-        before = bytes(memory.was.get(a, memory.get(a, 0)) for a in at)
-        after = bytes(memory.get(a, 0) for a in at)
-        return after in (before, pending[0].to_bytes(8, "little"))
-
     def may_be_pending(self, newer):
-        """`length newer ≤ most_calls p`, in `ConfinedAlong`."""
+        """`length newer ≤ most_calls p`, in `IsConfinedStep`."""
         return len(newer) <= self.most_calls()
 
     def after_step(self, machine, hart, pending):
-        """One step of `ConfinedAlong`: the clauses that fail, how it ended, and the pending calls after it."""
-        code = lambda a: decoded(machine.read(a, 4))  # `fetched now.memory`: no branch and no jump writes memory
+        """`IsConfinedStep` of the next step: the clauses that fail, how it ended, and the pending calls after it."""
+        code = lambda a: decoded(machine.read(a, 4))  # `fetched t.shared.memory`: no branch and no jump writes memory
         pc, number = machine.pcs[hart], machine.registers[hart][17]
         instr, stop = code(pc), machine.step(hart)
         turn = TURNS[stop[0]] if stop else "Ran"
         failing = [] if self.may_stop(pc, turn) else ["MayStop " + turn]
         failing += [] if self.may_ecall(instr, pc, number) else ["MayEcall"]
-        failing += [] if self.writes_own(part_of(hart), self.slot_for(len(pending)), machine.bytes) else ["WritesOwn"]
-        failing += [] if self.saves_newest(part_of(hart), pending, machine.bytes) else ["SavesNewest"]
+        failing += [] if self.writes(part_of(hart), pending, machine.bytes) else ["Writes"]
         newer = pending
-        if turn == "Ran":  # `OnRan`
+        if turn == "Ran":
             newer = self.moves(code, instr, pc, pending, machine.pcs[hart])
             if newer is None:
                 failing.append("Moves " + row_of(instr))

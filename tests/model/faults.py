@@ -357,13 +357,13 @@ def stores(built, at):
     for name, offset in (("a store over the pending call", 8), ("a store across the pending call and the next slot", 12),
                          ("a store behind the next slot", 24), ("a store across the next slot and what follows", 21)):
         stored = bare(0x60000, offset)
-        yield Fault(name, stored, "Unit", stored.labels["store"], ("WritesOwn",))
+        yield Fault(name, stored, "Unit", stored.labels["store"], ("Writes",))
     others = bare(0x60010, 8, 2)
-    yield Fault("a store into another hart's part", others, "Unit", others.labels["store"], ("WritesOwn",), 8)
+    yield Fault("a store into another hart's part", others, "Unit", others.labels["store"], ("Writes",), 8)
     yield Fault("an opening that writes another hart's part", patched(base(2), {START + 16: i_form(0x13, 1, 31, 10, 17)}), "Prologue",
-                START + 28 + 20, ("WritesOwn",), 8, 1)
+                START + 28 + 20, ("Writes",), 8, 1)
     yield Fault("an opening that begins in the second slot", patched(built, {START + 8: addi(3, 3, 16)}), "Prologue", START + 12 + 20,
-                ("WritesOwn",))
+                ("Writes",))
 
 
 def deep(version):
@@ -375,7 +375,7 @@ def depths():
     """More calls than the shadow stack has slots."""
     limit = 12 * (MOST_PENDING + 1)
     yield Fault("a call too many", deep(1), "Unit", UNITS[1] + 20, ("MayStop StoreFault",), limit=limit)
-    yield Fault("a call too many that writes the next hart's part", deep(2), "Unit", UNITS[2] + 20, ("WritesOwn",), 2, 0, limit)
+    yield Fault("a call too many that writes the next hart's part", deep(2), "Unit", UNITS[2] + 20, ("Writes",), 2, 0, limit)
     bare = small(label("bare"), a_bare_call("bare"))
     at = bare.labels["bare"]
     yield Fault("a call too many that writes nothing", relined(bare, None, "call %08x %08x" % (at - 28, at)), "Unit", at, ("most_calls",),

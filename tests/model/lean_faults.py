@@ -100,6 +100,7 @@ def prologues(built, at):
     yield Fault("the opening begins in the second slot", patched(built, {START + 16: addi(3, 3, 16)}), "Prologue", at["main enter"], ("x3",))
     yield Fault("the opening begins in another hart's part", patched(two, {START + 28: i_form(0x13, 1, 31, 10, 17)}), "Prologue",
                 two.labels["main enter"], ("x3",), 8, 1)
+    yield Fault("the opening saves before its call", patched(built, {START + 16: s_form(SD, 3, 4, 8)}), "Prologue", START + 16, ("Writes",))
     yield Fault("the opening links to x5", patched(built, {FIRST - 12: jal(5, FIRST - 12, at["main enter"])}), "Prologue", FIRST - 12,
                 ("Moves Jal x5",))
     yield Fault("a handler that runs on", patched(built, {CODE: NOP, at["main body"]: jal(0, at["main body"], CODE)}), "Prologue", CODE,
@@ -126,18 +127,18 @@ def kept_sites(built, at):
     yield of("a leaf that returns past its site", MAIN, lambda p: p.leaf("f"), label("last"), plain(i_form(0x67, 0, 0, 1, 4)),
              lambda p: p.end_leaf())
     inner = lean(MAIN, lambda p: p.leaf("f"), call("g"), a_leaf_return, lambda p: p.end_leaf(), function("g"), a_return)
-    yield Fault("a leaf that calls", inner, "Unit", inner.labels["g enter"] + 12, ("WritesOwn",))
+    yield Fault("a leaf that calls", inner, "Unit", inner.labels["g enter"] + 12, ("Writes",))
     twice = lean(MAIN, lambda p: p.leaf("f"), call("g"), label("last"), a_leaf_return, lambda p: p.end_leaf(), leaf("g", LEAF_RETURN))
     yield Fault("a leaf that calls a leaf", twice, "Unit", twice.labels["last"], ("Moves Jalr x0",))
     pointed = lean(MAIN, lambda p: p.leaf("f"), LOADED, lambda p: p.icall(5, 0, CLASS), a_leaf_return, lambda p: p.end_leaf(),
                    function("g", CLASS), a_return, data=pointers("g"))
-    yield Fault("a leaf that calls through a pointer", pointed, "Unit", pointed.labels["g enter"] + 12, ("WritesOwn",))
+    yield Fault("a leaf that calls through a pointer", pointed, "Unit", pointed.labels["g enter"] + 12, ("Writes",))
 
 
 def masks(built, at):
     """Stores whose addresses are not masked. x6 is an address of the shadow stack behind the slots that are in use."""
     behind = plain(UPPER(6, 0x60000), addi(6, 6, 64))
-    def of(name, *words, before=plain(), clauses=("WritesOwn",)):
+    def of(name, *words, before=plain(), clauses=("Writes",)):
         p = lean(behind, before, label("mask"), plain(*words), a_return)
         return Fault(name, p, "Unit", p.labels["mask"] + 4 * (len(words) - 1), clauses)
 
@@ -152,14 +153,14 @@ def masks(built, at):
     yield of("a store below the masked address", masked(31, 0, 4), s_form(SD, 31, 6, -8), clauses=("MayStop StoreFault",))
     yield of("a store off another register than x31", masked(31, 6, 4), s_form(SD, 6, 6, 0))
     lost = lean(behind, plain(addi(4, 0, -1)), label("mask"), lambda p: p.store(SD, 6, 0, 6), a_return)
-    yield Fault("the mask is lost", lost, "Unit", lost.labels["mask"] + 4, ("WritesOwn",))
+    yield Fault("the mask is lost", lost, "Unit", lost.labels["mask"] + 4, ("Writes",))
     kept = lean(SAVED, LOADED, label("icall"), lambda p: p.icall(5, 0, 0x60000), behind, label("mask"), lambda p: p.store(SD, 6, 0, 6), RESTORED,
                 function("f", 0x60000), a_return, data=pointers("f"))
     for name, k in ("a check that does not make the mask anew", 12), ("a check that makes half a mask", 13):
         words = {kept.labels["icall"] + 48: NOP, kept.labels["icall"] + 52: NOP} if k == 12 else {kept.labels["icall"] + 48: UPPER(4, 0x70000)}
-        yield Fault(name, patched(kept, words), "Unit", kept.labels["mask"] + 4, ("WritesOwn",))
+        yield Fault(name, patched(kept, words), "Unit", kept.labels["mask"] + 4, ("Writes",))
     seventeen = lean(behind, label("mask"), lambda p: p.stores(6, None, [(SD, 6, 0)] * 16), label("last"), plain(s_form(SD, 6, 6, 0)), a_return)
-    yield Fault("a store behind sixteen, off the program's register", seventeen, "Unit", seventeen.labels["last"], ("WritesOwn",))
+    yield Fault("a store behind sixteen, off the program's register", seventeen, "Unit", seventeen.labels["last"], ("Writes",))
 
 
 def enters_changed(built, at):
@@ -167,22 +168,22 @@ def enters_changed(built, at):
     begun = at["f enter"]
     other = lean(SAVED, LOADED, call("f"), RESTORED, function("f"), plain(addi(1, 5, 0)), a_return, data=pointers("main body"))
     saves = other.labels["f enter"] + 12
-    yield Fault("an enter that saves another register", patched(other, {saves: s_form(SD, 3, 5, 0)}), "Unit", saves, ("SavesNewest",))
-    yield Fault("an enter that saves behind its slot", patched(built, {begun + 12: s_form(SD, 3, 1, 8)}), "Unit", begun + 12, ("WritesOwn",))
+    yield Fault("an enter that saves another register", patched(other, {saves: s_form(SD, 3, 5, 0)}), "Unit", saves, ("Writes",))
+    yield Fault("an enter that saves behind its slot", patched(built, {begun + 12: s_form(SD, 3, 1, 8)}), "Unit", begun + 12, ("Writes",))
     far = lean(MAIN, function("f"), SAVED, call("g"), RESTORED, function("g"), a_return)
     yield Fault("an enter that takes two slots", patched(far, {far.labels["f enter"] + 16: addi(3, 3, 16)}), "Unit",
-                far.labels["g enter"] + 12, ("WritesOwn",))
+                far.labels["g enter"] + 12, ("Writes",))
     yield Fault("an enter that takes no slot", patched(far, {far.labels["f enter"] + 16: NOP}), "Unit", far.labels["g enter"] + 12,
-                ("WritesOwn",))
-    for version, clause in (1, "MayStop StoreFault"), (2, "WritesOwn"):
+                ("Writes",))
+    for version, clause in (1, "MayStop StoreFault"), (2, "Writes"):
         deep = lean(call("main"), version=version)
         deep = patched(deep, {deep.labels["main enter"] + 4: branch(BEQ, 0, 0, 8)})
         yield Fault("an enter without a test of depth, version %d" % version, deep, "Unit", deep.labels["main enter"] + 12,
                     (clause,), 1, 0, LIMIT)
     moved = lean(plain(addi(3, 3, 8)), call("f"), a_return, function("f"), a_return)
-    yield Fault("x3 is moved", moved, "Unit", moved.labels["f enter"] + 12, ("WritesOwn",))
+    yield Fault("x3 is moved", moved, "Unit", moved.labels["f enter"] + 12, ("Writes",))
     older = lean(lambda p: p.put(8, lambda at: push(at) + [jal(1, at + 28, p.called("f"))]), a_return, function("f"), a_return)
-    yield Fault("a call that saves its site too", older, "Unit", FIRST + 24 + 20, ("WritesOwn",))
+    yield Fault("a call that saves its site too", older, "Unit", FIRST + 24 + 20, ("Writes",))
     linking = lean(label("call"), lambda p: p.put(1, lambda at: [jal(5, at, p.called("f"))]), a_return, function("f"), a_return)
     yield Fault("a call that links to x5", linking, "Unit", linking.labels["call"], ("Moves Jal x5",))
 
@@ -291,7 +292,7 @@ def jumping(built, at):
                               ("the closing", CLOSING, ("pending", "x3", "slots"))):
         own = relined(called, line(called, START, "call"), "call %08x %08x" % (START, to))
         yield Fault("the opening calls " + name, patched(own, {FIRST - 12: jal(1, FIRST - 12, to)}), "Target", to, clauses)
-    yield of("a jump past an enter's test", (jump(FIRST + 24 + 4 + 4 + 12), last), FIRST + 24 + 4 + 4 + 12, ("Within edge", "WritesOwn"))
+    yield of("a jump past an enter's test", (jump(FIRST + 24 + 4 + 4 + 12), last), FIRST + 24 + 4 + 4 + 12, ("Within edge", "Writes"))
     yield of("a jump past a return's test", (LOADED, lambda p: p.store(SD, 5, 0, 5), jump(FIRST + 24 + 8 + 8 + 4 + 16), a_return),
              FIRST + 24 + 8 + 8 + 4 + 16, ("Within edge", "Moves Jalr x0"))
     yield of("a jump past a mask, where x31 is an address of code",

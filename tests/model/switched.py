@@ -67,7 +67,7 @@ WEAKER = [
     ("MayEcall: past the prologue", calling(lambda self, pc, number: self.graph.calls_in() is None), Statement),
     ("MayEcall: where the closing exits", calling(lambda self, pc, number: number == 93), Statement),
     ("MayEcall: that the closing exits", calling(lambda self, pc, number: pc == self.p.closing + 4), Statement),
-    ("WritesOwn", switched(writes_own=lambda self, *given: True), Statement),
+    ("Writes", switched(writes=lambda self, *given: True), Statement),
     ("WritesOwn: below the slot", switched(is_kept=lambda self, part, n, a: a >= slot(part, n) and Statement.is_kept(self, part, n, a)),
      Statement),
     ("WritesOwn: behind the slot", switched(

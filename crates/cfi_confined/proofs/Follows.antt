@@ -1,9 +1,10 @@
 -- What follows from confinement alone: with a list of system calls a run makes no others, and code stays the
 -- image's.
-use Rattle.std.proofs.Common.{◌≡◌, ℕ, ◌≤◌, inl, inr, List, [], ◌∷◌, length, refl, sym, ap, subst, ◌∙◌, Option, Some, None, arith}
+use Rattle.std.proofs.Common.{◌≡◌, ℕ, inl, inr, List, [], ◌∷◌, refl, sym, ap, subst, ◌∙◌, Option, Some, None, arith}
+use Rattle.std.specs.List.{AllByRecursion}
 use Rattle.std.proofs.lemmas.Bool.{cond_both}
 use Rattle.rv_word.specs.Image.{Contents}
-use Rattle.rv_word.specs.MemoryMap.{Profile}
+use Rattle.rv_word.specs.MemoryMap.{Profile, part_of}
 use Rattle.rv_word.specs.Memory.{loaded}
 use Rattle.rv_word.specs.Numbers.{is_listed}
 use Rattle.rv_instr.specs.declared.instr.Instr.{Instr}
@@ -17,16 +18,18 @@ use Rattle.rv_code.proofs.Changes.{changed_above}
 use Rattle.cfi_graph.specs.Graph.{GraphParts, calls_in}
 use Rattle.cfi_unit.specs.Context.{IsCodeOf}
 use Rattle.cfi_unit.proofs.Events.{call_adds, cases_call, quiet}
-use Rattle.cfi_rules.specs.Along.{AreStepsOf, OnRan}
-use Rattle.cfi_rules.specs.Listed.{AddsListed, IsListedCall, ListedAlong}
-use Rattle.cfi_rules.proofs.OnRan.{on_ran}
-use Rattle.cfi_confined.specs.Confined.{ConfinedAlong, IsAllowed, MayEcall, Moves, Pending, fetched, most_calls, with_pending}
+use Rattle.cfi_rules.specs.Along.{AreStepsOf}
+use Rattle.cfi_rules.specs.Listed.{AddsListed, IsListedCall}
+use Rattle.cfi_rules.specs.Taken.{steps_taken}
+use Rattle.cfi_rules.proofs.Taken.{after_step}
+use Rattle.cfi_confined.specs.Confined.{ConfinedAlong, IsAllowed, MayEcall, Pending, fetched, with_pending}
 use Rattle.cfi_confined.specs.Laws.{ConfinedIsListed, ConfinedKeepsCode}
+use Rattle.cfi_confined.proofs.Writes.{below_part}
 
-module _ (p : Profile) (graph : GraphParts) (calls : List ℕ) (list_is : calls_in graph.lines ≡ Some calls) (h : Hart) (s : Shared) where
+module _ (p : Profile) (graph : GraphParts) (calls : List ℕ) (list_is : calls_in graph.lines ≡ Some calls) (hart : ℕ) (h : Hart) (s : Shared) where
   -- what a step leaves
   abbrev Adds : After → Type 0
-  Adds a = AddsListed p calls h.pc s.events a.shared.events
+  Adds a = AddsListed p calls (record { hart = hart; before = h; shared = s; after = a })
 
   instr_adds : (i : Instr) → MayEcall p graph (Some i) h.pc (h.regs 17) → Adds (exec p i h s)
   instr_adds i may = elim (cases_call i) [
@@ -56,36 +59,34 @@ module _ (p : Profile) (graph : GraphParts) (calls : List ℕ) (list_is : calls_
   step_adds may = ended_adds (last_exit s.events) may
 
 module _ (p : Profile) (graph : GraphParts) where
-  -- what is owed after a step of hart `k` that ran
-  abbrev Onward : Pending → Harts → Shared → ℕ → List HartStep → After → Type 0
-  Onward pending hs s k rest a =
-      (newer : List ℕ) × (length newer ≤ most_calls p) × Moves p graph (fetched s.memory) (fetched s.memory (hs k).pc) (hs k).pc (pending k) a.hart.pc newer
-      × ConfinedAlong p graph (with_pending pending k newer) (with_hart hs k a.hart) a.shared rest
-
   listed_along : (calls : List ℕ) → calls_in graph.lines ≡ Some calls → (steps : List HartStep) (pending : Pending) (hs : Harts) (s : Shared) →
-      ConfinedAlong p graph pending hs s steps → ListedAlong p calls hs s steps
+      ConfinedAlong p graph pending (steps_taken p hs s steps) → AllByRecursion (AddsListed p calls) (steps_taken p hs s steps)
+  unfolding steps_taken
   listed_along calls list_is [] pending hs s c = tt
   listed_along calls list_is (t ∷ rest) pending hs s c =
       let now = disturbed s t.changes in
       let h = hs t.hart in
-      let a = step p h now in (
-        step_adds p graph calls list_is h now c.1,
-        on_ran a.turn (Onward pending hs now t.hart rest a) (Unit {0}) (ListedAlong p calls (with_hart hs t.hart a.hart) a.shared rest) (Unit {0})
-            (λ on. listed_along calls list_is rest (with_pending pending t.hart on.0) (with_hart hs t.hart a.hart) a.shared on.3) (λ none. none) c.4,
+      let a = step p h now in
+      let later = steps_taken p (with_hart hs t.hart a.hart) a.shared rest in (
+        step_adds p graph calls list_is t.hart h now c.1.calls,
+        after_step (AllByRecursion (AddsListed p calls)) a.turn later tt
+            (λ ran.
+            let on : ConfinedAlong p graph (with_pending pending t.hart c.0) later = rw ran at c.2 in
+            listed_along calls list_is rest (with_pending pending t.hart c.0) (with_hart hs t.hart a.hart) a.shared on),
       )
 
   -- a run that a step stopped is where the step left it
-  stopped_or_on : (C : RunAfter → Type 0) (turn : Turn) (now later : RunAfter) (X : Type 0) → C now → (X → C later) → OnRan turn X (Unit {0}) → C (next_or_stop turn now later)
-  stopped_or_on C Ran now later X here there on = there on
-  stopped_or_on C other now later X here there on = here
+  stopped_or_on : (C : RunAfter → Type 0) (turn : Turn) (now later : RunAfter) → C now → (turn ≡ Ran → C later) → C (next_or_stop turn now later)
+  stopped_or_on C Ran now later here on = on refl
+  stopped_or_on C other now later here on = here
 
   module _ (image : Contents) (count : ℕ) where
     abbrev KeepsCode : RunAfter → Type 0
     KeepsCode after = IsCodeOf (loaded image) after.shared.memory
 
     code_kept : (steps : List HartStep) → AreStepsOf count steps → (pending : Pending) (hs : Harts) (s : Shared) → IsCodeOf (loaded image) s.memory →
-        ConfinedAlong p graph pending hs s steps → KeepsCode (run p hs s steps)
-    unfolding run
+        ConfinedAlong p graph pending (steps_taken p hs s steps) → KeepsCode (run p hs s steps)
+    unfolding run steps_taken
     code_kept [] low pending hs s code c = code
     code_kept (t ∷ rest) low pending hs s code c =
         let now = disturbed s t.changes in
@@ -93,9 +94,11 @@ module _ (p : Profile) (graph : GraphParts) where
         let a = step p h now in
         let after = stepped p hs s t in
         let still : IsCodeOf (loaded image) a.shared.memory =
-        λ k from to. c.2 k (omega arith) (inl (omega arith)) ∙ changed_above s.memory t.changes low.0.changes k (omega arith) ∙ code k from to in
-        stopped_or_on KeepsCode after.turn after (run p after.harts after.shared rest) (Onward pending hs now t.hart rest a) still
-        (λ on. code_kept rest low.1 (with_pending pending t.hart on.0) (with_hart hs t.hart a.hart) a.shared still on.3) c.4
+        λ k from to. below_part p.callee_saves (part_of t.hart) (pending t.hart) now.memory a.shared.memory c.1.writes k (omega arith) (omega arith) ∙ changed_above s.memory t.changes low.0.changes k (omega arith) ∙ code k from to in
+        stopped_or_on KeepsCode after.turn after (run p after.harts after.shared rest) still
+        (λ ran.
+        let on : ConfinedAlong p graph (with_pending pending t.hart c.0) (steps_taken p (with_hart hs t.hart a.hart) a.shared rest) = rw ran at c.2 in
+        code_kept rest low.1 (with_pending pending t.hart c.0) (with_hart hs t.hart a.hart) a.shared still on)
 
 pub confined_listed : ConfinedIsListed
 confined_listed p image graph calls list_is confined count may harts s start steps low =

@@ -14,7 +14,7 @@ use Rattle.rv_instr.specs.Registers.{Registers}
 use Rattle.rv_instr.specs.declared.instr.Instr.{Instr}
 use Rattle.rv_instr.specs.declared.instr.Instr.TheVariants.{Ecall}
 use Rattle.rv_code.specs.Decode.{decoded}
-use Rattle.rv_code.specs.Run.{ByteChange, HartStep, IsDataChange, changed, disturbed}
+use Rattle.rv_code.specs.Run.{ByteChange, HartStep, IsDataChange, changed, disturbed, if_ran}
 use Rattle.rv_code.specs.State.{After, Hart, Harts, Shared, last_exit, with_hart}
 use Rattle.rv_code.specs.Step.{exec, step}
 use Rattle.rv_code.specs.declared.turn.Turn.{Turn}
@@ -41,21 +41,21 @@ use Rattle.cfi_unit.proofs.Sought.{nowhere, opening_lacks}
 use Rattle.cfi_pending.specs.Opening as lean
 use Rattle.cfi_pending.specs.Starts.{Start, StandsBy, fresh, may_stand, saved}
 use Rattle.cfi_pending.proofs.StartSteps.{stacked_of}
-use Rattle.cfi_rules.specs.Along.{AreStepsOf, MayBreak, MayEnd, MayExit, MayFault, MayStart, OnRan, PlaceLeads, Walk}
+use Rattle.cfi_rules.specs.Along.{AreStepsOf, MayBreak, MayEnd, MayExit, MayFault, MayStart, PlaceLeads, Walk}
 use Rattle.cfi_rules.specs.Laws.{AreBytes}
 use Rattle.cfi_rules.specs.Rules.{IsWellFormed}
 use Rattle.cfi_rules.specs.Split.{code_words, is_handler, place_at}
+use Rattle.cfi_rules.specs.Taken.{TakenStep, steps_taken}
 use Rattle.cfi_rules.specs.Walk.{by_class}
 use Rattle.cfi_rules.proofs.Labels.{full_may_stand, place_stands}
 use Rattle.cfi_rules.proofs.ListedRuns.{act_listed, admitted}
 use Rattle.cfi_rules.proofs.Moves.{Arrived, SitesStand, Stage, most_at}
-use Rattle.cfi_rules.proofs.OnRan.{on_ran}
 use Rattle.cfi_rules.proofs.Places.{PlaceFacts, at_opening, handler_is, nothing_inside, place_facts, prologue}
 use Rattle.cfi_rules.proofs.RuleFacts.{unit_stands_in}
 use Rattle.cfi_rules.proofs.Safety.{changed_above}
 use Rattle.cfi_rules.proofs.StartKinds.{full_there, stands_there, start_there}
 use Rattle.cfi_rules.proofs.Steps.{InOpens, InUnitNow, Inside, Now, Ready, are_sites, arrived, begins, full_opens, inside_kept, lean_opens, opens_at, starting, step_on, within}
-use Rattle.cfi_confined.specs.Confined.{ConfinedAlong, IsAllowed, IsHandler, MayEcall, MayStop, Moves, Pending, SavesNewest, WritesOwn, fetched, most_calls, slot_for, with_pending}
+use Rattle.cfi_confined.specs.Confined.{ConfinedAlong, IsAllowed, IsHandler, MayEcall, MayStop, Moves, Pending, Writes, fetched, most_calls, with_pending}
 use Rattle.cfi_confined.specs.Laws.{WellFormedIsConfined}
 use Rattle.cfi_confined.proofs.Moves.{Standing, moves, sites_of}
 use Rattle.cfi_confined.proofs.Sites.{Went, low_sites, site_stands}
@@ -77,6 +77,12 @@ most_of p true saves saved full = let most = ap (λ b. if b then MOST_PENDING + 
 most_of p false saves start full =
     let most = ap (λ b. if b then MOST_PENDING + 1 else MOST_PENDING) saves in
     let same = ap most_at (full refl) in omega arith
+
+-- where a step ran, calls are pending after it with which the later steps come; after a stop none comes
+calls_after : (turn : Turn) (later : List TakenStep) (M : List ℕ → Type 0) (C : List ℕ → List TakenStep → Type 0) → C [] [] →
+    (turn ≡ Ran → (newer : List ℕ) × M newer × C newer later) → (newer : List ℕ) × (turn ≡ Ran → M newer) × C newer (if_ran turn later)
+calls_after Ran later M C none on = let there = on refl in (there.0, (λ ran. there.1), there.2)
+calls_after other later M C none on = ([], (λ ran. absurd (cc)), none)
 
 -- an enter stands at a fresh start
 enter_fresh : (start : Start) (unit : U.Unit) → may_stand start unit ≡ true → body unit ≡ body V.Enter → start ≡ fresh
@@ -132,15 +138,14 @@ module _ (p : Profile) (profile : IsProfile p) (image : Contents) (graph : Graph
     faults_there closing facts word may = absurd may
     faults_there (body unit) facts word may = unit_past unit facts word
 
-    stops : (X Y : Type 0) (place : Place) → Facts place at → IsWordOf p place at pc → (turn : Turn) → MayEnd place pc turn → OnRan turn ((START ≤ pc) × X) Y →
-        MayStop p pc turn
-    stops X Y place facts word Ran may on = on.0
-    stops X Y place facts word (Exit status) may on = exits_past place facts word may
-    stops X Y place facts word (Break a) may on = breaks_there place facts word may.1
-    stops X Y place facts word (LoadFault b a) may on = faults_there place facts word may.1
-    stops X Y place facts word (StoreFault b a) may on = absurd may
-    stops X Y place facts word (FetchFault b) may on = absurd may
-    stops X Y place facts word (Illegal b) may on = absurd may
+    stops : (place : Place) → Facts place at → IsWordOf p place at pc → (turn : Turn) → MayEnd place pc turn → (turn ≡ Ran → START ≤ pc) → MayStop p pc turn
+    stops place facts word Ran may on = on refl
+    stops place facts word (Exit status) may on = exits_past place facts word may
+    stops place facts word (Break a) may on = breaks_there place facts word may.1
+    stops place facts word (LoadFault b a) may on = faults_there place facts word may.1
+    stops place facts word (StoreFault b a) may on = absurd may
+    stops place facts word (FetchFault b) may on = absurd may
+    stops place facts word (Illegal b) may on = absurd may
 
   -- what a unit or the closing may call
   allowed : (at : ℕ) (unit : U.Unit) (h : Hart) → Facts (body unit) at → MayCall (body unit) at h → IsAllowed (calls_in graph.lines) (h.regs 17)
@@ -393,48 +398,40 @@ module _ (p : Profile) (profile : IsProfile p) (image : Contents) (graph : Graph
     may_end = subst (λ (q : Place). MayEnd q h.pc after.turn) (same_Some begun.0 w.place (sym begun.1 ∙ w.is)) begun.3
 
     abbrev Onward : After → Type 0
-    Onward a = (newer : List ℕ) × (length newer ≤ most_calls p) × Moves p graph (fetched s.memory) (Some its) h.pc pending a.hart.pc newer × Next newer a
+    Onward a = (newer : List ℕ) × ((length newer ≤ most_calls p) × Moves p graph (fetched s.memory) (Some its) h.pc pending a.hart.pc newer) × Next newer a
 
     abbrev pub Owed : After → Type 0
     Owed a =
-        MayStop p h.pc a.turn × WritesOwn (part_of hart) (slot_for p (length pending)) s.memory a.shared.memory
-        × SavesNewest p.callee_saves (part_of hart) pending s.memory a.shared.memory × OnRan a.turn (Onward a) (Unit {0})
+        MayStop p h.pc a.turn × Writes p.callee_saves (part_of hart) pending s.memory a.shared.memory × (a.turn ≡ Ran → Onward a)
 
     abbrev Given : After → Type 0
-    Given a = MayEnd w.place h.pc a.turn × OnRan a.turn (Gone a) (Unit {0})
+    Given a = MayEnd w.place h.pc a.turn × (a.turn ≡ Ran → Gone a)
 
     given : Given after
-    given = (
-      may_end,
-      on_ran after.turn (Rest walk after) (IsCodeOf (loaded image) after.shared.memory) (Gone after) (Unit {0}) (λ rest. rest refl) (λ kept. tt)
-          (step_on p profile image graph bytes formed hart below h s going code Rest gone walk w.place w.is w.inside).on,
-    )
+    given = (may_end, λ ran. (step_on p profile image graph bytes formed hart below h s going code Rest gone walk w.place w.is w.inside).on ran refl)
 
     onward : left.turn ≡ Ran → Gone left → (START ≤ h.pc) × Onward left
     onward t g = (
       passes w.place w.at h.pc facts word g.other,
       (
         g.newer,
-        g.few,
-        moves p profile image graph bytes formed ordered (part_of hart) w.at pending word_is.stacked w.regs w.place w.is h s (fetched s.memory)
-            (fetched_there (loaded image) s.memory w.at (place_instrs p w.place w.at) code stand) there.word there.pc g.newer its there.fact t
-            (word_is.standing g.newer left.hart.pc) g.went,
+        (
+          g.few,
+          moves p profile image graph bytes formed ordered (part_of hart) w.at pending word_is.stacked w.regs w.place w.is h s (fetched s.memory)
+              (fetched_there (loaded image) s.memory w.at (place_instrs p w.place w.at) code stand) there.word there.pc g.newer its there.fact t
+              (word_is.standing g.newer left.hart.pc) g.went,
+        ),
         g.next,
       ),
     )
 
-    ran_on : (turn : Turn) → left.turn ≡ turn → OnRan turn (Gone left) (Unit {0}) → OnRan turn ((START ≤ h.pc) × Onward left) (Unit {0})
-    ran_on Ran t g = onward t g
-    ran_on other t g = tt
-
     left_owed : Given left → Owed left
     left_owed g =
-        let on = ran_on left.turn refl g.1 in
+        let on : left.turn ≡ Ran → (START ≤ h.pc) × Onward left = λ t. onward t (g.1 t) in
         let written = writes p (part_of hart) (omega arith) (loaded image) w.at pending word_is.stacked w.regs h s w.place word_is.full word_is.lean there.word its there.fact in (
-          stops w.at h.pc (Onward left) (Unit {0}) w.place facts word left.turn g.0 on,
-          written.own,
-          written.newest,
-          on_ran left.turn ((START ≤ h.pc) × Onward left) (Unit {0}) (Onward left) (Unit {0}) (λ x. x.1) (λ x. x) on,
+          stops w.at h.pc w.place facts word left.turn g.0 (λ t. (on t).0),
+          written.here,
+          λ t. (on t).1,
         )
 
     pub owed : Owed after
@@ -480,7 +477,8 @@ module _ (p : Profile) (profile : IsProfile p) (image : Contents) (graph : Graph
       ];
     }
 
-    runs : (steps : List HartStep) → AreStepsOf count steps → (pending : Pending) (hs : Harts) (s : Shared) → Known pending hs s → ConfinedAlong p graph pending hs s steps
+    runs : (steps : List HartStep) → AreStepsOf count steps → (pending : Pending) (hs : Harts) (s : Shared) → Known pending hs s → ConfinedAlong p graph pending (steps_taken p hs s steps)
+    unfolding steps_taken
     runs [] low pending hs s known = tt
     runs (t ∷ rest) low pending hs s known =
         let below = low.0.hart in
@@ -489,15 +487,20 @@ module _ (p : Profile) (profile : IsProfile p) (image : Contents) (graph : Graph
         let h = hs t.hart in
         let there = known_disturbed pending hs s t.changes low.0.changes known in
         let here = there.each t.hart below in
-        let Next : List ℕ → After → Type 0 = λ newer a. ConfinedAlong p graph (with_pending pending t.hart newer) (with_hart hs t.hart a.hart) a.shared rest in
+        let after = step p h now in
+        let Along : List ℕ → List TakenStep → Type 0 = λ newer taken. ConfinedAlong p graph (with_pending pending t.hart newer) taken in
+        let Next : List ℕ → After → Type 0 = λ newer a. Along newer (steps_taken p (with_hart hs t.hart a.hart) a.shared rest) in
         let go_on : (newer : List ℕ) (a : After) (stacked : List ℕ) → Context (part_of t.hart) (loaded image) now.memory stacked a.shared →
         Within (part_of t.hart) newer a.hart a.shared.memory → Next newer a =
         λ newer a stacked c w. runs rest low.1 (with_pending pending t.hart newer) (with_hart hs t.hart a.hart) a.shared
         (known_after pending hs t.hart below now there newer a stacked c w) in
         let code = its_code ordered t.hart (omega arith) (pending t.hart) h now there.going there.code here Next go_on in
         let call = its_call ordered t.hart (omega arith) (pending t.hart) h now there.going there.code here Next go_on in
-        let step = owed ordered t.hart (omega arith) (pending t.hart) h now there.going there.code here Next go_on in
-        rw code (step.0, call, step.1, step.2, step.3)
+        let owes = owed ordered t.hart (omega arith) (pending t.hart) h now there.going there.code here Next go_on in
+        let (newer, leads, later) =
+        calls_after after.turn (steps_taken p (with_hart hs t.hart after.hart) after.shared rest)
+        (λ newer. (length newer ≤ most_calls p) × Moves p graph (fetched now.memory) (fetched now.memory h.pc) h.pc (pending t.hart) after.hart.pc newer) Along tt (rw code owes.2) in
+        (newer, record { ends = owes.0; calls = rw code call; writes = owes.1; leads = leads }, later)
 
     start_known : (hs : Harts) (s : Shared) → MayStart image count hs s → Known (λ k. []) hs s
     start_known hs s start =

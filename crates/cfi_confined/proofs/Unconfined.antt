@@ -1,5 +1,5 @@
 -- Small pairs with one fault each: their undisturbed runs take a step that is not confined.
-use Rattle.std.proofs.Common.{◌≡◌, ℕ, zero, ◌-◌, ◌+◌, suc, ◌<◌, ◌&&◌, Bool, true, false, inl, inr, List, [], ◌∷◌, ◌++◌, length, refl, sym, ap, subst, ◌∙◌, Option, Some, None, arith, lit<, lit≤}
+use Rattle.std.proofs.Common.{◌≡◌, ℕ, zero, ◌+◌, suc, ◌<◌, ◌&&◌, Bool, true, false, inl, inr, List, [], ◌∷◌, ◌++◌, refl, sym, ap, subst, ◌∙◌, Option, Some, None, arith, lit<, lit≤}
 use Rattle.std.specs.Prelude.{◌==◌, if◌then◌else◌, slice_get}
 use Rattle.std.specs.List.{Contains}
 use Rattle.std.proofs.lemmas.Bool.{and_parts, eq-eqb, false≢true}
@@ -13,8 +13,9 @@ use Rattle.rv_instr.specs.declared.instr.Instr.TheVariants.{Branch, Jal, Jalr}
 use Rattle.rv_code.specs.Decode.{decoded}
 use Rattle.rv_code.specs.Encode.{code_of}
 use Rattle.rv_code.specs.Run.{ByteChange, disturbed}
-use Rattle.rv_code.specs.State.{After, Hart, Harts, Shared, last_exit, start_hart, start_shared, with_hart}
+use Rattle.rv_code.specs.State.{After, Hart, Shared, last_exit, start_hart, start_shared}
 use Rattle.rv_code.specs.Step.{step}
+use Rattle.rv_code.specs.declared.turn.Turn.TheVariants.{Ran}
 use Rattle.rv_code.proofs.Runs.{calm}
 use Rattle.cfi_graph.specs.Graph.{GraphParts}
 use Rattle.cfi_graph.specs.declared.line.Sort.TheVariants as sorts
@@ -22,15 +23,15 @@ use Rattle.cfi_graph.specs.declared.line.GraphLine.TheVariants.{Call, Class, Edg
 use Rattle.cfi_graph.specs.declared.line.SiteKind.{SiteKind}
 use Rattle.cfi_graph.specs.declared.line.SiteKind.TheVariants as K
 use Rattle.cfi_unit.specs.UnitWords.{words_of}
-use Rattle.cfi_rules.specs.Along.{OnRan}
-use Rattle.cfi_rules.specs.Unsafe.{astray_call, astray_call_graph, breaking_closing, breaking_closing_graph, calling_opening, handler_graph, high_pointer, illegal_handler, loading_handler, one_pointer_graph, opening_graph, storing_handler, storing_opening}
+use Rattle.cfi_rules.specs.Taken.{TakenStep}
+use Rattle.cfi_rules.specs.Unsafe.{astray_call, astray_call_graph, breaking_closing, breaking_closing_graph, calling_opening, handler_graph, high_pointer, illegal_handler, lean_opening_graph, loading_handler, one_pointer_graph, opening_graph, storing_handler, storing_opening}
 use Rattle.cfi_rules.proofs.Arrivals.{after_calm, calm_and, is_ran, ran_of}
-use Rattle.cfi_rules.proofs.OnRan.{on_ran}
-use Rattle.cfi_rules.proofs.OneHart.{may_come, one_may_run, steps_of}
+use Rattle.cfi_rules.proofs.OneHart.{one_may_run}
 use Rattle.cfi_rules.proofs.Starts.{machine_may_start}
+use Rattle.cfi_rules.proofs.Taken.{AreDataChanges, alone_taken, may_come, steps_of, taken_alone}
 use Rattle.cfi_rules.proofs.Unsafe.{calm_is_data}
-use Rattle.cfi_confined.specs.Confined.{ConfinedAlong, IsConfined, MayEcall, MayStop, Moves, Pending, SavesNewest, WritesOwn, fetched, slot_for, with_pending}
-use Rattle.cfi_confined.specs.Unconfined.{FaultsAreUnconfined, borrowed_edge, borrowed_edge_graph, running_handler, early_return, early_return_graph, long_branch, long_branch_graph, unlisted_entry, unlisted_entry_graph, unlisted_jump, unlisted_jump_graph, lean_graph, moved_link, saved_high, saved_pointer, short_call, short_call_graph}
+use Rattle.cfi_confined.specs.Confined.{ConfinedAlong, IsConfined, IsConfinedStep, Moves, Pending, Writes, fetched, with_pending}
+use Rattle.cfi_confined.specs.Unconfined.{FaultsAreUnconfined, borrowed_edge, borrowed_edge_graph, running_handler, early_return, early_return_graph, long_branch, long_branch_graph, unlisted_entry, unlisted_entry_graph, unlisted_jump, unlisted_jump_graph, lean_graph, moved_link, saved_early, saved_high, saved_pointer, short_call, short_call_graph}
 
 -- no call and no return
 abbrev is_keeping : Option Instr → Bool
@@ -55,31 +56,21 @@ module _ (p : Profile) (graph : GraphParts) where
     AloneAlong pending h s (cs ∷ rest) =
         let now = disturbed s cs in
         let after = step p h now in
-        MayStop p h.pc after.turn
-        × MayEcall p graph (fetched now.memory h.pc) h.pc (h.regs 17)
-        × WritesOwn (part_of k) (slot_for p (length pending)) now.memory after.shared.memory
-        × SavesNewest p.callee_saves (part_of k) pending now.memory after.shared.memory
-        × OnRan after.turn
-        ((newer : List ℕ)
-        × Moves p graph (fetched now.memory) (fetched now.memory h.pc) h.pc pending after.hart.pc newer
-        × AloneAlong newer after.hart after.shared rest)
-        (Unit {0})
+        (newer : List ℕ)
+        × IsConfinedStep p graph pending (record { hart = k; before = h; shared = now; after = after }) newer
+        × (after.turn ≡ Ran → AloneAlong newer after.hart after.shared rest)
 
-    alone : (changes : List (List ByteChange)) (pending : Pending) (harts : Harts) (s : Shared) → ConfinedAlong p graph pending harts s (steps_of k changes) →
-        AloneAlong (pending k) (harts k) s changes
-    alone [] pending harts s c = tt
-    alone (cs ∷ rest) pending harts s c =
-        let after = step p (harts k) (disturbed s cs) in
-        let Rest : List ℕ → Hart → Type 0 = λ pending h. AloneAlong pending h after.shared rest in (
+    alone : (changes : List (List ByteChange)) (pending : Pending) (h : Hart) (s : Shared) → ConfinedAlong p graph pending (taken_alone p k h s changes) →
+        AloneAlong (pending k) h s changes
+    alone [] pending h s c = tt
+    alone (cs ∷ rest) pending h s c =
+        let after = step p h (disturbed s cs) in (
           c.0,
           c.1,
-          c.2,
-          c.3,
-          on_ran after.turn _ (Unit {0}) _ (Unit {0})
-              (λ on.
-              let later : Rest (if k == k then on.0 else pending k) (if k == k then after.hart else harts k) =
-              alone rest (with_pending pending k on.0) (with_hart harts k after.hart) after.shared on.3 in
-              (on.0, on.2, subst (λ (b : Bool). Rest (if b then on.0 else pending k) (if b then after.hart else harts k)) (eq-eqb k k refl) later)) (λ none. none) c.4,
+          λ ran.
+              let on : ConfinedAlong p graph (with_pending pending k c.0) (taken_alone p k after.hart after.shared rest) = rw ran at c.2 in
+              let later : AloneAlong (if k == k then c.0 else pending k) after.hart after.shared rest = alone rest (with_pending pending k c.0) after.hart after.shared on in
+              subst (λ (b : Bool). AloneAlong (if b then c.0 else pending k) after.hart after.shared rest) (eq-eqb k k refl) later,
         )
 
     -- some undisturbed steps run, none of which is a call or a return
@@ -96,13 +87,21 @@ module _ (p : Profile) (graph : GraphParts) where
         let a = step p h s in
         let runs = and_parts (is_ran a.turn) (is_keeping (fetched s.memory h.pc) && all_keep n a.hart a.shared) run in
         let parts = and_parts (is_keeping (fetched s.memory h.pc)) (all_keep n a.hart a.shared) runs.1 in
-        let on = rw (ran_of a.turn runs.0) at c.4 in
-        let same = keeps (fetched s.memory) (fetched s.memory h.pc) h.pc pending a.hart.pc on.0 parts.0 on.1 in
-        later n pending a.hart a.shared rest parts.1 (subst (λ (l : List ℕ). AloneAlong l a.hart a.shared (calm n ++ rest)) same on.2)
+        let ran = ran_of a.turn runs.0 in
+        let same = keeps (fetched s.memory) (fetched s.memory h.pc) h.pc pending a.hart.pc c.0 parts.0 (c.1.leads ran).1 in
+        later n pending a.hart a.shared rest parts.1 (subst (λ (l : List ℕ). AloneAlong l a.hart a.shared (calm n ++ rest)) same (c.2 ran))
 
 -- hart 0 of an image after some undisturbed steps
 abbrev after_steps : Profile → Contents → ℕ → After
 after_steps p image n = after_calm p n (start_hart 0) (start_shared image [])
+
+-- the run of hart 0 alone is confined
+hart_0 : (p : Profile) (image : Contents) (graph : GraphParts) (count : ℕ) (changes : List (List ByteChange)) → MayRun p count → 0 < count → IsConfined p image graph → AreDataChanges changes →
+    AloneAlong p graph 0 [] (start_hart 0) (start_shared image []) changes
+hart_0 p image graph count changes may some confined low =
+    alone p graph 0 changes (λ k. []) (start_hart 0) (start_shared image [])
+    (subst (λ (taken : List TakenStep). ConfinedAlong p graph (λ k. []) taken) (alone_taken p 0 changes start_hart (start_shared image []))
+    (confined count may start_hart (start_shared image []) (machine_may_start image [] count) (steps_of 0 changes) (may_come count 0 some changes low)))
 
 -- the undisturbed run of hart 0 is confined after some steps without a call
 from_start : (p : Profile) (image : Contents) (graph : GraphParts) (count n more : ℕ) → MayRun p count → 0 < count → IsConfined p image graph →
@@ -110,8 +109,7 @@ from_start : (p : Profile) (image : Contents) (graph : GraphParts) (count n more
 from_start p image graph count n more may some confined run =
     let changes : List (List ByteChange) = calm n ++ calm more in
     later p graph 0 n [] (start_hart 0) (start_shared image []) (calm more) run
-    (alone p graph 0 changes (λ k. []) start_hart (start_shared image [])
-    (confined count may start_hart (start_shared image []) (machine_may_start image [] count) (steps_of 0 changes) (may_come count 0 some changes (calm_and n (calm more) (calm_is_data more)))))
+    (hart_0 p image graph count changes may some confined (calm_and n (calm more) (calm_is_data more)))
 
 several : (image : Contents) (graph : GraphParts) (n : ℕ) → IsConfined version_2 image graph → all_keep version_2 graph 0 n (start_hart 0) (start_shared image []) ≡ true →
     AloneAlong version_2 graph 0 [] (after_steps version_2 image n).hart (after_steps version_2 image n).shared (calm 1)
@@ -135,11 +133,9 @@ module _ (p : Profile) (laid : LaidOut p) (first : ℕ) (image : Contents) (grap
       let start = start_shared image [] in
       let changes : List (List ByteChange) = [] ∷ (calm n ++ calm more) in
       let c = later p graph 0 first [] (start_hart 0) start changes opens
-      (alone p graph 0 (calm first ++ changes) (λ k. []) start_hart start
-      (confined 1 (one_may_run p laid) start_hart start (machine_may_start image [] 1) (steps_of 0 (calm first ++ changes))
-      (may_come 1 0 (lit< tt) (calm first ++ changes) (calm_and first changes (tt, calm_and n (calm more) (calm_is_data more)))))) in
-      let on = rw (ran_of entered.turn ran) at c.4 in
-      (on.0, on.1, later p graph 0 n on.0 entered.hart entered.shared (calm more) run on.2)
+      (hart_0 p image graph 1 (calm first ++ changes) (one_may_run p laid) (lit< tt) confined (calm_and first changes (tt, calm_and n (calm more) (calm_is_data more)))) in
+      let goes = ran_of entered.turn ran in
+      (c.0, (c.1.leads goes).1, later p graph 0 n c.0 entered.hart entered.shared (calm more) run (c.2 goes))
 
 -- the tenth step is the opening's call
 lone : (image : Contents) (graph : GraphParts) (n more : ℕ) → IsConfined version_1 image graph → all_keep version_1 graph 0 n (start_hart 0) (start_shared image []) ≡ true →
@@ -168,7 +164,7 @@ jump_unconfined : IsConfined version_1 unlisted_jump unlisted_jump_graph → ⊥
 unfolding loaded placed decoded code_of step write last_exit after_calm is_ran all_keep
 jump_unconfined confined =
     let c = called unlisted_jump unlisted_jump_graph 0 1 confined refl refl refl in
-    elim c.1.4.1 [
+    elim (c.1.1.leads refl).1 [
       | inl (zero_is, inl low, same) ↦ let end = low.1 in omega arith
       | inl (zero_is, inr (inl edge), same) ↦ no_edge _ _ _ _ edge
       | inl (zero_is, inr (inr edge), same) ↦ no_edge _ _ _ _ edge.1
@@ -179,7 +175,7 @@ branch_unconfined : IsConfined version_1 long_branch long_branch_graph → ⊥
 unfolding loaded placed decoded code_of step write last_exit after_calm is_ran all_keep
 branch_unconfined confined =
     let c = called long_branch long_branch_graph 0 1 confined refl refl refl in
-    elim c.1.4.1.0 [
+    elim (c.1.1.leads refl).1.0 [
       | inl (inl next) ↦ omega arith
       | inl (inr (inl over)) ↦ omega arith
       | inl (inr (inr (low, high, call))) ↦ absurd (cc)
@@ -190,7 +186,7 @@ entry_unconfined : IsConfined version_1 unlisted_entry unlisted_entry_graph → 
 unfolding loaded placed decoded code_of step write last_exit after_calm is_ran all_keep
 entry_unconfined confined =
     let c = lone unlisted_entry unlisted_entry_graph 9 1 confined refl in
-    elim c.4.1 [
+    elim (c.1.leads refl).1 [
       | inl (zero_is, to, same) ↦ differ refl zero_is
       | inr (one_is, (k, below, is), new) ↦ omega arith
     ]
@@ -216,7 +212,7 @@ target_unconfined : IsConfined version_1 astray_call astray_call_graph → ⊥
 unfolding loaded placed decoded code_of words_of step write last_exit after_calm is_ran all_keep
 target_unconfined confined =
     let c = called astray_call astray_call_graph 16 1 confined refl refl refl in
-    elim c.1.4.1 [
+    elim (c.1.1.leads refl).1 [
       | inl (zero_is, to) ↦ differ refl zero_is
       | inr (one_is, site, new) ↦ elim site.class [
         | inl class ↦
@@ -238,14 +234,14 @@ return_unconfined : IsConfined version_1 early_return early_return_graph → ⊥
 unfolding loaded placed decoded code_of step write last_exit after_calm is_ran all_keep
 return_unconfined confined =
     let c = called early_return early_return_graph 0 3 confined refl refl refl in
-    let call = c.1.4 in
-    let jump = call.2.4 in
-    let back = jump.2.4 in
-    elim call.1 [
+    let call = c.1 in
+    let jump = call.2 refl in
+    let back = jump.2 refl in
+    elim (call.1.leads refl).1 [
       | inl (zero_is, to, same) ↦ differ refl zero_is
-      | inr (one_is, line, new) ↦ elim jump.1 [
+      | inr (one_is, line, new) ↦ elim (jump.1.leads refl).1 [
         | inl (zero_is, inl (none, pops)) ↦ none K.Jump 1 (2, lit< tt, refl)
-        | inl (zero_is, inr (site, same)) ↦ elim back.1 [
+        | inl (zero_is, inr (site, same)) ↦ elim (back.1.leads refl).1 [
           | inl (zero_too, inl (none, pops)) ↦
               let first : slice_get (0x40000044 ∷ c.0) 0 ≡ slice_get (0x40000038 ∷ back.0) 0 = ap (λ (l : List ℕ). slice_get l 0) (sym new ∙ sym same ∙ pops) in
               differ refl (same_Some 0x40000044 0x40000038 first)
@@ -266,7 +262,7 @@ borrowed_unconfined : IsConfined version_1 borrowed_edge borrowed_edge_graph →
 unfolding loaded placed decoded code_of step write last_exit after_calm is_ran all_keep
 borrowed_unconfined confined =
     let c = called borrowed_edge borrowed_edge_graph 1 1 confined refl refl refl in
-    elim c.1.4.1 [
+    elim (c.1.1.leads refl).1 [
       | inl (zero_is, inl low, same) ↦ let end = low.1 in omega arith
       | inl (zero_is, inr (inl edge), same) ↦ other_edge _ _ refl edge
       | inl (zero_is, inr (inr (over, edge)), same) ↦ differ refl over
@@ -276,41 +272,41 @@ borrowed_unconfined confined =
 -- a handler stands twelve steps on
 run_unconfined : IsConfined version_1 running_handler handler_graph → ⊥
 unfolding loaded placed decoded code_of step write last_exit after_calm is_ran all_keep
-run_unconfined confined = let c = called running_handler handler_graph 2 1 confined refl refl refl in let low = c.1.0 in omega arith
+run_unconfined confined = let c = called running_handler handler_graph 2 1 confined refl refl refl in let low = c.1.1.ends in omega arith
 
 load_fault_unconfined : IsConfined version_1 loading_handler handler_graph → ⊥
 unfolding loaded placed decoded code_of step write last_exit after_calm is_ran all_keep
-load_fault_unconfined confined = let c = called loading_handler handler_graph 2 1 confined refl refl refl in let low = c.1.0 in omega arith
+load_fault_unconfined confined = let c = called loading_handler handler_graph 2 1 confined refl refl refl in let low = c.1.1.ends in omega arith
 
 store_fault_unconfined : IsConfined version_1 storing_handler handler_graph → ⊥
 unfolding loaded placed decoded code_of step write last_exit after_calm is_ran all_keep
-store_fault_unconfined confined = (called storing_handler handler_graph 2 1 confined refl refl refl).1.0
+store_fault_unconfined confined = (called storing_handler handler_graph 2 1 confined refl refl refl).1.1.ends
 
 illegal_unconfined : IsConfined version_1 illegal_handler handler_graph → ⊥
 unfolding loaded placed decoded code_of step write last_exit after_calm is_ran all_keep
-illegal_unconfined confined = (called illegal_handler handler_graph 2 1 confined refl refl refl).1.0
+illegal_unconfined confined = (called illegal_handler handler_graph 2 1 confined refl refl refl).1.1.ends
 
 -- a return comes before it
 break_unconfined : IsConfined version_1 breaking_closing breaking_closing_graph → ⊥
 unfolding loaded placed decoded code_of step write last_exit after_calm is_ran all_keep
 break_unconfined confined =
     let c = called breaking_closing breaking_closing_graph 3 3 confined refl refl refl in
-    elim c.1.4.2.4.2.0 [ inl low ↦ let end = low.1 in omega arith | inr past ↦ omega arith ]
+    elim ((c.1.2 refl).2 refl).1.ends [ inl low ↦ let end = low.1 in omega arith | inr past ↦ omega arith ]
 
 call_unconfined : IsConfined version_2 calling_opening one_pointer_graph → ⊥
 unfolding loaded placed decoded code_of step write last_exit after_calm is_ran all_keep
 call_unconfined confined =
     let c = several calling_opening one_pointer_graph 5 confined refl in
-    elim c.1 [ inl past ↦ let low = past.0 in omega arith | inr closing ↦ let here = closing.0 in omega arith ]
+    elim c.1.calls [ inl past ↦ let low = past.0 in omega arith | inr closing ↦ let here = closing.0 in omega arith ]
 
 -- the site's lowest byte is in slot 1
 slot_unconfined : IsConfined version_1 high_pointer opening_graph → ⊥
 unfolding loaded placed decoded code_of step write last_exit after_calm is_ran all_keep
-slot_unconfined confined = let c = lone high_pointer opening_graph 7 1 confined refl in differ refl (c.2 0x60000010 (lit≤ tt) (inr (inl (lit≤ tt))))
+slot_unconfined confined = let c = lone high_pointer opening_graph 7 1 confined refl in differ refl (c.1.writes 0x60000010 (lit≤ tt) (inr (inl (lit≤ tt))))
 
 part_unconfined : IsConfined version_2 storing_opening one_pointer_graph → ⊥
 unfolding loaded placed decoded code_of step write last_exit after_calm is_ran all_keep
-part_unconfined confined = let c = several storing_opening one_pointer_graph 8 confined refl in differ refl (c.2 0x600407f2 (lit≤ tt) (inr (inr (lit≤ tt))))
+part_unconfined confined = let c = several storing_opening one_pointer_graph 8 confined refl in differ refl (c.1.writes 0x600407f2 (lit≤ tt) (inr (inr (lit≤ tt))))
 
 -- where callees save sites, the sixth step is the opening's call, and leaves the closing as the newest site
 the_lean : LaidOut lean_version_1
@@ -326,14 +322,20 @@ module _ (image : Contents) (graph : GraphParts) where
   lean_pending pending (inl (zero_is, to, same)) = absurd (differ refl zero_is)
   lean_pending pending (inr (one_is, line, new)) = new
 
+-- before the call no call is pending, so that no slot may be written
+early_unconfined : IsConfined lean_version_1 saved_early lean_opening_graph → ⊥
+unfolding loaded placed decoded code_of step write last_exit after_calm is_ran all_keep
+early_unconfined confined =
+    let c = lone_of lean_version_1 the_lean 5 saved_early lean_opening_graph 4 1 confined refl in differ refl (c.1.writes 0x60000008 (lit≤ tt))
+
 saved_unconfined : IsConfined lean_version_1 saved_pointer (lean_graph 0x30) → ⊥
 unfolding loaded placed decoded code_of step write last_exit after_calm is_ran all_keep
 saved_unconfined confined =
     let c = called_of lean_version_1 the_lean 5 saved_pointer (lean_graph 0x30) 0 1 confined refl refl refl in
     let pending = lean_pending saved_pointer (lean_graph 0x30) c.0 c.1 in
     let e = entered lean_version_1 the_lean 5 saved_pointer (lean_graph 0x30) in
-    let saves = subst (λ (l : List ℕ). SavesNewest true (part_of 0) l e.shared.memory (step lean_version_1 e.hart e.shared).shared.memory) pending c.2.3 in
-    elim saves [
+    let writes = subst (λ (l : List ℕ). Writes true (part_of 0) l e.shared.memory (step lean_version_1 e.hart e.shared).shared.memory) pending c.2.1.writes in
+    elim writes.1 [
       | inl before ↦ differ refl before
       | inr newest ↦ differ refl newest
     ]
@@ -345,8 +347,8 @@ high_unconfined confined =
     let c = called_of lean_version_1 the_lean 5 saved_high (lean_graph 0x30) 0 1 confined refl refl refl in
     let pending = lean_pending saved_high (lean_graph 0x30) c.0 c.1 in
     let e = entered lean_version_1 the_lean 5 saved_high (lean_graph 0x30) in
-    let writes = subst (λ (l : List ℕ). WritesOwn (part_of 0) (length l - 1) e.shared.memory (step lean_version_1 e.hart e.shared).shared.memory) pending c.2.2 in
-    differ refl (writes 0x60000010 (lit≤ tt) (inr (inl (lit≤ tt))))
+    let writes = subst (λ (l : List ℕ). Writes true (part_of 0) l e.shared.memory (step lean_version_1 e.hart e.shared).shared.memory) pending c.2.1.writes in
+    differ refl (writes.0 0x60000010 (lit≤ tt) (inr (inl (lit≤ tt))))
 
 no_site_line : (kind : SiteKind) (a b c label : ℕ) → Contains (Call a b ∷ []) (Site c kind label) → ⊥
 no_site_line kind a b c label (zero, below, is) = absurd (cc)
@@ -357,9 +359,9 @@ unfolding loaded placed decoded code_of step write last_exit after_calm is_ran a
 link_unconfined confined =
     let c = called_of lean_version_1 the_lean 5 moved_link (lean_graph 0x34) 1 1 confined refl refl refl in
     let pending = lean_pending moved_link (lean_graph 0x34) c.0 c.1 in
-    elim c.2.4.1 [
+    elim (c.2.1.leads refl).1 [
       | inl (zero_is, inl (none, pops)) ↦
-          let first : slice_get (0x40000024 ∷ []) 0 ≡ slice_get (0x40000028 ∷ c.2.4.0) 0 = ap (λ (l : List ℕ). slice_get l 0) (sym pending ∙ pops) in
+          let first : slice_get (0x40000024 ∷ []) 0 ≡ slice_get (0x40000028 ∷ c.2.0) 0 = ap (λ (l : List ℕ). slice_get l 0) (sym pending ∙ pops) in
           differ refl (same_Some 0x40000024 0x40000028 first)
       | inl (zero_is, inr (site, same)) ↦ no_site_line K.Jump _ _ _ site.label site.listed
       | inr other ↦ differ refl other.0
@@ -386,7 +388,7 @@ gate_unconfined : IsConfined lean_version_1 short_call short_call_graph → ⊥
 unfolding loaded placed decoded code_of step write last_exit after_calm is_ran all_keep
 gate_unconfined confined =
     let c = called_of lean_version_1 the_lean 5 short_call short_call_graph 1 1 confined refl refl refl in
-    elim c.2.4.1 [
+    elim (c.2.1.leads refl).1 [
       | inl (zero_is, to) ↦ differ refl zero_is
       | inr (one_is, site, new) ↦ elim site.class [
         | inl class ↦
@@ -414,6 +416,7 @@ faults_unconfined = record {
   slot = slot_unconfined;
   part = part_unconfined;
   lean = record {
+    early = early_unconfined;
     saved = saved_unconfined;
     slot = high_unconfined;
     link = link_unconfined;

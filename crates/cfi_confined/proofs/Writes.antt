@@ -1,7 +1,6 @@
 -- What an executed instruction writes, from what is known of its word: data, or a slot of the own part of the shadow stack, or
 -- nothing. Where callees save sites, the slot is that of the newest site, and that site is what is written.
-use Rattle.std.proofs.Common.{◌≡◌, ℕ, ◌+◌, ◌-◌, ◌^◌, ◌<◌, ◌≤◌, ◌⊎◌, inl, inr, Bool, true, false, List, [], ◌∷◌, length, refl, sym, ap, subst, ◌∙◌, arith}
-use Rattle.std.specs.Prelude.{if◌then◌else◌}
+use Rattle.std.proofs.Common.{◌≡◌, ℕ, ◌+◌, ◌^◌, ◌<◌, ◌≤◌, ◌⊎◌, inl, inr, Bool, true, false, List, [], ◌∷◌, length, refl, ap, subst, ◌∙◌, arith}
 use Rattle.std.proofs.lemmas.Bool.{cond_both}
 use Rattle.rv_word.specs.MemoryMap.{DATA_END, PART_SIZE, Profile, can_load, can_store}
 use Rattle.rv_word.specs.Memory.{Memory, read, write}
@@ -21,61 +20,36 @@ use Rattle.cfi_unit.specs.declared.unit.Unit.TheVariants as V
 use Rattle.cfi_unit.specs.Shadow.{slot, MOST_PENDING}
 use Rattle.cfi_unit.proofs.Regions.{store_size-small}
 use Rattle.cfi_pending.specs.Starts.{StandsBy, fresh}
-use Rattle.cfi_confined.specs.Confined.{SavesNewest, WritesOwn, slot_for}
+use Rattle.cfi_confined.specs.Confined.{Writes, WritesData, WritesOwn}
 use Rattle.cfi_confined.proofs.Words.{Fact, SavesLink, StoreFact}
 
 -- nothing past data is written, so no slot is
-kept_newest : (callee_saves : Bool) (part : ℕ) (pending : List ℕ) (m m' : Memory) → DATA_END ≤ part → ((k : ℕ) → DATA_END ≤ k → m' k ≡ m k) →
-    SavesNewest callee_saves part pending m m'
-kept_newest false part pending m m' high same = tt
-kept_newest true part [] m m' high same = tt
-kept_newest true part (site ∷ pending) m m' high same = inl (read_same 8 m m' (slot part (length pending)) (λ k from to. same k (omega arith)))
+quiet_writes : (callee_saves : Bool) (part : ℕ) (pending : List ℕ) (m m' : Memory) → DATA_END ≤ part → WritesData m m' → Writes callee_saves part pending m m'
+quiet_writes false part pending m m' high same = λ k above out. same k above
+quiet_writes true part [] m m' high same = same
+quiet_writes true part (site ∷ older) m m' high same = ((λ k above out. same k above), inl (read_same 8 m m' (slot part (length older)) (λ k from to. same k (omega arith))))
+
+-- what lies below a hart's part is written in data alone
+pub below_part : (callee_saves : Bool) (part : ℕ) (pending : List ℕ) (m m' : Memory) → Writes callee_saves part pending m m' → (k : ℕ) → DATA_END ≤ k → k < part → m' k ≡ m k
+below_part false part pending m m' writes k above below = writes k above (inl (omega arith))
+below_part true part [] m m' writes k above below = writes k above
+below_part true part (site ∷ older) m m' writes k above below = writes.0 k above (inl (omega arith))
 
 -- of the pending sites all stand on the shadow stack where callers save them; at an enter all but the newest, which is in x1
 module _ (p : Profile) (part : ℕ) (high : DATA_END ≤ part) (image : Memory) (at : ℕ) (pending stacked : List ℕ) (r : Registers) (h : Hart) (s : Shared) (place : Place)
     (full : p.callee_saves ≡ false → stacked ≡ pending) (lean : place ≡ body V.Enter → StandsBy fresh r pending stacked × (r 1 < 2 ^ 64)) where
   pub record Written (a : After) : Type 0 where
-    pub own : WritesOwn part (slot_for p (length pending)) s.memory a.shared.memory
-    pub newest : SavesNewest p.callee_saves part pending s.memory a.shared.memory
+    pub here : Writes p.callee_saves part pending s.memory a.shared.memory
 
   abbrev Quiet : After → Type 0
-  Quiet a = (k : ℕ) → DATA_END ≤ k → a.shared.memory k ≡ s.memory k
+  Quiet a = WritesData s.memory a.shared.memory
 
   quietly : (a : After) → Quiet a → Written a
-  quietly a quiet = record { own = λ k above out. quiet k above; newest = kept_newest p.callee_saves part pending s.memory a.shared.memory high quiet }
+  quietly a quiet = record { here = quiet_writes p.callee_saves part pending s.memory a.shared.memory high quiet }
 
   call_quiet : (a : After) → AfterCall h s a → Quiet a
   call_quiet a (answered t pc regs going same) k above = same k (omega arith)
   call_quiet a (ended status t same) k above = ap (λ (m : Memory). m k) same
-
-  -- the slot of a store to the shadow stack
-  tail_length : (sites : List ℕ) → StandsBy fresh r sites stacked → length sites - 1 ≡ length stacked
-  tail_length [] stands = absurd stands
-  tail_length (site ∷ older) stands = let same = ap length stands.1 in omega arith
-
-  slot_is : (op : StoreOp) (rs2 : ℕ) (callee_saves : Bool) → p.callee_saves ≡ callee_saves → SavesLink p part image at stacked r h callee_saves place op rs2 →
-      (if callee_saves then length pending - 1 else length pending) ≡ length stacked
-  slot_is op rs2 false saves link = ap length (sym (full saves))
-  slot_is op rs2 true saves link = tail_length pending (lean link.0).0
-
-  -- and what is stored there
-  link_newest : (op : StoreOp) (rs2 a : ℕ) (callee_saves : Bool) (sites : List ℕ) → SavesLink p part image at stacked r h callee_saves place op rs2 →
-      (place ≡ body V.Enter → StandsBy fresh r sites stacked × (r 1 < 2 ^ 64)) → a ≡ slot part (length stacked) →
-      SavesNewest callee_saves part sites s.memory (write (store_size op) s.memory a (get_reg h.regs rs2))
-  link_newest op rs2 a false sites link stands to = tt
-  link_newest op rs2 a true [] link stands to = tt
-  link_newest op rs2 a true (site ∷ older) link stands to =
-      let here = stands link.0 in
-      let newest : h.regs 1 ≡ site = link.3 ∙ here.0.0 in
-      let there : a ≡ slot part (length older) = to ∙ ap (λ (l : List ℕ). slot part (length l)) here.0.1 in
-      let whole : read 8 (write 8 s.memory (slot part (length older)) (h.regs 1)) (slot part (length older)) ≡ h.regs 1 =
-      read_write 8 s.memory (slot part (length older)) (h.regs 1) (let low = here.1 in let same = link.3 in omega arith) in
-      let stored : read 8 (write (store_size op) s.memory a (get_reg h.regs rs2)) (slot part (length older)) ≡ h.regs 1 =
-      ap (λ (o : StoreOp). read 8 (write (store_size o) s.memory a (get_reg h.regs rs2)) (slot part (length older))) link.1
-      ∙ ap (λ n. read 8 (write 8 s.memory a (get_reg h.regs n)) (slot part (length older))) link.2
-      ∙ ap (λ b. read 8 (write 8 s.memory b (h.regs 1)) (slot part (length older))) there
-      ∙ whole in
-      inr (stored ∙ newest)
 
   -- what is beside the slot is beside what is stored there
   abbrev Beside : ℕ → ℕ → Type 0
@@ -86,6 +60,28 @@ module _ (p : Profile) (part : ℕ) (high : DATA_END ≤ part) (image : Memory) 
   apart a n k few to room (inr (inl above)) = inr (omega arith)
   apart a n k few to room (inr (inr past)) = inr (omega arith)
 
+  -- what a store to the shadow stack leaves
+  abbrev stored : StoreOp → ℕ → ℕ → Memory
+  stored op rs2 a = write (store_size op) s.memory a (get_reg h.regs rs2)
+
+  slot_writes : (op : StoreOp) (rs2 a : ℕ) (callee_saves : Bool) (sites : List ℕ) → SavesLink p part image at stacked r h callee_saves place op rs2 →
+      (callee_saves ≡ false → stacked ≡ sites) → (place ≡ body V.Enter → StandsBy fresh r sites stacked × (r 1 < 2 ^ 64)) → a ≡ slot part (length stacked) →
+      WritesOwn part (length stacked) s.memory (stored op rs2 a) → Writes callee_saves part sites s.memory (stored op rs2 a)
+  slot_writes op rs2 a false sites link all stands to own = subst (λ (l : List ℕ). WritesOwn part (length l) s.memory (stored op rs2 a)) (all refl) own
+  slot_writes op rs2 a true [] link all stands to own = absurd (stands link.0).0
+  slot_writes op rs2 a true (site ∷ older) link all stands to own =
+      let here = stands link.0 in
+      let newest : h.regs 1 ≡ site = link.3 ∙ here.0.0 in
+      let there : a ≡ slot part (length older) = to ∙ ap (λ (l : List ℕ). slot part (length l)) here.0.1 in
+      let whole : read 8 (write 8 s.memory (slot part (length older)) (h.regs 1)) (slot part (length older)) ≡ h.regs 1 =
+      read_write 8 s.memory (slot part (length older)) (h.regs 1) (let low = here.1 in let same = link.3 in omega arith) in
+      let stored_is : read 8 (stored op rs2 a) (slot part (length older)) ≡ h.regs 1 =
+      ap (λ (o : StoreOp). read 8 (write (store_size o) s.memory a (get_reg h.regs rs2)) (slot part (length older))) link.1
+      ∙ ap (λ n. read 8 (write 8 s.memory a (get_reg h.regs n)) (slot part (length older))) link.2
+      ∙ ap (λ b. read 8 (write 8 s.memory b (h.regs 1)) (slot part (length older))) there
+      ∙ whole in
+      (subst (λ (l : List ℕ). WritesOwn part (length l) s.memory (stored op rs2 a)) here.0.1 own, inr (stored_is ∙ newest))
+
   store_writes : (op : StoreOp) (rs2 a : ℕ) → StoreFact p part image at stacked r h place op rs2 a → Written (store_at p op (get_reg h.regs rs2) h s a)
   store_writes op rs2 a (inr low) =
       cond_both (can_store p a (store_size op)) _ _ Written
@@ -94,9 +90,10 @@ module _ (p : Profile) (part : ℕ) (high : DATA_END ≤ part) (image : Memory) 
   store_writes op rs2 a (inl (to, room, link)) =
       cond_both (can_store p a (store_size op)) _ _ Written
       (λ can. record {
-        own = λ k above out. write_outside (store_size op) s.memory a (get_reg h.regs rs2) k (apart a (store_size op) k (store_size-small op) to room (subst (Beside k) (slot_is op rs2 p.callee_saves refl link) out));
-        newest = link_newest op rs2 a p.callee_saves pending link lean to;
-      }) (λ cannot. quietly _ (λ k above. refl))
+        here = slot_writes op rs2 a p.callee_saves pending link full lean to
+            (λ k above out. write_outside (store_size op) s.memory a (get_reg h.regs rs2) k (apart a (store_size op) k (store_size-small op) to room out));
+      })
+      (λ cannot. quietly _ (λ k above. refl))
 
   pub writes : (k : ℕ) (i : Instr) → Fact p part image at stacked r h place k i → Written (exec p i h s)
   writes k (Branch op rs1 rs2 imm) fact =

@@ -11,9 +11,8 @@ use Rattle.rv_word.specs.Numbers.{is_listed}
 use Rattle.rv_instr.specs.declared.instr.Instr.{Instr}
 use Rattle.rv_instr.specs.declared.instr.Instr.TheVariants.{Branch, Jal, Jalr, Ecall}
 use Rattle.rv_code.specs.Decode.{decoded}
-use Rattle.rv_code.specs.Run.{HartStep, disturbed}
-use Rattle.rv_code.specs.State.{Harts, Shared, with_hart}
-use Rattle.rv_code.specs.Step.{step}
+use Rattle.rv_code.specs.Run.{HartStep}
+use Rattle.rv_code.specs.State.{Harts, Shared}
 use Rattle.rv_code.specs.declared.turn.Turn.{Turn}
 use Rattle.rv_code.specs.declared.turn.Turn.TheVariants.{Ran, Exit, Break, LoadFault, StoreFault, FetchFault, Illegal}
 use Rattle.cfi_graph.specs.declared.line.GraphLine.{GraphLine}
@@ -24,7 +23,8 @@ use Rattle.cfi_graph.specs.declared.line.SiteKind.{SiteKind}
 use Rattle.cfi_graph.specs.declared.line.SiteKind.TheVariants as K
 use Rattle.cfi_graph.specs.Graph.{GraphParts, calls_in}
 use Rattle.cfi_unit.specs.Shadow.{slot, MOST_PENDING}
-use Rattle.cfi_rules.specs.Along.{AreStepsOf, MayStart, OnRan}
+use Rattle.cfi_rules.specs.Along.{AreStepsOf, MayStart}
+use Rattle.cfi_rules.specs.Taken.{TakenStep, steps_taken}
 
 -- Distances in code, by the version of its graph: how far before a computed transfer the address of its site
 -- line is, how far before a direct call that of its call line, how far past a class's target a computed transfer
@@ -55,11 +55,6 @@ most_skip CalleeSaves = 64
 -- how many calls may be pending: where callees save their return addresses one more, whose own is in x1 alone
 abbrev pub most_calls : Profile → ℕ
 most_calls p = if p.callee_saves then MOST_PENDING + 1 else MOST_PENDING
-
--- which slot of the shadow stack may be written while so many calls are pending: that of the next call, or, where
--- callees save, that of the newest one
-abbrev pub slot_for : Profile → ℕ → ℕ
-slot_for p n = if p.callee_saves then n - 1 else n
 
 -- the sort of the classes that serve one kind of computed transfers alone, and the line of such a class
 abbrev pub sort_of : SiteKind → Sort
@@ -155,17 +150,33 @@ MayEcall p graph other pc number = Unit {0}
 abbrev pub fetched : Memory → ℕ → Option Instr
 fetched m a = decoded (read 4 m a)
 
+-- memory is as it was outside of data
+abbrev pub WritesData : Memory → Memory → Type 0
+WritesData before after = (a : ℕ) → DATA_END ≤ a → after a ≡ before a
+
 -- memory is as it was outside of data and of a slot in a hart's own part of the shadow stack
 abbrev pub WritesOwn : ℕ → ℕ → Memory → Memory → Type 0
 WritesOwn part n before after =
     (a : ℕ) → DATA_END ≤ a → (a < slot part n) ⊎ ((slot part n + 8 ≤ a) ⊎ (part + PART_SIZE ≤ a)) → after a ≡ before a
 
--- where callees save, what is written there is the return address of the newest call
-abbrev pub SavesNewest : Bool → ℕ → List ℕ → Memory → Memory → Type 0
-SavesNewest false part pending before after = Unit {0}
-SavesNewest true part [] before after = Unit {0}
-SavesNewest true part (site ∷ pending) before after =
-    let slot_at = slot part (length pending) in (read 8 after slot_at ≡ read 8 before slot_at) ⊎ (read 8 after slot_at ≡ site)
+-- what may be written, by the calls that are pending: data, and the slot of the next call; where callees save, that of
+-- the newest call, and there its return address, and no slot where none is pending
+abbrev pub Writes : Bool → ℕ → List ℕ → Memory → Memory → Type 0
+Writes false part pending before after = WritesOwn part (length pending) before after
+Writes true part [] before after = WritesData before after
+Writes true part (site ∷ older) before after =
+    let slot_at = slot part (length older) in
+    WritesOwn part (length older) before after × ((read 8 after slot_at ≡ read 8 before slot_at) ⊎ (read 8 after slot_at ≡ site))
+
+-- a step is confined: how it ends, which system call it makes, what it writes, and, where the next step may come,
+-- where it leads; `pending` are the return addresses of the hart's calls before it, `newer` those after it
+pub record IsConfinedStep (p : Profile) (graph : GraphParts) (pending : List ℕ) (t : TakenStep) (newer : List ℕ) : Type 0 where
+  pub ends : MayStop p t.before.pc t.after.turn
+  pub calls : MayEcall p graph (fetched t.shared.memory t.before.pc) t.before.pc (t.before.regs 17)
+  pub writes : Writes p.callee_saves (part_of t.hart) pending t.shared.memory t.after.shared.memory
+  pub leads : t.after.turn ≡ Ran
+      → (length newer ≤ most_calls p)
+      × Moves p graph (fetched t.shared.memory) (fetched t.shared.memory t.before.pc) t.before.pc pending t.after.hart.pc newer
 
 -- the return addresses of the pending calls of each hart
 abbrev pub Pending : Type 0
@@ -174,28 +185,17 @@ Pending = ℕ → List ℕ
 abbrev pub with_pending : Pending → ℕ → List ℕ → Pending
 with_pending pending k newer = λ j. if j == k then newer else pending j
 
--- the run from a state is confined, a step at a time
-abbrev pub ConfinedAlong : Profile → GraphParts → Pending → Harts → Shared → List HartStep → Type 0
-ConfinedAlong p graph pending harts s [] = Unit {0}
-ConfinedAlong p graph pending harts s (t ∷ rest) =
-    let h = harts t.hart in
-    let now = disturbed s t.changes in
-    let after = step p h now in
-    let code = fetched now.memory in
-    MayStop p h.pc after.turn
-    × MayEcall p graph (code h.pc) h.pc (h.regs 17)
-    × WritesOwn (part_of t.hart) (slot_for p (length (pending t.hart))) now.memory after.shared.memory
-    × SavesNewest p.callee_saves (part_of t.hart) (pending t.hart) now.memory after.shared.memory
-    × OnRan after.turn
-    ((newer : List ℕ)
-    × (length newer ≤ most_calls p)
-    × Moves p graph code (code h.pc) h.pc (pending t.hart) after.hart.pc newer
-    × ConfinedAlong p graph (with_pending pending t.hart newer) (with_hart harts t.hart after.hart) after.shared rest)
-    (Unit {0})
+-- the steps of a run are confined, one after another
+abbrev pub ConfinedAlong : Profile → GraphParts → Pending → List TakenStep → Type 0
+ConfinedAlong p graph pending [] = Unit {0}
+ConfinedAlong p graph pending (t ∷ rest) =
+    (newer : List ℕ)
+    × IsConfinedStep p graph (pending t.hart) t newer
+    × ConfinedAlong p graph (with_pending pending t.hart newer) rest
 
 -- confined: for every count of harts, every start, with no call pending, and every list of the harts' steps,
 -- between which data change
 abbrev pub IsConfined : Profile → Contents → GraphParts → Type 0
 IsConfined p image graph =
     (count : ℕ) → MayRun p count → (harts : Harts) (s : Shared) → MayStart image count harts s → (steps : List HartStep) → AreStepsOf count steps
-    → ConfinedAlong p graph (λ k. []) harts s steps
+    → ConfinedAlong p graph (λ k. []) (steps_taken p harts s steps)

@@ -11,7 +11,7 @@ use Rattle.cfi_graph.specs.declared.line.Sort.TheVariants as sorts
 use Rattle.cfi_graph.specs.declared.line.GraphLine.TheVariants.{Call, Class, Edge, Site}
 use Rattle.cfi_graph.specs.declared.line.SiteKind.TheVariants as K
 use Rattle.cfi_unit.specs.Prologue.{prologue_instrs}
-use Rattle.cfi_rules.specs.Unsafe.{astray_call, astray_call_graph, breaking_closing, breaking_closing_graph, bytes_of, calling_opening, graph_of, graph_with, handler_graph, handler_with, high_pointer, illegal_handler, image_with, loading_handler, one_pointer_graph, opening_graph, storing_handler, storing_opening}
+use Rattle.cfi_rules.specs.Unsafe.{astray_call, astray_call_graph, breaking_closing, breaking_closing_graph, bytes_of, calling_opening, graph_of, graph_with, handler_graph, handler_with, high_pointer, illegal_handler, image_with, lean_opening_graph, lean_opening_with, loading_handler, one_pointer_graph, opening_graph, storing_handler, storing_opening}
 use Rattle.cfi_confined.specs.Confined.{IsConfined}
 
 -- a jump to the stop that follows it, whose graph has no edge
@@ -61,6 +61,10 @@ lean_image_with words = record { version = OneHart; init = []; code = bytes_of (
 abbrev pub lean_graph_with : ℕ → List GraphLine → List GraphLine → GraphParts
 lean_graph_with len classes lines = record { version = CalleeSaves; code = len; lines = classes ++ (Call START lean_version_1.units_from ∷ lines) }
 
+-- an opening that stores x4 to the first slot before it calls, and leaves x3 at the part's start
+abbrev pub saved_early : Contents
+saved_early = lean_opening_with 7 0x0041b423
+
 -- a store of x3 to the slot of the newest site
 abbrev pub saved_pointer : Contents
 saved_pointer = lean_image_with (0x0031b023 ∷ [])
@@ -85,6 +89,7 @@ short_call_graph = lean_graph_with 0x34 (Class sorts.Both 1 (0x40000038 ∷ []) 
 
 -- such as are faults where callees save sites
 pub record LeanFaultsAreUnconfined : Type 0 where
+  pub early : IsConfined lean_version_1 saved_early lean_opening_graph → ⊥
   pub saved : IsConfined lean_version_1 saved_pointer (lean_graph 0x30) → ⊥
   pub slot : IsConfined lean_version_1 saved_high (lean_graph 0x30) → ⊥
   pub link : IsConfined lean_version_1 moved_link (lean_graph 0x34) → ⊥

@@ -14,7 +14,7 @@ pub mod StartKinds
 pub mod LeanOpening
 pub mod Leading
 pub mod Moves
-pub mod OnRan
+pub mod Taken
 pub mod Starts
 pub mod ListedRuns
 pub mod UnitIn

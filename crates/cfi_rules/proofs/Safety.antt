@@ -11,20 +11,23 @@ use Rattle.rv_word.proofs.Profiles.{laid_out}
 use Rattle.rv_code.specs.Run.{ByteChange, HartStep, IsDataChange, changed, disturbed}
 use Rattle.rv_code.specs.State.{Hart, Harts, Shared, After, last_exit, with_hart}
 use Rattle.rv_code.specs.Step.{step}
+use Rattle.rv_code.specs.declared.turn.Turn.TheVariants.{Ran}
 use Rattle.cfi_graph.specs.Graph.{GraphParts}
 use Rattle.cfi_unit.specs.Context.{IsCodeOf, Context}
 use Rattle.cfi_unit.specs.declared.place.Place.{Place}
 use Rattle.cfi_unit.specs.declared.place.Place.TheVariants.{Opening as opening}
 use Rattle.cfi_unit.proofs.Others.{other_part}
-use Rattle.cfi_rules.specs.Along.{Walk, Walks, with_walk, GoesOn, Arrives, Begun, MayStart, OnRan, RunsAlong, AreStepsOf, AllRunAlong}
+use Rattle.cfi_rules.specs.Along.{Walk, Walks, with_walk, GoesOn, Arrives, Begun, MayStart, RunsAlong, AreStepsOf, AllRunAlong}
 use Rattle.cfi_rules.specs.Rules.{IsWellFormed}
 use Rattle.cfi_rules.specs.Split.{code_words, place_at, unit_words}
+use Rattle.cfi_rules.specs.Taken.{TakenStep, steps_taken}
 use Rattle.cfi_rules.specs.Laws.{AreBytes, WellFormedIsSafe}
 use Rattle.cfi_rules.proofs.Bytes.{are_words}
 use Rattle.cfi_rules.proofs.CodeSplit.{code_is_split}
 use Rattle.cfi_rules.proofs.Places.{prologue, place_facts, nothing_inside, at_opening}
 use Rattle.cfi_rules.proofs.Reading.{places_same, split_read}
 use Rattle.cfi_rules.proofs.Steps.{Inside, Now, Shadow, arrived, begins, now_kept, opens_at, starting, step_on, walk_at, within}
+use Rattle.cfi_rules.proofs.Taken.{after_step}
 
 -- changes of data leave all else as it is
 pub changed_above : (m : Memory) (cs : List ByteChange) → AllByRecursion IsDataChange cs → (k : ℕ) → DATA_END ≤ k → changed m cs k ≡ m k
@@ -55,8 +58,8 @@ module _ (p : Profile) (profile : IsProfile p) (image : Contents) (graph : Graph
           now_kept p profile image graph bytes formed (part_of k) s.memory (changed s.memory cs) (λ j from to. changed_above s.memory cs low j (omega arith)) (walks k) (hs k) (known.each k below);
     }
 
-    abbrev Along : Walks → Harts → Shared → List HartStep → Type 0
-    Along walks hs s steps = RunsAlong p image (place_at p the_words) graph.lines walks hs s steps
+    abbrev Along : Walks → List TakenStep → Type 0
+    Along walks taken = RunsAlong p image (place_at p the_words) graph.lines walks taken
 
     -- one step of hart `k`, and then the rest of the run
     module _ (Q : Walks → Harts → Shared → Type 0) (go_on : (walks : Walks) (hs : Harts) (s : Shared) → Known walks hs s → Q walks hs s)
@@ -89,12 +92,15 @@ module _ (p : Profile) (profile : IsProfile p) (image : Contents) (graph : Graph
       abbrev after : After
       after = step p (hs k) s
 
-      abbrev Goes : Walk → Type 0
-      Goes w = GoesOn p (part_of k) (place_at p the_words) graph.lines (walks k) (place_at p the_words (hs k).pc) (hs k) s.memory w
+      abbrev taken : TakenStep
+      taken = record { hart = k; before = hs k; shared = s; after = after }
+
+      abbrev Goes : Option Place → Walk → Type 0
+      Goes there w = GoesOn p (place_at p the_words) graph.lines (walks k) there taken w
 
       -- what is owed of the step
       abbrev Owed : Type 0
-      Owed = (w : Walk) × Goes w × Begun p (part_of k) image (place_at p the_words) w (hs k) s after × OnRan after.turn (Rest w after) (IsCodeOf (loaded image) after.shared.memory)
+      Owed = (w : Walk) × Goes (place_at p the_words (hs k).pc) w × Begun p image (place_at p the_words) w taken × (after.turn ≡ Ran → Rest w after)
 
       abbrev walk : List ℕ → Walk
       walk pending = walk_at p profile image graph bytes formed k inside_harts (hs k) s known.going known.code pending
@@ -104,9 +110,9 @@ module _ (p : Profile) (profile : IsProfile p) (image : Contents) (graph : Graph
           Shadow p profile image graph bytes formed k inside_harts (hs k) s known.going known.code place pending → Arrives p (place_at p the_words) graph.lines (walks k) (hs k).pc pending → Owed
       enter place pending is i shadow arrives =
           let on = step_on p profile image graph bytes formed k inside_harts (hs k) s known.going known.code Rest next (walk pending) place is i in
-          let goes_there : GoesOn p (part_of k) (place_at p the_words) graph.lines (walks k) (Some place) (hs k) s.memory (walk pending) = (refl, refl, arrives, shadow) in (
+          let goes_there : Goes (Some place) (walk pending) = (refl, refl, arrives, shadow) in (
             walk pending,
-            subst (λ (o : Option Place). GoesOn p (part_of k) (place_at p the_words) graph.lines (walks k) o (hs k) s.memory (walk pending)) (sym is) goes_there,
+            subst (λ (o : Option Place). Goes o (walk pending)) (sym is) goes_there,
             on.begun,
             on.on,
           )
@@ -121,7 +127,7 @@ module _ (p : Profile) (profile : IsProfile p) (image : Contents) (graph : Graph
           let size = on.word.1 in let here = on.word.2 in
           let nothing = nothing_inside p profile image graph bytes formed place w.at (hs k).pc facts later (omega arith) in (
             w,
-            subst (λ (o : Option Place). GoesOn p (part_of k) (place_at p the_words) graph.lines (walks k) o (hs k) s.memory w) (sym nothing) b,
+            subst (λ (o : Option Place). Goes o w) (sym nothing) b,
             on.begun,
             on.on,
           )
@@ -131,11 +137,15 @@ module _ (p : Profile) (profile : IsProfile p) (image : Contents) (graph : Graph
           (subst (λ (o : Option Walk). Arrives p (place_at p the_words) graph.lines o (hs k).pc newer) (sym b) (place, is, a.leads))
 
     -- the run from what is known goes along the graph
-    runs : (steps : List HartStep) → AreStepsOf harts steps → (walks : Walks) (hs : Harts) (s : Shared) → Known walks hs s → Along walks hs s steps
-    runs [] low walks hs s known = known.code
+    runs : (steps : List HartStep) → AreStepsOf harts steps → (walks : Walks) (hs : Harts) (s : Shared) → Known walks hs s → Along walks (steps_taken p hs s steps)
+    unfolding steps_taken
+    runs [] low walks hs s known = tt
     runs (t ∷ rest) low walks hs s known =
         let now = known_disturbed walks hs s t.changes low.0.changes known in
-        goes_on (λ walks hs s. Along walks hs s rest) (runs rest low.1) walks hs t.hart low.0.hart (disturbed s t.changes) now (now.each t.hart low.0.hart)
+        let after = step p (hs t.hart) (disturbed s t.changes) in
+        let (w, goes, begun, on) =
+        goes_on (λ walks hs s. Along walks (steps_taken p hs s rest)) (runs rest low.1) walks hs t.hart low.0.hart (disturbed s t.changes) now (now.each t.hart low.0.hart) in
+        (w, goes, begun, after_step (Along (with_walk walks t.hart w)) after.turn (steps_taken p (with_hart hs t.hart after.hart) after.shared rest) tt on)
 
     start_known : (hs : Harts) (s : Shared) → MayStart image harts hs s → Known (λ k. None) hs s
     start_known hs s start = record {

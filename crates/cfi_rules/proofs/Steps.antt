@@ -12,7 +12,7 @@ use Rattle.rv_instr.specs.declared.instr.Instr.{Instr}
 use Rattle.rv_code.specs.State.{Hart, Shared, After, last_exit}
 use Rattle.rv_code.specs.Step.{step}
 use Rattle.rv_code.specs.declared.turn.Turn.{Turn}
-use Rattle.rv_code.specs.declared.turn.Turn.TheVariants.{Ran, Exit, Break}
+use Rattle.rv_code.specs.declared.turn.Turn.TheVariants.{Ran, Exit, Break, LoadFault}
 use Rattle.cfi_graph.specs.Graph.{GraphParts}
 use Rattle.cfi_unit.specs.declared.unit.SystemOp.TheVariants as S
 use Rattle.cfi_unit.specs.declared.unit.Unit as U
@@ -48,9 +48,10 @@ use Rattle.cfi_pending.specs.Starts.{Start, StandsBy, fresh, may_stand, next_sta
 use Rattle.cfi_pending.proofs.Begins.{body_begins}
 use Rattle.cfi_pending.proofs.OpeningSteps.{opening_law}
 use Rattle.cfi_pending.proofs.StartSteps.{stacked_of, start_law}
-use Rattle.cfi_rules.specs.Along.{Walk, MaskStands, ShadowStands, StackStands, start_in, ActExits, ActBreaks, ActFaults, MayExit, MayBreak, MayFault, MayEnd, Begun, OnRan}
+use Rattle.cfi_rules.specs.Along.{Walk, MaskStands, ShadowStands, StackStands, start_in, ActExits, ActBreaks, ActFaults, MayExit, MayBreak, MayFault, MayEnd, Begun}
 use Rattle.cfi_rules.specs.Rules.{IsWellFormed}
 use Rattle.cfi_rules.specs.Split.{code_words, place_at}
+use Rattle.cfi_rules.specs.Taken.{TakenStep}
 use Rattle.cfi_rules.specs.Laws.{AreBytes}
 use Rattle.cfi_rules.proofs.Bytes.{length-code_words, loaded_small}
 use Rattle.cfi_rules.proofs.Find.{UnitHere, unit_here}
@@ -61,41 +62,44 @@ use Rattle.cfi_rules.proofs.Places.{handler_is, is_whole, prologue, place_facts}
 use Rattle.cfi_rules.proofs.RuleFacts.{unit_stands_in}
 use Rattle.cfi_rules.proofs.StartKinds.{stands_there, start_is, start_there}
 
--- an end that may come, and what is owed after it
-record Ended (place : Place) (pc : ℕ) (turn : Turn) (rest stopped : Type 0) : Type 0 where
+-- an end that may come, and what is owed after it where the step ran
+record Ended (place : Place) (pc : ℕ) (turn : Turn) (rest : Type 0) : Type 0 where
   may : MayEnd place pc turn
-  on : OnRan turn rest stopped
+  on : turn ≡ Ran → rest
 
-exits : (place : Place) (pc : ℕ) (turn : Turn) (rest stopped : Type 0) → MayExit place → (status : ℕ) → turn ≡ Exit status → stopped → Ended place pc turn rest stopped
-exits place pc turn rest stopped may status e left =
-    subst (λ (t : Turn). Ended place pc t rest stopped) (sym e) (record { may = may; on = left })
+exits : (place : Place) (pc : ℕ) (turn : Turn) (rest : Type 0) → MayExit place → (status : ℕ) → turn ≡ Exit status → Ended place pc turn rest
+exits place pc turn rest may status e =
+    subst (λ (t : Turn). Ended place pc t rest) (sym e) (record { may = may; on = λ goes. absurd (cc) })
 
-breaks : (place : Place) (at pc : ℕ) (turn : Turn) (rest stopped : Type 0) → MayBreak place → at ≡ pc → turn ≡ Break at → stopped → Ended place pc turn rest stopped
-breaks place at pc turn rest stopped may same e left =
-    subst (λ (t : Turn). Ended place pc t rest stopped) (sym e) (record { may = (same, may); on = left })
+breaks : (place : Place) (at pc : ℕ) (turn : Turn) (rest : Type 0) → MayBreak place → at ≡ pc → turn ≡ Break at → Ended place pc turn rest
+breaks place at pc turn rest may same e =
+    subst (λ (t : Turn). Ended place pc t rest) (sym e) (record { may = (same, may); on = λ goes. absurd (cc) })
 
-ran : (place : Place) (pc : ℕ) (turn : Turn) (X Y : Type 0) → turn ≡ Ran → X → Ended place pc turn X Y
-ran place pc turn X Y e x = subst (λ (t : Turn). Ended place pc t X Y) (sym e) (record { may = tt; on = x })
+faults : (place : Place) (at pc a : ℕ) (turn : Turn) (rest : Type 0) → MayFault place → at ≡ pc → turn ≡ LoadFault at a → Ended place pc turn rest
+faults place at pc a turn rest may same e =
+    subst (λ (t : Turn). Ended place pc t rest) (sym e) (record { may = (same, may); on = λ goes. absurd (cc) })
+
+ran : (place : Place) (pc : ℕ) (turn : Turn) (rest : Type 0) → turn ≡ Ran → rest → Ended place pc turn rest
+ran place pc turn rest e owed = subst (λ (t : Turn). Ended place pc t rest) (sym e) (record { may = tt; on = λ goes. owed })
 
 module _ (p : Profile) where
   -- what has one word begins where it stands
   only_word : (place : Place) (at pc : ℕ) → place_size p place ≡ 4 → IsWordOf p place at pc → at ≡ pc
   only_word place at pc one word = let below = word.1 in let here = word.2 in omega arith
 
-  module _ (at pc : ℕ) (turn : Turn) (rest stopped : Type 0) (left : stopped) where
+  module _ (at pc : ℕ) (turn : Turn) (rest : Type 0) where
     ended_act : (place : Place) (act : Act) → (ActExits act → MayExit place) → (ActBreaks act → MayBreak place) → (ActFaults act → MayFault place) →
-        (is_single act ≡ true → at ≡ pc) → ActEnds act at turn → Ended place pc turn rest stopped
-    ended_act place (F.does instr) may_exit may_break may_fault same how =
-        subst (λ (t : Turn). Ended place pc t rest stopped) (sym how.1) (record { may = (same refl, may_fault tt); on = left })
-    ended_act place (F.system S.Ecall) may_exit may_break may_fault same how = exits place pc turn rest stopped (may_exit tt) how.0 how.1 left
-    ended_act place (F.system S.Ebreak) may_exit may_break may_fault same how = breaks place at pc turn rest stopped (may_break tt) (same refl) how left
-    ended_act place F.calls may_exit may_break may_fault same how = exits place pc turn rest stopped (may_exit tt) how.0 how.1 left
+        (is_single act ≡ true → at ≡ pc) → ActEnds act at turn → Ended place pc turn rest
+    ended_act place (F.does instr) may_exit may_break may_fault same how = faults place at pc how.0 turn rest (may_fault tt) (same refl) how.1
+    ended_act place (F.system S.Ecall) may_exit may_break may_fault same how = exits place pc turn rest (may_exit tt) how.0 how.1
+    ended_act place (F.system S.Ebreak) may_exit may_break may_fault same how = breaks place at pc turn rest (may_break tt) (same refl) how
+    ended_act place F.calls may_exit may_break may_fault same how = exits place pc turn rest (may_exit tt) how.0 how.1
     ended_act place other may_exit may_break may_fault same how = absurd how
 
-    ended : (place : Place) → IsWordOf p place at pc → Ends place at turn → Ended place pc turn rest stopped
-    ended handler word how = breaks handler at pc turn rest stopped tt (only_word handler at pc refl word) how left
+    ended : (place : Place) → IsWordOf p place at pc → Ends place at turn → Ended place pc turn rest
+    ended handler word how = breaks handler at pc turn rest tt (only_word handler at pc refl word) how
     ended (opening entry) word how = absurd how
-    ended closing word how = exits closing pc turn rest stopped tt how.0 how.1 left
+    ended closing word how = exits closing pc turn rest tt how.0 how.1
     ended (body unit) word how =
         ended_act (body unit) (flow_of unit).act (λ m. m) (λ m. m) (λ m. m)
         (λ single. only_word (body unit) at pc (ap (λ n. 4 * n) (single_word unit single)) word) how
@@ -277,7 +281,7 @@ module _ (p : Profile) (profile : IsProfile p) (image : Contents) (graph : Graph
     begins handler start pending is stage ready = (refl, tt)
     begins (opening entry) start pending is stage ready = absurd stage
     begins closing start pending is stage (inl ready) =
-        (closing_number refl, (subst (λ (x : Start). StackStands (part_of k) x h s.memory pending) stage.0 ready.0, mask_stands p.callee_saves h.regs ready.1))
+        (closing_number refl, (subst (λ (x : Start). StackStands (part_of k) x h s.memory pending) stage.0 ready.0, mask_stands p.callee_saves h.regs ready.1, stage.1))
     begins closing start pending is stage (inr low) =
         let layout = laid_out p profile in
         let facts : h.pc ≡ p.closing = place_facts p profile image graph bytes formed h.pc closing is in absurd (omega arith)
@@ -304,36 +308,33 @@ module _ (p : Profile) (profile : IsProfile p) (image : Contents) (graph : Graph
       abbrev after : After
       after = step p h s
 
-      -- the memory that a step leaves has the image's code
-      abbrev pub Left : After → Type 0
-      Left after = IsCodeOf (loaded image) after.shared.memory
+      abbrev taken : TakenStep
+      taken = record { hart = k; before = h; shared = s; after = after }
 
       -- what a step from a place comes to
       record Followed (w : Walk) (place : Place) : Type 0 where
-        ended_as : Ended place h.pc after.turn (Rest w after) (Left after)
+        ended_as : Ended place h.pc after.turn (Rest w after)
+        kept : IsCodeOf (loaded image) after.shared.memory
         frame : SameOutside (part_of k) s.memory after.shared.memory
 
       goes : (w : Walk) (place : Place) (stacked : List ℕ) → after.turn ≡ Ran → Context (part_of k) (loaded image) s.memory stacked after.shared →
           Now (part_of k) (Some w) after.hart after.shared.memory → Followed w place
-      goes w place stacked t c now = record {
-        ended_as = ran place h.pc after.turn (Rest w after) (Left after) t
-            (go_on w after stacked c now);
-        frame = c.kept.frame;
-      }
+      goes w place stacked t c now =
+          record { ended_as = ran place h.pc after.turn (Rest w after) t (go_on w after stacked c now); kept = c.kept.code; frame = c.kept.frame }
 
       stops : (w : Walk) (place : Place) (stacked : List ℕ) → IsWordOf p place w.at h.pc → Ends place w.at after.turn →
           Kept (part_of k) (loaded image) s.memory stacked after.shared.memory → Followed w place
       stops w place stacked word how kept =
-          record { ended_as = ended p w.at h.pc after.turn (Rest w after) (Left after) kept.code place word how; frame = kept.frame }
+          record { ended_as = ended p w.at h.pc after.turn (Rest w after) place word how; kept = kept.code; frame = kept.frame }
 
       pub record Stepped (w : Walk) (place : Place) : Type 0 where
         pub word : IsWordOf p place w.at h.pc
-        pub begun : Begun p (part_of k) image (place_at p the_words) w h s after
-        pub on : OnRan after.turn (Rest w after) (Left after)
+        pub begun : Begun p image (place_at p the_words) w taken
+        pub on : after.turn ≡ Ran → Rest w after
 
       stepped : (w : Walk) (place : Place) → place_at p the_words w.at ≡ Some place → IsWordOf p place w.at h.pc → Adds place w.at h s.events after.shared.events →
           Followed w place → Stepped w place
-      stepped w place is word adds f = record { word = word; begun = (place, is, word, f.ended_as.may, code, f.frame, adds); on = f.ended_as.on }
+      stepped w place is word adds f = record { word = word; begun = (place, is, word, f.ended_as.may, code, f.kept, f.frame, adds); on = f.ended_as.on }
 
       -- handlers and the closing
       abbrev Plain : Place → Type 0

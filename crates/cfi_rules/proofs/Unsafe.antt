@@ -22,9 +22,11 @@ use Rattle.cfi_unit.specs.Recognise.{read_each, recognised}
 use Rattle.cfi_unit.specs.UnitWords.{words_of}
 use Rattle.cfi_rules.specs.Along.{IsSafe, MayEnd}
 use Rattle.cfi_rules.specs.Split.{code_words, starts, is_start, unit_at, place_at}
-use Rattle.cfi_rules.specs.Trails.{Begin, trail_alone, trail_of, IsInPlace}
+use Rattle.cfi_rules.specs.Taken.{steps_taken}
+use Rattle.cfi_rules.specs.Trails.{Begin, trail_of, IsInPlace}
 use Rattle.cfi_rules.specs.Unsafe.{middle, middle_graph, bare_store, bare_store_graph, moved_pointer, moved_pointer_graph, exiting_handler, loading_handler, storing_handler, illegal_handler, handler_graph, breaking_closing, breaking_closing_graph, MiddleIsUnsafe, BareStoreIsUnsafe, MovedPointerIsUnsafe, WrongStopsAreUnsafe}
-use Rattle.cfi_rules.proofs.OneHart.{AreDataChanges, safe_stays_alone}
+use Rattle.cfi_rules.proofs.OneHart.{safe_stays_alone}
+use Rattle.cfi_rules.proofs.Taken.{AreDataChanges, steps_of}
 
 pub calm_is_data : (n : ℕ) → AreDataChanges (calm n)
 calm_is_data zero = tt
@@ -37,12 +39,12 @@ each P (y ∷ ys) (suc k) x all e = each P ys k x all.1 e
 
 -- the begun instructions of the undisturbed run without an input
 abbrev calm_trail : Contents → ℕ → List Begin
-calm_trail image n = trail_alone version_1 (code_words image.code) 0 (start_hart 0) (start_shared image []) (calm n)
+calm_trail image n = trail_of version_1 (code_words image.code) 0 0 (steps_taken version_1 start_hart (start_shared image []) (steps_of 0 (calm n)))
 
 begins_in_place : (image : Contents) (graph : GraphParts) (n k : ℕ) (b : Begin) →
     slice_get (calm_trail image n) k ≡ Some b → IsSafe version_1 image graph → IsInPlace version_1 (code_words image.code) b
 begins_in_place image graph n k b here safe =
-    each (IsInPlace version_1 (code_words image.code)) (calm_trail image n) k b (safe_stays_alone version_1 (laid_out version_1 (inl (inl refl))) image graph [] (calm n) safe (calm_is_data n)) here
+    each (IsInPlace version_1 (code_words image.code)) (calm_trail image n) k b (safe_stays_alone version_1 image graph [] (calm n) (laid_out version_1 (inl (inl refl))) safe (calm_is_data n)) here
 
 -- an instruction past what stands at the newest address of the walk refutes safety
 refuted : (image : Contents) (graph : GraphParts) (n k : ℕ) (b : Begin) (place : Place) →
@@ -66,42 +68,42 @@ refuted_by_end image graph n k b place here is never safe =
     never (subst (λ p. MayEnd p b.pc b.turn) same i.3)
 
 pub middle_unsafe : MiddleIsUnsafe
-unfolding loaded placed decoded code_of step write last_exit code_words read_each recognised words_of starts is_start unit_at place_at trail_of
+unfolding loaded placed decoded code_of step write last_exit code_words read_each recognised words_of starts is_start unit_at place_at steps_taken trail_of
 middle_unsafe =
     refuted middle middle_graph 12 11 (record { newest = 0x40000040; pc = 0x40000048; turn = Ran }) (body (V.Jump 0x40000048)) refl refl (lit≤ tt)
 
 pub bare_store_unsafe : BareStoreIsUnsafe
-unfolding loaded placed decoded code_of step write last_exit code_words read_each recognised words_of starts is_start unit_at place_at trail_of
+unfolding loaded placed decoded code_of step write last_exit code_words read_each recognised words_of starts is_start unit_at place_at steps_taken trail_of
 bare_store_unsafe =
     refuted bare_store bare_store_graph 11 10 (record { newest = 0x4000000c; pc = 0x40000040; turn = Ran }) (opening 0x40000040) refl refl (lit≤ tt)
 
 pub moved_pointer_unsafe : MovedPointerIsUnsafe
-unfolding loaded placed decoded code_of step write last_exit code_words read_each recognised words_of starts is_start unit_at place_at trail_of
+unfolding loaded placed decoded code_of step write last_exit code_words read_each recognised words_of starts is_start unit_at place_at steps_taken trail_of
 moved_pointer_unsafe =
     refuted moved_pointer moved_pointer_graph 11 10 (record { newest = 0x4000000c; pc = 0x40000040; turn = Ran }) (opening 0x40000040) refl refl (lit≤ tt)
 
 exit_unsafe : IsSafe version_1 exiting_handler handler_graph → ⊥
-unfolding loaded placed decoded code_of step write last_exit code_words read_each recognised words_of starts is_start unit_at place_at trail_of
+unfolding loaded placed decoded code_of step write last_exit code_words read_each recognised words_of starts is_start unit_at place_at steps_taken trail_of
 exit_unsafe =
     refuted_by_end exiting_handler handler_graph 13 12 (record { newest = 0x40000000; pc = 0x40000000; turn = Exit 0 }) handler refl refl (λ e. e)
 
 load_fault_unsafe : IsSafe version_1 loading_handler handler_graph → ⊥
-unfolding loaded placed decoded code_of step write last_exit code_words read_each recognised words_of starts is_start unit_at place_at trail_of
+unfolding loaded placed decoded code_of step write last_exit code_words read_each recognised words_of starts is_start unit_at place_at steps_taken trail_of
 load_fault_unsafe =
     refuted_by_end loading_handler handler_graph 13 12 (record { newest = 0x40000000; pc = 0x40000000; turn = LoadFault 0x40000000 0x20000000 }) handler refl refl (λ e. e.1)
 
 store_fault_unsafe : IsSafe version_1 storing_handler handler_graph → ⊥
-unfolding loaded placed decoded code_of step write last_exit code_words read_each recognised words_of starts is_start unit_at place_at trail_of
+unfolding loaded placed decoded code_of step write last_exit code_words read_each recognised words_of starts is_start unit_at place_at steps_taken trail_of
 store_fault_unsafe =
     refuted_by_end storing_handler handler_graph 13 12 (record { newest = 0x40000000; pc = 0x40000000; turn = StoreFault 0x40000000 0x40000038 }) handler refl refl (λ e. e)
 
 illegal_unsafe : IsSafe version_1 illegal_handler handler_graph → ⊥
-unfolding loaded placed decoded code_of step write last_exit code_words read_each recognised words_of starts is_start unit_at place_at trail_of
+unfolding loaded placed decoded code_of step write last_exit code_words read_each recognised words_of starts is_start unit_at place_at steps_taken trail_of
 illegal_unsafe =
     refuted_by_end illegal_handler handler_graph 13 12 (record { newest = 0x40000000; pc = 0x40000000; turn = Illegal 0x40000000 }) handler refl refl (λ e. e)
 
 break_unsafe : IsSafe version_1 breaking_closing breaking_closing_graph → ⊥
-unfolding loaded placed decoded code_of step write last_exit code_words read_each recognised words_of starts is_start unit_at place_at trail_of
+unfolding loaded placed decoded code_of step write last_exit code_words read_each recognised words_of starts is_start unit_at place_at steps_taken trail_of
 break_unsafe =
     refuted_by_end breaking_closing breaking_closing_graph 16 15 (record { newest = 0x40000038; pc = 0x4000003c; turn = Break 0x4000003c }) closing refl refl (λ e. e.1)
 

@@ -6,9 +6,8 @@ use Rattle.rv_word.specs.MemoryMap.{START, MayRun, Profile, part_of}
 use Rattle.rv_word.specs.Image.{Contents}
 use Rattle.rv_word.specs.Memory.{Memory, loaded}
 use Rattle.rv_instr.specs.Registers.{Registers}
-use Rattle.rv_code.specs.Run.{HartStep, IsStepOf, disturbed}
-use Rattle.rv_code.specs.State.{After, Hart, Harts, Shared, last_exit, with_hart}
-use Rattle.rv_code.specs.Step.{step}
+use Rattle.rv_code.specs.Run.{HartStep, IsStepOf}
+use Rattle.rv_code.specs.State.{Hart, Harts, Shared, last_exit}
 use Rattle.rv_code.specs.declared.turn.Turn.{Turn}
 use Rattle.rv_code.specs.declared.turn.Turn.TheVariants.{Ran, Exit, Break, LoadFault, StoreFault, FetchFault, Illegal}
 use Rattle.cfi_graph.specs.declared.line.GraphLine.{GraphLine}
@@ -32,6 +31,7 @@ use Rattle.cfi_pending.specs.Starts.{Start, StandsBy, saved}
 use Rattle.cfi_rules.specs.Lines.{leaves_in}
 use Rattle.cfi_rules.specs.Reading.{AreUnitsOf, place_in}
 use Rattle.cfi_rules.specs.Split.{code_words}
+use Rattle.cfi_rules.specs.Taken.{TakenStep, steps_taken}
 use Rattle.cfi_rules.specs.Walk.{by_class}
 
 -- the newest address of a hart's walk, the sites pending there, and the registers when it was reached
@@ -58,11 +58,11 @@ abbrev pub start_under : Bool → Start → Start
 start_under false start = saved
 start_under true start = start
 
--- so it stands where a unit or the closing starts; where a unit starts a site is pending
+-- so it stands where a unit or the closing starts; a site is pending where a unit starts, and none where the closing does
 abbrev pub ShadowStands : Profile → ℕ → Start → Place → Hart → Memory → List ℕ → Type 0
 ShadowStands p part start handler h m pending = Unit {0}
 ShadowStands p part start (opening entry) h m pending = Unit {0}
-ShadowStands p part start closing h m pending = StackStands part saved h m pending × MaskStands p.callee_saves h.regs
+ShadowStands p part start closing h m pending = StackStands part saved h m pending × MaskStands p.callee_saves h.regs × (pending ≡ [])
 ShadowStands p part start (body unit) h m pending =
     StackStands part (start_under p.callee_saves start) h m pending × MaskStands p.callee_saves h.regs × (0 < length pending)
 
@@ -92,13 +92,13 @@ unit_of other = None
 abbrev pub start_in : (ℕ → Option Place) → List GraphLine → ℕ → Start
 start_in places lines a = start_at (λ b. unit_of (places b)) (leaves_in lines) a
 
--- before a step at a pc: where something starts there the walk goes on to it, else it stays
-abbrev pub GoesOn : Profile → ℕ → (ℕ → Option Place) → List GraphLine → Option Walk → Option Place → Hart → Memory → Walk → Type 0
-GoesOn p part places lines before None h m w = before ≡ Some w
-GoesOn p part places lines before (Some place) h m w =
-    (w.at ≡ h.pc) × (w.regs ≡ h.regs)
-    × Arrives p places lines before h.pc w.pending
-    × ShadowStands p part (start_in places lines h.pc) place h m w.pending
+-- before a step: where something starts the walk goes on to it, else it stays
+abbrev pub GoesOn : Profile → (ℕ → Option Place) → List GraphLine → Option Walk → Option Place → TakenStep → Walk → Type 0
+GoesOn p places lines before None t w = before ≡ Some w
+GoesOn p places lines before (Some place) t w =
+    (w.at ≡ t.before.pc) × (w.regs ≡ t.before.regs)
+    × Arrives p places lines before t.before.pc w.pending
+    × ShadowStands p (part_of t.hart) (start_in places lines t.before.pc) place t.before t.shared.memory w.pending
 
 -- the stops that may come at each place: an exit only at the closing and at an `ecall`, guarded or not, a
 -- break only at a handler and at an `ebreak`, a fault only at a plain instruction, and no other stop
@@ -140,18 +140,16 @@ MayEnd place pc (FetchFault at) = ⊥
 MayEnd place pc (Illegal at) = ⊥
 
 -- a begun instruction is a word of what stands at the newest address of the walk, it ends as it may
--- there, and code is the image's. Of memory it writes data and the hart's own part of the shadow stack
--- alone, and it makes no system call but, where what stands there may make one, one with the number in x17
-abbrev pub Begun : Profile → ℕ → Contents → (ℕ → Option Place) → Walk → Hart → Shared → After → Type 0
-Begun p part image places w h s after =
-    (place : Place) × (places w.at ≡ Some place) × IsWordOf p place w.at h.pc
-    × MayEnd place h.pc after.turn × IsCodeOf (loaded image) s.memory
-    × SameOutside part s.memory after.shared.memory × Adds place w.at h s.events after.shared.events
-
--- what is owed after an instruction that ran, and what after one that stopped
-abbrev pub OnRan : Turn → Type 0 → Type 0 → Type 0
-OnRan Ran going stopped = going
-OnRan other going stopped = stopped
+-- there, and before and after it code is the image's. Of memory it writes data and the hart's own part of the
+-- shadow stack alone, and it makes no system call but, where what stands there may make one, one with the
+-- number in x17
+abbrev pub Begun : Profile → Contents → (ℕ → Option Place) → Walk → TakenStep → Type 0
+Begun p image places w t =
+    (place : Place) × (places w.at ≡ Some place) × IsWordOf p place w.at t.before.pc
+    × MayEnd place t.before.pc t.after.turn
+    × IsCodeOf (loaded image) t.shared.memory × IsCodeOf (loaded image) t.after.shared.memory
+    × SameOutside (part_of t.hart) t.shared.memory t.after.shared.memory
+    × Adds place w.at t.before t.shared.events t.after.shared.events
 
 -- the walks of all harts so far: none before a hart's first step
 abbrev pub Walks : Type 0
@@ -160,20 +158,15 @@ Walks = ℕ → Option Walk
 abbrev pub with_walk : Walks → ℕ → Walk → Walks
 with_walk walks k w = λ j. if j == k then Some w else walks j
 
--- the run from a state goes along the graph, a step at a time, each hart by its own walk and with its
--- own part of the shadow stack; at its end code is the image's. `places` tells what stands at each address
-abbrev pub RunsAlong : Profile → Contents → (ℕ → Option Place) → List GraphLine → Walks → Harts → Shared → List HartStep → Type 0
-RunsAlong p image places lines walks harts s [] = IsCodeOf (loaded image) s.memory
-RunsAlong p image places lines walks harts s (t ∷ rest) =
-    let h = harts t.hart in
-    let now = disturbed s t.changes in
-    let after = step p h now in
+-- the steps of a run go along the graph, each hart by its own walk and with its own part of the shadow
+-- stack. `places` tells what stands at each address
+abbrev pub RunsAlong : Profile → Contents → (ℕ → Option Place) → List GraphLine → Walks → List TakenStep → Type 0
+RunsAlong p image places lines walks [] = Unit {0}
+RunsAlong p image places lines walks (t ∷ rest) =
     (w : Walk)
-    × GoesOn p (part_of t.hart) places lines (walks t.hart) (places h.pc) h now.memory w
-    × Begun p (part_of t.hart) image places w h now after
-    × OnRan after.turn
-    (RunsAlong p image places lines (with_walk walks t.hart w) (with_hart harts t.hart after.hart) after.shared rest)
-    (IsCodeOf (loaded image) after.shared.memory)
+    × GoesOn p places lines (walks t.hart) (places t.before.pc) t w
+    × Begun p image places w t
+    × RunsAlong p image places lines (with_walk walks t.hart w) rest
 
 abbrev pub AreStepsOf : ℕ → List HartStep → Type 0
 AreStepsOf harts steps = AllByRecursion (IsStepOf harts) steps
@@ -191,7 +184,7 @@ pub record MayStart (image : Contents) (count : ℕ) (harts : Harts) (s : Shared
 abbrev pub AllRunAlong : Profile → Contents → (ℕ → Option Place) → List GraphLine → Type 0
 AllRunAlong p image places lines =
     (count : ℕ) → MayRun p count → (harts : Harts) (s : Shared) → MayStart image count harts s → (steps : List HartStep) → AreStepsOf count steps
-    → RunsAlong p image places lines (λ k. None) harts s steps
+    → RunsAlong p image places lines (λ k. None) (steps_taken p harts s steps)
 
 -- safe: there are units that the code's instructions are, one after another, and all runs go along the graph
 -- from unit to unit

@@ -5,6 +5,7 @@ pub mod Rules
 pub mod Placed
 pub mod Sound
 pub mod Walk
+pub mod Taken
 pub mod Along
 pub mod Walks
 pub mod Trails

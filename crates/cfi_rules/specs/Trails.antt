@@ -2,13 +2,12 @@
 -- stands at the newest address of its walk so far, and ends as it may there.
 use Rattle.std.specs.Prelude.{◌≡◌, ℕ, ◌==◌, Bool, true, false, List, [], ◌∷◌, Option, Some, None}
 use Rattle.rv_word.specs.MemoryMap.{Profile}
-use Rattle.rv_code.specs.Run.{ByteChange, HartStep, alone, disturbed_step, if_ran}
-use Rattle.rv_code.specs.State.{Hart, Harts, Shared, with_hart}
 use Rattle.rv_code.specs.declared.turn.Turn.{Turn}
 use Rattle.cfi_unit.specs.declared.place.Place.{Place}
 use Rattle.cfi_unit.specs.Place.{IsWordOf}
 use Rattle.cfi_rules.specs.Along.{MayEnd}
 use Rattle.cfi_rules.specs.Split.{place_at}
+use Rattle.cfi_rules.specs.Taken.{TakenStep}
 use Rattle.cfi_rules.specs.Walks.{if_own}
 
 -- a begun instruction: the newest address of the walk, its own, and how it ended
@@ -25,20 +24,13 @@ abbrev pub if_own_begin : Bool → Begin → List Begin → List Begin
 if_own_begin true begin rest = begin ∷ rest
 if_own_begin false begin rest = rest
 
--- the begun instructions of one hart, `k`, in a disturbed run, from the newest address of its walk
+-- the begun instructions of one hart, `k`, in a run of these steps, from the newest address of its walk
 -- before it
-unfoldable pub trail_of : Profile → List ℕ → ℕ → ℕ → Harts → Shared → List HartStep → List Begin
-trail_of p words k newest harts s [] = []
-trail_of p words k newest harts s (t ∷ rest) =
-    let h = harts t.hart in
-    let after = disturbed_step p h s t.changes in
-    let here = newest_of (if_own (t.hart == k) (place_at p words h.pc)) newest h.pc in
-    let later = trail_of p words k here (with_hart harts t.hart after.hart) after.shared rest in
-    if_own_begin (t.hart == k) (record { newest = here; pc = h.pc; turn = after.turn }) (if_ran after.turn later)
-
--- the begun instructions of a hart that runs alone
-abbrev pub trail_alone : Profile → List ℕ → ℕ → Hart → Shared → List (List ByteChange) → List Begin
-trail_alone p words newest h s changes = trail_of p words 0 newest (λ k. h) s (alone changes)
+unfoldable pub trail_of : Profile → List ℕ → ℕ → ℕ → List TakenStep → List Begin
+trail_of p words k newest [] = []
+trail_of p words k newest (t ∷ rest) =
+    let here = newest_of (if_own (t.hart == k) (place_at p words t.before.pc)) newest t.before.pc in
+    if_own_begin (t.hart == k) (record { newest = here; pc = t.before.pc; turn = t.after.turn }) (trail_of p words k here rest)
 
 abbrev pub IsInPlace : Profile → List ℕ → Begin → Type 0
 IsInPlace p words b =

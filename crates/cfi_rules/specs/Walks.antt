@@ -3,13 +3,14 @@
 use Rattle.std.specs.Prelude.{◌≡◌, ℕ, ◌==◌, Bool, true, false, List, [], ◌∷◌, Option, Some, None}
 use Rattle.rv_word.specs.Image.{Contents}
 use Rattle.rv_word.specs.MemoryMap.{MayRun, Profile}
-use Rattle.rv_code.specs.Run.{ByteChange, HartStep, alone, disturbed_step, if_ran}
-use Rattle.rv_code.specs.State.{Hart, Harts, Shared, with_hart}
+use Rattle.rv_code.specs.Run.{HartStep}
+use Rattle.rv_code.specs.State.{Harts, Shared}
 use Rattle.cfi_graph.specs.declared.line.GraphLine.{GraphLine}
 use Rattle.cfi_unit.specs.declared.place.Place.{Place}
 use Rattle.cfi_unit.specs.Prologue.{OPENING}
 use Rattle.cfi_rules.specs.Along.{AreStepsOf, MayStart}
 use Rattle.cfi_rules.specs.Split.{code_words, place_at}
+use Rattle.cfi_rules.specs.Taken.{TakenStep, steps_taken}
 use Rattle.cfi_rules.specs.Walk.{Goes}
 
 -- the address, if something starts there
@@ -22,18 +23,10 @@ abbrev pub if_own : Bool → Option Place → Option Place
 if_own true place = place
 if_own false place = None
 
--- the walk of one hart, `k`, in a disturbed run
-unfoldable pub walk_of : Profile → List ℕ → ℕ → Harts → Shared → List HartStep → List ℕ
-walk_of p words k harts s [] = []
-walk_of p words k harts s (t ∷ rest) =
-    let h = harts t.hart in
-    let after = disturbed_step p h s t.changes in
-    let later = walk_of p words k (with_hart harts t.hart after.hart) after.shared rest in
-    if_starts (if_own (t.hart == k) (place_at p words h.pc)) h.pc (if_ran after.turn later)
-
--- the walk of a hart that runs alone, by the changes before each of its steps
-abbrev pub walk_alone : Profile → List ℕ → Hart → Shared → List (List ByteChange) → List ℕ
-walk_alone p words h s changes = walk_of p words 0 (λ k. h) s (alone changes)
+-- the walk of one hart, `k`, in a run of these steps
+unfoldable pub walk_of : Profile → List ℕ → ℕ → List TakenStep → List ℕ
+walk_of p words k [] = []
+walk_of p words k (t ∷ rest) = if_starts (if_own (t.hart == k) (place_at p words t.before.pc)) t.before.pc (walk_of p words k rest)
 
 -- where a walk has come to: an address, and the sites of the calls that are pending there, the newest
 -- first
@@ -71,4 +64,4 @@ pub record IsWalked (p : Profile) (image : Contents) (addresses : List ℕ) : Ty
   pub may : MayRun p count
   pub start : MayStart image count harts shared
   pub allowed : AreStepsOf count steps
-  pub walk : walk_of p (code_words image.code) hart harts shared steps ≡ OPENING ∷ addresses
+  pub walk : walk_of p (code_words image.code) hart (steps_taken p harts shared steps) ≡ OPENING ∷ addresses

@@ -1,6 +1,6 @@
 //! What holds of accepted pairs and of their runs, and of units placed one after another. Each function
 //! states one law; nothing is computed.
-ghost use Rattle.cfi_rules.specs.Laws.{CodeIsSplit, MachineMayStart, ReadUnits, SafeAsRecognised, WellFormedIsSafe, SafeStaysInPlace, SafeWalksGraph};
+ghost use Rattle.cfi_rules.specs.Laws.{CodeIsSplit, MachineMayStart, ReadUnits, RunIsReached, SafeAsRecognised, WellFormedIsSafe, SafeStaysInPlace, SafeWalksGraph};
 ghost use Rattle.cfi_rules.specs.Listed.{WellFormedIsListed};
 ghost use Rattle.cfi_rules.specs.PlacedLaws.{PlacedAreSplit, PlacedEntry, PlacedIsGraph, PlacedIsWellFormed, PlacedUnits, SplitUnits};
 ghost use Rattle.cfi_rules.specs.Unsafe.{MiddleIsUnsafe, BareReturnIsUnsafe, BareStoreIsUnsafe, MovedPointerIsUnsafe, WrongStopsAreUnsafe, WrongTransfersAreUnsafe, WrongShadowsAreUnsafe, SharedPartsAreUnsafe, WrongLeanPairsAreUnsafe, BareCallIsNotListed, WrongDeedsAreUnsafe};
@@ -30,6 +30,11 @@ pub fn read_units()
 /// The runs of a safe pair go along the graph with what is recognised at each address.
 pub fn safe_as_recognised()
     ensures { SafeAsRecognised }
+{}
+
+/// A run is where the steps that it takes lead, of which safety and confinement speak.
+pub fn run_is_reached()
+    ensures { RunIsReached }
 {}
 
 /// A run of the machine starts where runs may start, of which safety speaks: whoever runs an image otherwise may

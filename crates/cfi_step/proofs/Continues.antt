@@ -13,6 +13,7 @@ use Rattle.rv_machine.specs.Harts.{harts_in, harts_share, run_after}
 use Rattle.cfi_unit.specs.declared.place.Place.{Place}
 use Rattle.cfi_rules.specs.Along.{AreStepsOf, MayEnd}
 use Rattle.cfi_rules.specs.Split.{code_words, place_at}
+use Rattle.cfi_rules.specs.Taken.{steps_taken}
 use Rattle.cfi_rules.specs.Trails.{Begin, IsInPlace, if_own_begin, newest_of, trail_of}
 use Rattle.cfi_rules.specs.Walks.{if_own, if_starts, walk_of}
 use Rattle.cfi_script.specs.Plan.{Plan, Planned, harts_of, numbered, planned, step_of, steps_of}
@@ -32,7 +33,7 @@ pub record Continues (p : Profile) (image : Contents) (count : ℕ) (harts0 : Ha
   pub changes : numbered 0 whole ≡ made ++ numbered k rest
   pub turns : (front : List ℕ) × (length front ≡ k) × AreTurnsOf front taken × (harts_of whole ≡ front ++ harts_of rest)
   pub walks : (j : ℕ) (t : TrailParts) → slice_get trails j ≡ Some t →
-      (w : List ℕ) × IsTrailOf w t × (walk_of p (code_words image.code) j harts0 s0 (steps_of whole) ≡ w ++ walk_of p (code_words image.code) j harts s (steps_of rest))
+      (w : List ℕ) × IsTrailOf w t × (walk_of p (code_words image.code) j (steps_taken p harts0 s0 (steps_of whole)) ≡ w ++ walk_of p (code_words image.code) j (steps_taken p harts s (steps_of rest)))
   pub allowed : AreStepsOf count (steps_of rest) → AreStepsOf count (steps_of whole)
 
 -- before the first step
@@ -118,18 +119,18 @@ module _ (p : Profile) (image : Contents) (count : ℕ) (harts : Harts) (s : Sha
 
   -- the begun instructions of a hart from here on, this one and the later ones
   begun : (steps : List HartStep) → AreStepsOf count steps → (k : ℕ)
-      → AllByRecursion (IsInPlace p words) (if_own_begin (t.0 == k) (begin_of k) (if_ran then.turn (trail_of p words k (newer k) then.harts then.shared steps)))
-  unfolding trail_of
+      → AllByRecursion (IsInPlace p words) (if_own_begin (t.0 == k) (begin_of k) (trail_of p words k (newer k) (if_ran then.turn (steps_taken p then.harts then.shared steps))))
+  unfolding trail_of steps_taken
   begun steps all k = stays (step_of t ∷ steps) (one, all) k
 
   stays_here : then.turn ≡ Ran → StaysFrom p image count newer then.harts then.shared
   stays_here ran steps all k =
-      subst (λ (turn : Turn). AllByRecursion (IsInPlace p words) (if_ran turn (trail_of p words k (newer k) then.harts then.shared steps))) ran
-      (rest_in (IsInPlace p words) (t.0 == k) (begin_of k) (if_ran then.turn (trail_of p words k (newer k) then.harts then.shared steps)) (begun steps all k))
+      subst (λ (turn : Turn). AllByRecursion (IsInPlace p words) (trail_of p words k (newer k) (if_ran turn (steps_taken p then.harts then.shared steps)))) ran
+      (rest_in (IsInPlace p words) (t.0 == k) (begin_of k) (trail_of p words k (newer k) (if_ran then.turn (steps_taken p then.harts then.shared steps))) (begun steps all k))
 
   pub may_end : (place : Place) × MayEnd place pc then.turn
   may_end =
-      let own = subst (λ (b : Bool). AllByRecursion (IsInPlace p words) (if_own_begin b (begin_of t.0) (if_ran then.turn (trail_of p words t.0 (newer t.0) then.harts then.shared [])))) (eq-eqb t.0 t.0 refl) (begun [] tt t.0) in
+      let own = subst (λ (b : Bool). AllByRecursion (IsInPlace p words) (if_own_begin b (begin_of t.0) (trail_of p words t.0 (newer t.0) (if_ran then.turn (steps_taken p then.harts then.shared []))))) (eq-eqb t.0 t.0 refl) (begun [] tt t.0) in
       let (place, there, word, ends) = own.0 in
       (place, ends)
 
@@ -201,11 +202,12 @@ module _ (p : Profile) (image : Contents) (count : ℕ) (harts0 : Harts) (s0 : S
   unfolding run
   run_on ran rest = ap (λ turn. next_or_stop turn reached (run p reached.harts reached.shared (steps_of rest))) ran
 
-  walk_on : (j : ℕ) → reached.turn ≡ Ran → (rest : List Planned) → walk_of p all_words j harts s (steps_of (t ∷ rest)) ≡ here_of j ++ walk_of p all_words j reached.harts reached.shared (steps_of rest)
-  unfolding walk_of
+  walk_on : (j : ℕ) → reached.turn ≡ Ran → (rest : List Planned) →
+      walk_of p all_words j (steps_taken p harts s (steps_of (t ∷ rest))) ≡ here_of j ++ walk_of p all_words j (steps_taken p reached.harts reached.shared (steps_of rest))
+  unfolding walk_of steps_taken
   walk_on j ran rest =
-      ap (λ turn. if_starts (if_own (t.0 == j) (place_at p all_words at)) at (if_ran turn (walk_of p all_words j reached.harts reached.shared (steps_of rest)))) ran
-      ∙ starts_first (if_own (t.0 == j) (place_at p all_words at)) at (walk_of p all_words j reached.harts reached.shared (steps_of rest))
+      ap (λ turn. if_starts (if_own (t.0 == j) (place_at p all_words at)) at (walk_of p all_words j (if_ran turn (steps_taken p reached.harts reached.shared (steps_of rest))))) ran
+      ∙ starts_first (if_own (t.0 == j) (place_at p all_words at)) at (walk_of p all_words j (steps_taken p reached.harts reached.shared (steps_of rest)))
 
   planned_on : reached.turn ≡ Ran → planned p plan count k harts s (suc n) ≡ t ∷ later
   unfolding planned
@@ -239,9 +241,9 @@ module _ (p : Profile) (image : Contents) (count : ℕ) (harts0 : Harts) (s0 : S
   unfolding run
   run_stop stop = stays_stopped reached.turn reached (run p reached.harts reached.shared []) stop
 
-  walk_stop : (j : ℕ) → is_stop reached.turn ≡ true → walk_of p all_words j harts s (steps_of (t ∷ [])) ≡ here_of j
-  unfolding walk_of
-  walk_stop j stop = ap (λ later. if_starts (if_own (t.0 == j) (place_at p all_words at)) at later) (none_later reached.turn [] stop)
+  walk_stop : (j : ℕ) → is_stop reached.turn ≡ true → walk_of p all_words j (steps_taken p harts s (steps_of (t ∷ []))) ≡ here_of j
+  unfolding walk_of steps_taken
+  walk_stop j stop = ap (λ later. if_starts (if_own (t.0 == j) (place_at p all_words at)) at (walk_of p all_words j later)) (none_later reached.turn [] stop)
 
   planned_stop : is_stop reached.turn ≡ true → planned p plan count k harts s (suc n) ≡ t ∷ []
   unfolding planned
@@ -291,7 +293,7 @@ pub all_taken : (p : Profile) (image : Contents) (count : ℕ) (harts0 : Harts) 
     → Continues p image count harts0 s0 whole k (harts_in running.machine) (harts_share running.machine) (planned p plan count k (harts_in running.machine) (harts_share running.machine) (limit - k)) running.made running.taken (trails_of running)
     → length running.resting.items ≡ count → running.taken.hart < count
     → IsOver p image count harts0 s0 whole ends.Limit k running
-unfolding planned run walk_of numbered
+unfolding planned run walk_of steps_taken numbered
 all_taken p image count harts0 s0 whole plan k limit running left continues each last =
     let here : Continues p image count harts0 s0 whole k (harts_in running.machine) (harts_share running.machine) [] running.made running.taken (trails_of running) = rw left at continues in
     let (front, len, turns, all_turns) = here.turns in

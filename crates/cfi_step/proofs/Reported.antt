@@ -1,5 +1,5 @@
 -- How a run begins, and what its report says when it is over.
-use Rattle.std.proofs.Common.{◌≡◌, ℕ, List, [], length, map, Some, sym, ◌∙◌, ap, subst, arith}
+use Rattle.std.proofs.Common.{◌≡◌, ◌<◌, ℕ, List, [], ◌∷◌, length, map, Some, refl, sym, ◌∙◌, ap, subst, arith}
 use Rattle.std.specs.Prelude.{slice_get}
 use Rattle.std.specs.List.{All}
 use Rattle.std.proofs.lemmas.List.{length-map, length-set}
@@ -10,14 +10,17 @@ use Rattle.rv_word.proofs.Cases.{mapped}
 use Rattle.rv_code.specs.State.{Harts, Shared, start_hart, start_shared}
 use Rattle.rv_machine.specs.Harts.{harts_in, harts_share}
 use Rattle.cfi_graph.specs.Graph.{GraphParts}
-use Rattle.cfi_rules.specs.Along.{IsSafe}
+use Rattle.cfi_unit.specs.Prologue.{OPENING}
+use Rattle.cfi_rules.specs.Along.{AreStepsOf, IsSafe}
 use Rattle.cfi_rules.specs.Split.{code_words}
-use Rattle.cfi_rules.specs.Walks.{walk_of}
+use Rattle.cfi_rules.specs.Taken.{steps_taken}
+use Rattle.cfi_rules.specs.Walks.{IsGraphWalk, IsWalked, walk_of}
 use Rattle.cfi_rules.proofs.Starts.{machine_may_start}
 use Rattle.cfi_rules.proofs.Trails.{safe_stays}
+use Rattle.cfi_rules.proofs.Walks.{safe_walks}
 use Rattle.cfi_script.specs.Plan.{Plan, Planned, harts_of, numbered, planned, steps_of}
 use Rattle.cfi_script.specs.Turns.{turns_of}
-use Rattle.cfi_step.specs.Report.{IsReport, IsWalkOf, stopping_hart}
+use Rattle.cfi_step.specs.Report.{AreWalked, IsReport, IsWalkOf, stopping_hart}
 use Rattle.cfi_step.specs.Running.{IsBegun, IsOver, IsSameMachine, StaysFrom, trails_of}
 use Rattle.cfi_step.specs.Taken.{AreTurnsOf}
 use Rattle.cfi_step.specs.Trail.{IsTrailOf, told_of}
@@ -79,12 +82,12 @@ module _ (p : Profile) (image : Contents) (input : List ℕ) (count : ℕ) (whol
   all_made = tells.made ∙ over.made
 
   walk_told : (j : ℕ) (told : HartWalk) → slice_get report.walks j ≡ Some told
-      → IsWalkOf (walk_of p (code_words image.code) j start_hart (start_shared image input) (steps_of whole)) told
+      → IsWalkOf (walk_of p (code_words image.code) j (steps_taken p start_hart (start_shared image input) (steps_of whole))) told
   walk_told j told at =
       let there : slice_get (map told_of (trails_of after)) j ≡ Some told = rw tells.walks at at in
       let (t, first, is) = mapped told_of (slice_get (trails_of after) j) told (sym (slice_get-map told_of (trails_of after) j) ∙ there) in
       let trail = over.walks j t first in
-      subst (λ (w : HartWalk). IsWalkOf (walk_of p (code_words image.code) j start_hart (start_shared image input) (steps_of whole)) w) is
+      subst (λ (w : HartWalk). IsWalkOf (walk_of p (code_words image.code) j (steps_taken p start_hart (start_shared image input) (steps_of whole))) w) is
       (record { walk = trail.0; trail = trail.1 })
 
   pub reports : IsReport p image input count whole report
@@ -99,3 +102,31 @@ module _ (p : Profile) (image : Contents) (input : List ℕ) (count : ℕ) (whol
     harts = ap length tells.walks ∙ length-map (trails_of after) told_of ∙ length-set after.resting.items after.taken.hart after.trail ∙ over.each;
     walks = walk_told;
   }
+
+-- the walks of such a report
+module _ (p : Profile) (image : Contents) (graph : GraphParts) (input : List ℕ) (count : ℕ) (whole : List Planned) (report : RunReport)
+    (safe : IsSafe p image graph) (may : MayRun p count) (allowed : AreStepsOf count (steps_of whole)) (reported : IsReport p image input count whole report) where
+  from_opening : (k : ℕ) (told : HartWalk) → 0 < told.walk → (walk : List ℕ) → walk_of p (code_words image.code) k (steps_taken p start_hart (start_shared image input) (steps_of whole)) ≡ walk
+      → IsWalkOf walk told → IsGraphWalk p (code_words image.code) graph.lines walk → (addresses : List ℕ) × IsWalkOf (OPENING ∷ addresses) told × IsWalked p image addresses
+  from_opening k told some [] same is steps = let none = is.walk in absurd (omega arith)
+  from_opening k told some (v ∷ addresses) same is steps =
+      let first : (v ∷ addresses) ≡ OPENING ∷ addresses = ap (λ (a : ℕ). a ∷ addresses) steps.0 in (
+        addresses,
+        subst (λ (walk : List ℕ). IsWalkOf walk told) first is,
+        record {
+          count = count;
+          harts = start_hart;
+          shared = start_shared image input;
+          steps = steps_of whole;
+          hart = k;
+          may = may;
+          start = machine_may_start image input count;
+          allowed = allowed;
+          walk = same ∙ first;
+        },
+      )
+
+  pub are_walked : AreWalked p image report
+  are_walked k told at some =
+      from_opening k told some (walk_of p (code_words image.code) k (steps_taken p start_hart (start_shared image input) (steps_of whole))) refl (reported.walks k told at)
+      (safe_walks p image graph count start_hart (start_shared image input) (steps_of whole) k safe may (machine_may_start image input count) allowed)

@@ -1,16 +1,18 @@
 -- The report of a run of one or several harts under changes: how it ended and by which hart, the number of its steps (the
 -- one that stopped it is counted), whose turns they were, its output, its system calls, and each hart's walk, of which the
 -- last sixteen addresses are kept.
-use Rattle.std.specs.Prelude.{◌≡◌, ℕ, ◌-◌, ◌==◌, List, [], ◌∷◌, drop, length, slice_get, Option, Some, None, if◌then◌else◌}
+use Rattle.std.specs.Prelude.{◌≡◌, ℕ, ◌-◌, ◌<◌, ◌==◌, List, [], ◌∷◌, drop, length, slice_get, Option, Some, None, if◌then◌else◌}
 use Rattle.rv_word.specs.Image.{Contents}
 use Rattle.rv_word.specs.MemoryMap.{Profile}
 use Rattle.rv_code.specs.Run.{run}
 use Rattle.rv_code.specs.State.{start_hart, start_shared}
 use Rattle.rv_code.specs.declared.turn.Turn.{Turn}
 use Rattle.rv_code.specs.declared.turn.Turn.TheVariants as turns
+use Rattle.cfi_unit.specs.Prologue.{OPENING}
 use Rattle.cfi_unit.specs.UnitWords.{BAD_TARGET, BAD_RETURN, DEEP}
 use Rattle.cfi_rules.specs.Split.{code_words}
-use Rattle.cfi_rules.specs.Walks.{walk_of}
+use Rattle.cfi_rules.specs.Taken.{steps_taken}
+use Rattle.cfi_rules.specs.Walks.{IsWalked, walk_of}
 use Rattle.cfi_script.specs.Plan.{Planned, harts_of, numbered, steps_of}
 use Rattle.cfi_script.specs.Turns.{turns_of}
 use Rattle.cfi_step.specs.declared.report.Handler.TheVariants as handlers
@@ -67,4 +69,10 @@ pub record IsReport (p : Profile) (image : Contents) (input : List ℕ) (count :
   pub made : report.made ≡ numbered 0 taken
   pub harts : length report.walks ≡ count
   pub walks : (k : ℕ) (told : HartWalk) → slice_get report.walks k ≡ Some told
-      → IsWalkOf (walk_of p (code_words image.code) k start_hart (start_shared image input) (steps_of taken)) told
+      → IsWalkOf (walk_of p (code_words image.code) k (steps_taken p start_hart (start_shared image input) (steps_of taken))) told
+
+-- each walk of a report that has an address is the walk of a hart in a run of the image, from the opening on
+abbrev pub AreWalked : Profile → Contents → RunReport → Type 0
+AreWalked p image report =
+    (k : ℕ) (told : HartWalk) → slice_get report.walks k ≡ Some told → 0 < told.walk
+    → (addresses : List ℕ) × IsWalkOf (OPENING ∷ addresses) told × IsWalked p image addresses

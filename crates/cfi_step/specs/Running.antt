@@ -10,6 +10,7 @@ use Rattle.rv_code.specs.declared.turn.Turn.TheVariants.{Ran, Exit, Break, LoadF
 use Rattle.rv_machine.specs.Harts.{MachineParts, harts_in, harts_share}
 use Rattle.cfi_rules.specs.Along.{AreStepsOf}
 use Rattle.cfi_rules.specs.Split.{code_words, place_at}
+use Rattle.cfi_rules.specs.Taken.{steps_taken}
 use Rattle.cfi_rules.specs.Trails.{IsInPlace, trail_of}
 use Rattle.cfi_rules.specs.Walks.{if_own, if_starts, walk_of}
 use Rattle.cfi_script.specs.Plan.{IsQuietPlan, Plan, Planned, changes_of, harts_of, numbered, steps_of}
@@ -38,7 +39,7 @@ IsSameMachine q p = q.shadow_size ≡ p.shadow_size
 abbrev pub StaysFrom : Profile → Contents → ℕ → (ℕ → ℕ) → Harts → Shared → Type 0
 StaysFrom p image count newest harts s =
     (steps : List HartStep) → AreStepsOf count steps → (k : ℕ)
-    → AllByRecursion (IsInPlace p (code_words image.code)) (trail_of p (code_words image.code) k (newest k) harts s steps)
+    → AllByRecursion (IsInPlace p (code_words image.code)) (trail_of p (code_words image.code) k (newest k) (steps_taken p harts s steps))
 
 -- the trails of all harts: that of the hart that took the last step stands apart, and what stands at its place says
 -- nothing
@@ -122,5 +123,5 @@ pub record IsOver (p : Profile) (image : Contents) (count : ℕ) (harts : Harts)
   pub taken : AreTurnsOf (harts_of steps) after.taken
   pub each : length after.resting.items ≡ count
   pub last : after.taken.hart < count
-  pub walks : (j : ℕ) (t : TrailParts) → slice_get (trails_of after) j ≡ Some t → IsTrailOf (walk_of p (code_words image.code) j harts s (steps_of steps)) t
+  pub walks : (j : ℕ) (t : TrailParts) → slice_get (trails_of after) j ≡ Some t → IsTrailOf (walk_of p (code_words image.code) j (steps_taken p harts s (steps_of steps))) t
   pub allowed : AreStepsOf count (steps_of steps)

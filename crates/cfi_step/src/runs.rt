@@ -7,10 +7,11 @@ ghost use Rattle.rv_word.specs.MemoryMap.{MayRun};
 ghost use Rattle.rv_code.specs.State.{start_hart, start_shared};
 ghost use Rattle.rv_machine.specs.Harts.{harts_in, harts_share};
 ghost use Rattle.cfi_rules.specs.Split.{code_words};
+ghost use Rattle.cfi_rules.specs.Taken.{steps_taken};
 ghost use Rattle.cfi_rules.specs.Walks.{walk_of, IsGraphWalk};
 ghost use Rattle.cfi_script.specs.Plan.{planned, steps_of};
 ghost use Rattle.cfi_script.specs.Script.{IsScript, script_plan};
-ghost use Rattle.cfi_step.specs.Report.{IsReport};
+ghost use Rattle.cfi_step.specs.Report.{AreWalked, IsReport};
 ghost use Rattle.cfi_step.specs.Running.{IsBegun, IsOver};
 ghost use Rattle.cfi_step.specs.Starts.{AreStartsOf};
 
@@ -79,8 +80,11 @@ pub fn run<M: Meddler>(
 
     // The walk of each hart in that run is a list of steps of the graph walk.
     ensures walk { OnOk result ((k : ℕ) → IsGraphWalk (pair_profile checked.now.image checked.now.graph) (code_words checked.now.image.code) checked.now.graph.lines
-        (walk_of (pair_profile checked.now.image checked.now.graph) (code_words checked.now.image.code) k start_hart (start_shared checked.now.image input.now)
-        (steps_of (planned (pair_profile checked.now.image checked.now.graph) (M.plan meddler.old) harts 0 start_hart (start_shared checked.now.image input.now) limit)))) }
+        (walk_of (pair_profile checked.now.image checked.now.graph) (code_words checked.now.image.code) k (steps_taken (pair_profile checked.now.image checked.now.graph) start_hart (start_shared checked.now.image input.now)
+        (steps_of (planned (pair_profile checked.now.image checked.now.graph) (M.plan meddler.old) harts 0 start_hart (start_shared checked.now.image input.now) limit))))) }
+
+    // What the report has of such a walk is of one that a walk of the graph follows, from the opening on.
+    ensures walked { IfOk result (AreWalked (pair_profile checked.now.image checked.now.graph) checked.now.image) }
 
     // The meddler is as it was, so that the next run is under the same plan.
     ensures kept { meddler.new ≡ meddler.old }

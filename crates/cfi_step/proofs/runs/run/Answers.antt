@@ -10,7 +10,7 @@ use Rattle.cfi_script.specs.Plan.{harts_of, planned, steps_of}
 use Rattle.cfi_script.specs.Script.{Changes, script_plan}
 use Rattle.cfi_script.specs.Turns.{Turns, turns_of}
 use Rattle.cfi_step.proofs.PairProfile.{may_run, same_machine}
-use Rattle.cfi_step.proofs.Reported.{Tells, all_made, all_turns, begins, over_so, reports}
+use Rattle.cfi_step.proofs.Reported.{Tells, all_made, all_turns, are_walked, begins, over_so, reports}
 use Rattle.cfi_step.proofs.Replay.{in_order, replays}
 use Rattle.cfi_step.proofs.runs.run.Goals as goal
 
@@ -88,3 +88,15 @@ returns-clause-walk g c =
     λ k. safe_walks (pair_profile image c.args.checked.now.graph) image c.args.checked.now.graph c.args.harts start_hart (start_shared image c.args.input.now)
     (steps_of (planned (pair_profile image c.args.checked.now.graph) plan c.args.harts 0 start_hart (start_shared image c.args.input.now) c.args.limit)) k c.is_safe.ensures
     (may_run c.args.checked.now.graph.version image.version c.args.harts c.requires) (machine_may_start image c.args.input.now c.args.harts) over.allowed
+
+pub returns-clause-walked : goal.returns-clause-walked
+returns-clause-walked g c =
+    let image = c.args.checked.now.image in
+    let plan = g.M.Meddler.plan c.args.meddler.now in
+    let shared = rw c.image.ensures.value at c.in_ok-running.ensures.shared in
+    let over = over_so (pair_profile image c.args.checked.now.graph) image plan (length c.in_ok-running.running.machine.resting) c.args.harts (harts_in c.in_ok-running.running.machine) start_hart
+    (harts_share c.in_ok-running.running.machine) (start_shared image c.args.input.now) c.args.limit c.in_ok-end.end c.in_ok-end.steps c.finish.new.running
+    c.in_ok-running.ensures.count c.in_ok-running.ensures.harts shared c.in_ok-end.ensures.over in
+    let whole = planned (pair_profile image c.args.checked.now.graph) plan c.args.harts 0 start_hart (start_shared image c.args.input.now) c.args.limit in
+    are_walked (pair_profile image c.args.checked.now.graph) image c.args.checked.now.graph c.args.input.now c.args.harts whole c.in_ok-report.report c.is_safe.ensures
+    (may_run c.args.checked.now.graph.version image.version c.args.harts c.requires) over.allowed (returns-clause-report g c)
