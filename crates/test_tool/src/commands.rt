@@ -43,7 +43,7 @@ fn commands(rt: HostRuntime) {
 }
 
 /// Verdicts, and the line of each.
-static LINES: [(Verdict, &str); 14] = [
+const LINES: [(Verdict, &str); 14] = [
     (Verdict::Refused(Refusal::NoEntry), "refused 17 NoEntry\n"),
     (
         Verdict::Refused(Refusal::Policy(300)),
