@@ -4,9 +4,10 @@ use Rattle.std.specs.Fmt.{digits}
 use Rattle.elf_tables.specs.Header.{e_shnum}
 use Rattle.elf_object.specs.Fault.{fault_of as object_fault, header_fault}
 use Rattle.elf_object.specs.declared.fault.ObjectFault.TheVariants.{Flags, NotElf}
-use Rattle.cfi_harden.specs.declared.refusal.Refusal.TheVariants.{ObjectIn, TooManySections, UndefinedIn}
-use Rattle.cfi_harden.specs.Given.{first_unread, unread}
-use Rattle.cfi_harden.specs.RefusalText.{refusal_number, refusal_text}
+use Rattle.refusals.specs.declared.refusal.Refusal.TheVariants.{ObjectIn, TooManySections, UndefinedIn}
+use Rattle.refusals.specs.Refusals.{refusal_number, refusal_text}
+use Rattle.obj_items.specs.Added.{unread}
+use Rattle.cfi_harden.specs.Given.{first_unread}
 
 -- each with its number and its text
 flags : refusal_text (ObjectIn (Flags 1) 2) ≡ codes "Flags 1 in 2"

@@ -4,13 +4,16 @@ use Rattle.std.proofs.lemmas.Option.{none-some, same_Some}
 use Rattle.rv_word.proofs.Cases.{cases_Option, mapped}
 use Rattle.elf_tables.specs.Header.{e_shnum}
 use Rattle.elf_object.specs.Fault.{fault_of as object_fault}
+use Rattle.obj_join.specs.Duplicate.{duplicate}
 use Rattle.obj_rules.specs.Fault.{fault_of}
 use Rattle.obj_rules.specs.declared.fault.ItemFault.{ItemFault}
 use Rattle.obj_rules.specs.declared.fault.ItemFault.TheVariants as items
-use Rattle.obj_items.specs.Finished.{input_by}
-use Rattle.cfi_harden.specs.declared.refusal.Refusal.{Refusal}
-use Rattle.cfi_harden.specs.declared.refusal.Refusal.TheVariants as R
-use Rattle.cfi_harden.specs.Given.{Given, alone, joined, RefusesGiven, first_unread, refusal_in, unread}
+use Rattle.obj_said.specs.SaidOf.{said_by}
+use Rattle.obj_items.specs.Added.{unread}
+use Rattle.obj_items.specs.Finished.{input_by, refusal_in, unfinished}
+use Rattle.refusals.specs.declared.refusal.Refusal.{Refusal}
+use Rattle.refusals.specs.declared.refusal.Refusal.TheVariants as R
+use Rattle.cfi_harden.specs.Given.{Given, alone, joined, RefusesGiven, first_unread}
 use Rattle.cfi_harden.specs.Refused.{IsEarly}
 
 -- of one object
@@ -43,11 +46,26 @@ items_early : (objects : List (List ℕ)) (fault : ItemFault) → IsEarly (refus
 items_early objects (items.Undefined n) = tt
 items_early objects other = tt
 
+unfinished_early : (objects : List (List ℕ)) (refusal : Refusal) → unfinished objects ≡ Some refusal → IsEarly refusal
+unfinished_early objects refusal is = elim (cases_Option (duplicate (said_by objects).symbols)) [
+  | inl none ↦
+      let (fault, some, same) = mapped (refusal_in objects) (fault_of (input_by objects)) refusal (rw none at is) in
+      subst IsEarly same (items_early objects fault)
+  | inr (name, some) ↦
+      let first : Some (R.Duplicate name) ≡ Some refusal = rw some at is in
+      subst IsEarly (same_Some (R.Duplicate name) refusal first) tt
+]
+
+joined_early : (objects : List (List ℕ)) (refusal : Refusal) → RefusesGiven (joined objects) refusal → IsEarly refusal
+joined_early objects refusal is = elim (cases_Option (first_unread 1 0 objects)) [
+  | inl none ↦ unfinished_early objects refusal (rw none at is)
+  | inr (first, some) ↦
+      let same : Some first ≡ Some refusal = rw some at is in
+      subst IsEarly (same_Some first refusal same) (first_early 1 0 objects first some)
+]
+
 pub given_early : (given : Given) (refusal : Refusal) → RefusesGiven given refusal → IsEarly refusal
 given_early (alone object) (R.Object fault) is = tt
 given_early (alone object) (R.Items fault) is = tt
 given_early (alone object) other is = absurd is
-given_early (joined objects) refusal (inl is) = first_early 1 0 objects refusal is
-given_early (joined objects) refusal (inr (added, is)) =
-    let (fault, some, same) = mapped (refusal_in objects) (fault_of (input_by objects)) refusal is in
-    subst IsEarly same (items_early objects fault)
+given_early (joined objects) refusal is = joined_early objects refusal is

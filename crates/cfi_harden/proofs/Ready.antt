@@ -9,8 +9,8 @@ use Rattle.rv_word.specs.declared.end.End.TheVariants.{Fault, NoMemory}
 use Rattle.obj_program.specs.MapFit.{FitsMaps}
 use Rattle.obj_program.specs.Program.{count, item_of}
 use Rattle.obj_program.specs.Sound.{IsSound}
-use Rattle.cfi_harden.specs.declared.refusal.Refusal.{Refusal}
-use Rattle.cfi_harden.specs.declared.refusal.Refusal.TheVariants as R
+use Rattle.refusals.specs.declared.refusal.Refusal.{Refusal}
+use Rattle.refusals.specs.declared.refusal.Refusal.TheVariants as R
 use Rattle.cfi_harden.specs.Fitting.{IsFitting, RefusesPlaced}
 use Rattle.cfi_writer.specs.Hardened.{AreGiven, HardenedParts, chosen}
 use Rattle.cfi_harden.specs.Hardened.{IsWrittenOf}

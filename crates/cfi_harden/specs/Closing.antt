@@ -6,8 +6,8 @@ use Rattle.rv_word.specs.declared.end.End.TheVariants.{Fault, NoMemory}
 use Rattle.text_lines.specs.declared.fault.LineFault.{LineFault}
 use Rattle.obj_program.specs.Program.{Program}
 use Rattle.cfi_closed.specs.Closed.{ClosedGraph}
-use Rattle.cfi_harden.specs.declared.refusal.Refusal.{Refusal}
-use Rattle.cfi_harden.specs.declared.refusal.Refusal.TheVariants.{Policy}
+use Rattle.refusals.specs.declared.refusal.Refusal.{Refusal}
+use Rattle.refusals.specs.declared.refusal.Refusal.TheVariants.{Policy}
 use Rattle.cfi_harden.specs.Prepared.{IsClosedUnder, IsWrongPolicy}
 
 abbrev pub Closes : GraphVersion → Program → Option (List ℕ) → Result ClosedGraph (End Refusal) → Type 0

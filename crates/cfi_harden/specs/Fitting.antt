@@ -5,8 +5,8 @@ use Rattle.rv_word.specs.MemoryMap.{CODE_SIZE}
 use Rattle.rv_word.specs.declared.end.End.{End}
 use Rattle.rv_word.specs.declared.end.End.TheVariants.{Fault, NoMemory}
 use Rattle.obj_program.specs.DataAtMap.{init_size}
-use Rattle.cfi_harden.specs.declared.refusal.Refusal.{Refusal}
-use Rattle.cfi_harden.specs.declared.refusal.Refusal.TheVariants.{CodeTooLarge, DataTooLarge, RelocRange}
+use Rattle.refusals.specs.declared.refusal.Refusal.{Refusal}
+use Rattle.refusals.specs.declared.refusal.Refusal.TheVariants.{CodeTooLarge, DataTooLarge, RelocRange}
 use Rattle.cfi_harden.specs.Room.{HasDataRoom}
 use Rattle.cfi_map.specs.Placing.{IsPlacementOf, Spaced}
 use Rattle.cfi_harden.specs.Prepared.{PreparedParts}

@@ -2,7 +2,6 @@ pub mod Given
 pub mod Request
 pub mod Prepared
 pub mod Refused
-pub mod RefusalText
 pub mod Closing
 pub mod Preparing
 pub mod Joining

@@ -6,11 +6,9 @@ use Rattle.rv_word.specs.declared.end.End.TheVariants.{Fault, NoMemory}
 use Rattle.obj_program.specs.Program.{Program}
 use Rattle.cfi_closed.specs.Closed.{ClosedGraph}
 use Rattle.cfi_flow.specs.Entry.{entry_place}
-use Rattle.cfi_harden.specs.declared.joined.JoinedFault.{JoinedFault}
-use Rattle.cfi_harden.specs.declared.joined.JoinedFault.TheVariants.{Refused, Duplicate}
-use Rattle.cfi_harden.specs.declared.refusal.Refusal.{Refusal}
-use Rattle.cfi_harden.specs.declared.refusal.Refusal.TheVariants.{NoEntry, Policy}
-use Rattle.cfi_harden.specs.Given.{Given, joined, DuplicateIn, IsGiven, RefusesGiven, program_given}
+use Rattle.refusals.specs.declared.refusal.Refusal.{Refusal}
+use Rattle.refusals.specs.declared.refusal.Refusal.TheVariants.{NoEntry, Policy}
+use Rattle.cfi_harden.specs.Given.{Given, IsGiven, RefusesGiven, program_given}
 use Rattle.cfi_harden.specs.Prepared.{IsClosedUnder, IsWrongPolicy}
 
 -- the program that is given, or the first that stands against there being one
@@ -18,13 +16,6 @@ abbrev pub Reads : Given → Result Program (End Refusal) → Type 0
 Reads given (Ok program) = IsGiven given × (program ≡ program_given given)
 Reads given (Err (Fault refusal)) = RefusesGiven given refusal
 Reads given (Err NoMemory) = Unit {0}
-
--- the same of several objects, of which also a name may be defined twice
-abbrev pub Joins : List (List ℕ) → Result Program (End JoinedFault) → Type 0
-Joins objects (Ok program) = IsGiven (joined objects) × (program ≡ program_given (joined objects))
-Joins objects (Err (Fault (Refused refusal))) = RefusesGiven (joined objects) refusal
-Joins objects (Err (Fault (Duplicate name))) = DuplicateIn (joined objects) name.now
-Joins objects (Err NoMemory) = Unit {0}
 
 -- where a program is entered, with its closed graph for a version of graphs. Only a private contract cites this
 abbrev pub Enters : GraphVersion → Program → List ℕ → Option (List ℕ) → Result (ℕ × ClosedGraph) (End Refusal) → Type 0

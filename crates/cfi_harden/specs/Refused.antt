@@ -3,8 +3,8 @@ use Rattle.std.specs.Prelude.{◌≡◌, ◌⊎◌, None, IsSome, Result, Ok, Er
 use Rattle.rv_word.specs.declared.end.End.{End}
 use Rattle.rv_word.specs.declared.end.End.TheVariants.{Fault, NoMemory}
 use Rattle.cfi_flow.specs.Entry.{entry_place}
-use Rattle.cfi_harden.specs.declared.refusal.Refusal.{Refusal}
-use Rattle.cfi_harden.specs.declared.refusal.Refusal.TheVariants.{Object, ObjectIn, TooManySections, Items, UndefinedIn, NoEntry, Policy}
+use Rattle.refusals.specs.declared.refusal.Refusal.{Refusal}
+use Rattle.refusals.specs.declared.refusal.Refusal.TheVariants.{Object, ObjectIn, TooManySections, Duplicate, Items, UndefinedIn, NoEntry, Policy, CodeTooLarge, DataTooLarge, RelocRange}
 use Rattle.cfi_harden.specs.Fitting.{RefusesPlaced}
 use Rattle.cfi_harden.specs.Given.{IsGiven, RefusesGiven}
 use Rattle.cfi_writer.specs.Hardened.{HardenedParts}
@@ -12,16 +12,18 @@ use Rattle.cfi_harden.specs.Hardened.{IsHardened, IsHardenedOf, IsWrittenOf}
 use Rattle.cfi_harden.specs.Request.{ProgramRequest, Request, program_request}
 use Rattle.cfi_harden.specs.Prepared.{IsPreparedOf, IsWrongPolicy, PreparedParts}
 
+-- of a program that is prepared
+abbrev pub RefusesLate : ProgramRequest → Refusal → Type 0
+RefusesLate request refusal = (p : PreparedParts) × IsPreparedOf request p × RefusesPlaced p refusal
+
 -- of a program
 abbrev pub RefusesProgram : ProgramRequest → Refusal → Type 0
-RefusesProgram request (Object fault) = ⊥
-RefusesProgram request (ObjectIn fault k) = ⊥
-RefusesProgram request (TooManySections n) = ⊥
-RefusesProgram request (Items fault) = ⊥
-RefusesProgram request (UndefinedIn symbol k) = ⊥
 RefusesProgram request NoEntry = entry_place request.program request.entry ≡ None
 RefusesProgram request (Policy n) = IsSome (entry_place request.program request.entry) × IsWrongPolicy request.program request.policy n
-RefusesProgram request late = (p : PreparedParts) × IsPreparedOf request p × RefusesPlaced p late
+RefusesProgram request (CodeTooLarge bytes) = RefusesLate request (CodeTooLarge bytes)
+RefusesProgram request (DataTooLarge init end) = RefusesLate request (DataTooLarge init end)
+RefusesProgram request (RelocRange section offset) = RefusesLate request (RelocRange section offset)
+RefusesProgram request other = ⊥
 
 -- of what is given: it is no program, or its program is refused
 abbrev pub Refuses : Request → Refusal → Type 0
@@ -32,11 +34,12 @@ abbrev pub IsEarly : Refusal → Type 0
 IsEarly (Object fault) = Unit {0}
 IsEarly (ObjectIn fault k) = Unit {0}
 IsEarly (TooManySections n) = Unit {0}
+IsEarly (Duplicate name) = Unit {0}
 IsEarly (Items fault) = Unit {0}
 IsEarly (UndefinedIn symbol k) = Unit {0}
 IsEarly NoEntry = Unit {0}
 IsEarly (Policy n) = Unit {0}
-IsEarly late = ⊥
+IsEarly other = ⊥
 
 -- what hardening a request comes to; only want of memory is free
 abbrev pub HardensProgram : ProgramRequest → Result HardenedParts (End Refusal) → Type 0

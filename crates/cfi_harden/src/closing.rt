@@ -6,11 +6,11 @@ ghost use Rattle.text_lines.specs.Answers.{Answers, UnlessNoMemory};
 ghost use Rattle.cfi_harden.specs.Closing.{Closes, failed_line};
 ghost use Rattle.cfi_harden.specs.Request.{policy_asked, policy_end};
 
-use crate::refusal::Refusal;
 use cfi_closed::Closed;
 use cfi_flow::{close, raw_graph};
 use cfi_policy::{Policy, read_policy_part};
 use obj_program::Items;
+use refusals::Refusal;
 use rv_word::{End, Form};
 use std::alloc::Global;
 use text_lines::LineFault;

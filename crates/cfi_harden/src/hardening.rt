@@ -11,11 +11,11 @@ ghost use Rattle.cfi_map.specs.Sizes.{whole_sizes};
 ghost use Rattle.cfi_harden.specs.Ready.{IsReady};
 
 use crate::prepared::{Prepared, prepare_program};
-use crate::refusal::Refusal;
 use crate::room::spaced_in_room;
 use crate::word_range::words_fit_in;
 use cfi_writer::{Hardened, class_labels, written};
 use obj_program::Items;
+use refusals::Refusal;
 use rv_word::{End, Form, NoMemory};
 use std::alloc::Global;
 

@@ -4,9 +4,8 @@
 #![tactic(auto)]
 
 pub use hardening::{harden_prepared, harden_program};
-pub use joined::{JoinedFault, joined_program};
+pub use joined::joined_program;
 pub use prepared::{Prepared, prepare_program, program_of};
-pub use refusal::Refusal;
 pub use room::has_data_room;
 
 mod closing;
@@ -14,6 +13,5 @@ mod hardening;
 mod joined;
 pub mod laws;
 mod prepared;
-mod refusal;
 mod room;
 mod word_range;

@@ -6,12 +6,12 @@ ghost use Rattle.cfi_harden.specs.Refused.{PreparesProgram};
 ghost use Rattle.cfi_harden.specs.Request.{ProgramRequest};
 
 use crate::closing::closed_under;
-use crate::refusal::Refusal;
 use cfi_closed::Closed;
 use cfi_flow::entry_place;
 use elf_object::Object;
 use obj_items::items;
 use obj_program::Items;
+use refusals::Refusal;
 use rv_word::{End, Form};
 use std::alloc::Global;
 use std::marker::Model;

@@ -7,9 +7,9 @@ ghost use Rattle.cfi_harden.specs.Fitting.{FitsOr};
 ghost use Rattle.cfi_harden.specs.Room.{HasDataRoom};
 
 use crate::prepared::Prepared;
-use crate::refusal::Refusal;
 use cfi_map::{Spacing, place_program};
 use obj_program::Items;
+use refusals::Refusal;
 use rv_word::End;
 use std::alloc::Global;
 

@@ -10,8 +10,8 @@ use Rattle.tool_common.specs.Reads.{Content}
 use Rattle.cfi_pair.specs.Spelled.{Spell}
 use Rattle.cfi_pair.proofs.Determined.{none_rejected, one_pair}
 use Rattle.tool_common.specs.Words.{text_named}
-use Rattle.tool_common.specs.declared.refusal.Refusal.{Refusal}
-use Rattle.tool_common.specs.declared.refusal.Refusal.TheVariants.{Graph, Harts, Image, Script}
+use Rattle.refusals.specs.declared.refusal.Refusal.{Refusal}
+use Rattle.refusals.specs.declared.refusal.Refusal.TheVariants.{Graph, Harts, Image, Script}
 use Rattle.tool_common.proofs.Held.{same_bytes, same_named}
 use Rattle.cfi_report.specs.ReportText.{end_status}
 use Rattle.cfi_launch.specs.SafeRun.{IsSafeRun, undisturbed_script}

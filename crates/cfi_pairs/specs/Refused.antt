@@ -3,8 +3,8 @@ use Rattle.std.specs.Prelude.{ℕ, List, Option}
 use Rattle.cfi_launch.specs.Launch.{IsLaunchFault}
 use Rattle.cfi_launch.specs.declared.launching.LaunchFault.TheVariants as faults
 use Rattle.cfi_pair.specs.declared.opening.PairFault.TheVariants as pair
-use Rattle.tool_common.specs.declared.refusal.Refusal.{Refusal}
-use Rattle.tool_common.specs.declared.refusal.Refusal.TheVariants.{Image, Graph, Script, Harts}
+use Rattle.refusals.specs.declared.refusal.Refusal.{Refusal}
+use Rattle.refusals.specs.declared.refusal.Refusal.TheVariants.{Image, Graph, Script, Harts}
 
 -- a refusal tells the fault of the files
 abbrev pub IsRefusal : List ℕ → List ℕ → Option (List ℕ) → Refusal → Type 0

@@ -1,15 +1,15 @@
 -- `run IMAGE GRAPH SCRIPT INPUT STEPS`: a run of an accepted image. The word `none` for SCRIPT or INPUT
 -- means no file.
-use Rattle.std.specs.Prelude.{◌≡◌, ℕ, List, [], ◌∷◌, ◌++◌, codes, Option, Some, None, option_map}
+use Rattle.std.specs.Prelude.{◌≡◌, ℕ, List, [], ◌∷◌, Option, Some, None, option_map}
 use Rattle.rv_word.specs.declared.version.ImageVersion.{ImageVersion}
-use Rattle.cfi_rules.specs.RejectText.{reject_text}
 use Rattle.cfi_step.specs.declared.report.RunReport.{RunReport}
 use Rattle.tool_common.specs.Lines.{with_newline}
 use Rattle.cfi_launch.specs.Launch.{IsLaunchOf}
 use Rattle.cfi_launch.specs.declared.launching.Launched.TheVariants as launched
 use Rattle.cfi_pairs.specs.Refused.{IsRefusal}
+use Rattle.cfi_pairs.specs.Verify.{rejected_line}
 use Rattle.tool_common.specs.Reads.{Content, Gave, GaveNamed}
-use Rattle.tool_common.specs.Refusals.{refusal_line}
+use Rattle.refusals.specs.Refusals.{refusal_line}
 use Rattle.cfi_report.specs.ReportText.{end_status, report_text}
 use Rattle.tool_common.specs.Words.{file_word, steps_of, text_named}
 use Rattle.cfi_pairs.specs.declared.run.RunOutcome.{RunOutcome}
@@ -58,7 +58,7 @@ pub record ExplainsRun (content : Content) (asks : RunWords) (outcome : RunOutco
 
 abbrev pub run_text : RunOutcome → List ℕ
 run_text (Refused refusal) = with_newline (refusal_line refusal)
-run_text (Rejected reject) = with_newline (codes "rejected " ++ reject_text reject)
+run_text (Rejected reject) = with_newline (rejected_line reject)
 run_text (Ran version report) = report_text version report
 
 abbrev pub run_status : RunOutcome → ℕ

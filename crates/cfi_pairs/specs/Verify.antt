@@ -3,13 +3,14 @@ use Rattle.std.specs.Prelude.{◌≡◌, ℕ, List, [], ◌∷◌, ◌++◌, cod
 use Rattle.rv_word.specs.Image.{Contents}
 use Rattle.cfi_graph.specs.Graph.{GraphParts}
 use Rattle.cfi_rules.specs.RejectText.{reject_text}
+use Rattle.cfi_rules.specs.declared.reject.Reject.{Reject}
 use Rattle.cfi_pair.specs.Judgement as rules
 use Rattle.cfi_pair.specs.Spelled.{Spell}
 use Rattle.cfi_pair.specs.declared.judging.Verdict.TheVariants as says
 use Rattle.tool_common.specs.Lines.{with_newline}
 use Rattle.cfi_pairs.specs.Refused.{IsRefusal}
 use Rattle.tool_common.specs.Reads.{Content, Gave}
-use Rattle.tool_common.specs.Refusals.{refusal_line}
+use Rattle.refusals.specs.Refusals.{refusal_line}
 use Rattle.tool_words.specs.declared.asked.VerifyWords as W
 use Rattle.cfi_pairs.specs.declared.verify.Verdict.{Verdict}
 use Rattle.cfi_pairs.specs.declared.verify.Verdict.TheVariants.{Accepted, Refused, Rejected}
@@ -57,10 +58,14 @@ pub record ExplainsVerdict (content : Content) (asks : VerifyWords) (verdict : V
   pub graph_gave : Gave (content asks.graph) graph_bytes
   pub verdict_is : IsVerdictOf image_bytes graph_bytes verdict
 
+-- the line of an image that breaks a rule
+abbrev pub rejected_line : Reject → List ℕ
+rejected_line reject = codes "rejected " ++ reject_text reject
+
 abbrev pub verdict_line : Verdict → List ℕ
 verdict_line Accepted = codes "accepted"
 verdict_line (Refused refusal) = refusal_line refusal
-verdict_line (Rejected reject) = codes "rejected " ++ reject_text reject
+verdict_line (Rejected reject) = rejected_line reject
 
 abbrev pub verdict_status : Verdict → ℕ
 verdict_status Accepted = 0

@@ -7,7 +7,7 @@ ghost use Rattle.cfi_pairs.specs.Refused.{IsRefusal};
 
 use cfi_launch::LaunchFault;
 use cfi_pair::PairFault;
-use tool_common::Refusal;
+use refusals::Refusal;
 
 /// The refusal that tells a fault of an image and its graph.
 pub(crate) fn pair_refusal(fault: PairFault) -> Refusal

@@ -5,14 +5,15 @@ ghost use Rattle.tool_common.specs.Reads.{IsFault, IsStop, IsTooLong, file_names
 ghost use Rattle.cfi_pairs.specs.Run.{ExplainsRun, IsRunOf, run_asked, run_names, run_status, run_text, run_words};
 
 use crate::refused::refusal_of;
-use crate::verify::Verdict;
+use crate::verify::rejected_line;
 use cfi_launch::{Launched, launch};
 use cfi_report::{end_status, report_text};
 use cfi_step::RunReport;
 use cfi_verify::Reject;
+use refusals::Refusal;
 use rv_word::{End, ImageVersion, NoMemory};
 use std::alloc::Global;
-use tool_common::{Refusal, Stop, file_word, line, read_all, status, steps, text_named};
+use tool_common::{Stop, file_word, read_all, refusal_line, status, steps, text_named};
 use tool_io::Files;
 use tool_words::RunWords;
 
@@ -70,8 +71,8 @@ impl RunOutcome {
         ensures { IfOk result (λ text. text.items ≡ run_text self.now) }
     {
         match self {
-            RunOutcome::Refused(refusal) => line(alloc, refusal),
-            RunOutcome::Rejected(reject) => line(alloc, &Verdict::Rejected(*reject)),
+            RunOutcome::Refused(refusal) => refusal_line(alloc, refusal),
+            RunOutcome::Rejected(reject) => rejected_line(alloc, reject),
             RunOutcome::Ran(version, report) => report_text(alloc, *version, report),
         }
     }

@@ -1,23 +1,24 @@
 ghost use Rattle.std.specs.Prelude.{◌≡◌, ℕ, List, IfOk, IfErr, IsOk};
 ghost use Rattle.tool_io.specs.Names.{AreRead};
 ghost use Rattle.tool_io.specs.Reading.{CountsReads, IsOnlyRead};
+ghost use Rattle.tool_common.specs.Lines.{with_newline};
 ghost use Rattle.tool_common.specs.Reads.{IsFault, IsStop, IsTooLong, file_names};
 ghost use Rattle.cfi_pair.specs.Opening.{IsPairEnd};
 ghost use Rattle.cfi_pair.specs.Spelled.{Spell};
-ghost use Rattle.cfi_pairs.specs.Verify.{ExplainsVerdict, IsJudgement, IsVerdictOf, verdict_status, verify_asked, verify_names};
+ghost use Rattle.cfi_pairs.specs.Verify.{ExplainsVerdict, IsJudgement, IsVerdictOf, rejected_line, verdict_line, verdict_status, verify_asked, verify_names};
 
 use crate::refused::pair_refusal;
 use cfi_pair::{Pair, PairFault, Verdict as Judgement, judge, open_pair};
 use cfi_verify::Reject;
+use refusals::Refusal;
 use rv_word::{End, NoMemory};
 use std::alloc::Global;
-use std::fmt;
-use tool_common::{Refusal, Stop, read_all, status};
+use tool_common::{Stop, read_all, refusal_line, status};
 use tool_io::Files;
 use tool_words::VerifyWords;
 
 /// What is said of a file that should be an image and one that should be its graph.
-#[derive(Clone, Copy)]
+#[derive(Drop)]
 pub enum Verdict {
     /// They are an image and its graph, and the image meets every rule.
     Accepted,
@@ -37,21 +38,24 @@ impl Verdict {
             Verdict::Refused(_) | Verdict::Rejected(_) => status::REFUSED,
         }
     }
-}
 
-impl fmt::Display for Verdict {
-    ghost use Rattle.std.specs.Prelude.{Some};
-    ghost use Rattle.cfi_pairs.specs.Verify.{verdict_line};
-
-    ghost output = { λ verdict. Some (verdict_line verdict) };
-
-    fn fmt<W: fmt::Write>(&self, f: &mut fmt::Formatter<W>) -> fmt::Result {
+    /// The line that is put.
+    pub fn text(&self, alloc: Global) -> Result<Vec<u8>, NoMemory>
+        ensures { IfOk result (λ text. text.items ≡ with_newline (verdict_line self.now)) }
+    {
         match self {
-            Verdict::Accepted => write!(f, "accepted"),
-            Verdict::Refused(refusal) => write!(f, "{refusal}"),
-            Verdict::Rejected(reject) => write!(f, "rejected {reject}"),
+            Verdict::Accepted => Ok(Vec::from_slice(alloc, b"accepted\n")?),
+            Verdict::Refused(refusal) => refusal_line(alloc, refusal),
+            Verdict::Rejected(reject) => rejected_line(alloc, reject),
         }
     }
+}
+
+/// The line of an image that breaks a rule.
+pub(crate) fn rejected_line(alloc: Global, reject: &Reject) -> Result<Vec<u8>, NoMemory>
+    ensures { IfOk result (λ line. line.items ≡ with_newline (rejected_line reject.now)) }
+{
+    Ok(format!(in alloc; "rejected {reject}\n")?.into_bytes())
 }
 
 /// The verdict on an image and its graph.

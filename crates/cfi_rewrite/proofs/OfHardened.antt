@@ -5,7 +5,7 @@ use Rattle.std.specs.Prelude.{IfOk, Result, Ok, Err}
 use Rattle.rv_word.specs.declared.end.End.{End}
 use Rattle.rv_word.specs.declared.end.End.TheVariants.{Fault, NoMemory}
 use Rattle.obj_program.specs.Program.{Program}
-use Rattle.cfi_harden.specs.declared.refusal.Refusal.{Refusal}
+use Rattle.refusals.specs.declared.refusal.Refusal.{Refusal}
 use Rattle.cfi_writer.specs.Hardened.{HardenedParts}
 use Rattle.cfi_harden.specs.Preparing.{Reads}
 use Rattle.cfi_harden.specs.Prepared.{IsOfRequest, PreparedParts}

@@ -2,7 +2,6 @@
 //! the program does. Its main calls are `rewrite_as` and `rewrite_joined`.
 #![tactic(auto)]
 
-pub use cfi_harden::Refusal;
 pub use cfi_writer::Hardened;
 pub use rewriting::{rewrite, rewrite_as, rewrite_joined, rewrite_prepared};
 

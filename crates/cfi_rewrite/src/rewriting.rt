@@ -6,10 +6,11 @@ ghost use Rattle.cfi_harden.specs.Refused.{Hardens, HardensPrepared, HardensProg
 ghost use Rattle.cfi_harden.specs.Request.{ProgramRequest, program_request};
 ghost use Rattle.cfi_meaning.specs.Hardened.{KeepsMeaningAtMap, KeepsMeaningOf, NeverDiffersAtMap, NeverDiffersOf};
 
-use cfi_harden::{Prepared, Refusal, harden_prepared, harden_program, program_of};
+use cfi_harden::{Prepared, harden_prepared, harden_program, program_of};
 use cfi_meaning::laws::{hardened_keeps_meaning, hardened_never_differs};
 use cfi_writer::Hardened;
 use obj_program::Items;
+use refusals::Refusal;
 use rv_word::{End, Form};
 use std::alloc::Global;
 

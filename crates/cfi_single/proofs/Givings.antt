@@ -1,9 +1,9 @@
--- What holds of requests of programs holds of those whose program is given, and a program is given, refused or a name defined twice.
-use Rattle.std.proofs.Common.{◌≡◌, ℕ, option_map, List, inl, inr, sym, ap, ◌∙◌}
-use Rattle.std.proofs.lemmas.Option.{same_Some}
-use Rattle.cfi_harden.specs.declared.refusal.Refusal.{Refusal}
-use Rattle.cfi_harden.specs.declared.refusal.Refusal.TheVariants as R
-use Rattle.cfi_harden.specs.Given.{Given, alone, joined, DuplicateIn, IsGiven, RefusesGiven, refusal_in}
+-- What holds of requests of programs holds of those whose program is given, and a program is given or refused in one way.
+use Rattle.std.proofs.Common.{◌≡◌, inl, inr, sym, ap, ◌∙◌}
+use Rattle.std.proofs.lemmas.Option.{none-some, same_Some}
+use Rattle.refusals.specs.declared.refusal.Refusal.{Refusal}
+use Rattle.refusals.specs.declared.refusal.Refusal.TheVariants as R
+use Rattle.cfi_harden.specs.Given.{Given, alone, joined, IsGiven, RefusesGiven}
 use Rattle.cfi_writer.specs.Hardened.{HardenedParts}
 use Rattle.cfi_harden.specs.Hardened.{IsHardened}
 use Rattle.cfi_harden.specs.Refused.{Refuses}
@@ -18,9 +18,7 @@ accepted : (given : Given) (r : Refusal) → IsGiven given → RefusesGiven give
 accepted (alone object) (R.Object fault) is x = let none = is.sound in absurd (cc)
 accepted (alone object) (R.Items fault) is x = let none = is.right in let some = x.1 in absurd (cc)
 accepted (alone object) other is x = absurd x
-accepted (joined objects) r (added, right) (inl x) = let none = added.read in absurd (cc)
-accepted (joined objects) r (added, right) (inr (_, x)) =
-    let none = ap (option_map (refusal_in objects)) right in absurd (cc)
+accepted (joined objects) r is x = none-some r (sym is ∙ x)
 
 -- and it is refused in one way
 one_refusal : (given : Given) (a b : Refusal) → RefusesGiven given a → RefusesGiven given b → a ≡ b
@@ -31,24 +29,7 @@ one_refusal (alone object) (R.Items f) (R.Object g) x y = let none = x.0 in absu
 one_refusal (alone object) other (R.Object g) x y = absurd x
 one_refusal (alone object) other (R.Items g) x y = absurd x
 one_refusal (alone object) a other x y = absurd y
-one_refusal (joined objects) a b (inl x) (inl y) = same_Some a b (sym x ∙ y)
-one_refusal (joined objects) a b (inl x) (inr (added, y)) = let none = added.read in absurd (cc)
-one_refusal (joined objects) a b (inr (added, x)) (inl y) = let none = added.read in absurd (cc)
-one_refusal (joined objects) a b (inr (added, x)) (inr (_, y)) = same_Some a b (sym x ∙ y)
-
--- a name that is defined twice
-once : (given : Given) (name : List ℕ) → DuplicateIn given name → IsGiven given → ⊥
-once (alone object) name twice is = absurd twice
-once (joined objects) name twice (added, right) = let none = added.once in let some = twice.1 in absurd (cc)
-
-unrefused : (given : Given) (name : List ℕ) (r : Refusal) → DuplicateIn given name → RefusesGiven given r → ⊥
-unrefused (alone object) name r twice x = absurd twice
-unrefused (joined objects) name r twice (inl x) = let none = twice.0 in absurd (cc)
-unrefused (joined objects) name r twice (inr (added, x)) = let none = added.once in let some = twice.1 in absurd (cc)
-
-one_name : (given : Given) (a b : List ℕ) → DuplicateIn given a → DuplicateIn given b → a ≡ b
-one_name (alone object) a b x y = absurd x
-one_name (joined objects) a b x y = same_Some a b (sym x.1 ∙ y.1)
+one_refusal (joined objects) a b x y = same_Some a b (sym x ∙ y)
 
 -- of a request
 module _ (request : Request) where
@@ -62,17 +43,10 @@ module _ (request : Request) where
   hardened h r (given, is) (inl x) = accepted request.given r given x
   hardened h r (given, is) (inr (_, x)) = not_refused (program_request request) h r is x
 
-  nothing_told : (name : List ℕ) (r : Refusal) → DuplicateIn request.given name → Refuses request r → ⊥
-  nothing_told name r twice (inl x) = unrefused request.given name r twice x
-  nothing_told name r twice (inr (given, x)) = once request.given name twice given
-
 pub in_one_way : GivenInOneWay
 in_one_way = record {
   prepared = λ request p q a b. prepared_unique (program_request request) p q a.1 b.1;
   hardened = λ request h g a b. hardened_unique (program_request request) h g a.1 b.1;
   not_refused = hardened;
   refused = one;
-  one_name = λ request. one_name request.given;
-  not_given = λ request. once request.given;
-  no_refusal = nothing_told;
 }

@@ -11,8 +11,8 @@ use Rattle.obj_program.specs.Program.{Program}
 use Rattle.cfi_flow.specs.Entry.{entry_place}
 use Rattle.cfi_flow.specs.Policy.{wrong_line}
 use Rattle.cfi_map.specs.Source.{first_astray}
-use Rattle.cfi_harden.specs.declared.refusal.Refusal.{Refusal}
-use Rattle.cfi_harden.specs.declared.refusal.Refusal.TheVariants as R
+use Rattle.refusals.specs.declared.refusal.Refusal.{Refusal}
+use Rattle.refusals.specs.declared.refusal.Refusal.TheVariants as R
 use Rattle.cfi_harden.specs.Fitting.{RefusesPlaced}
 use Rattle.cfi_writer.specs.Hardened.{HardenedParts}
 use Rattle.cfi_harden.specs.Hardened.{IsWrittenOf}
@@ -29,16 +29,12 @@ data Stage (request : ProgramRequest) (r : Refusal) : Type 0 where
   late : (p : PreparedParts) → IsPreparedOf request p → RefusesPlaced p r → Stage request r
 
 stage : (request : ProgramRequest) (r : Refusal) → RefusesProgram request r → Stage request r
-stage request (R.Object fault) x = early tt
-stage request (R.ObjectIn fault k) x = early tt
-stage request (R.TooManySections n) x = early tt
-stage request (R.Items fault) x = early tt
-stage request (R.UndefinedIn symbol k) x = early tt
 stage request R.NoEntry x = early tt
 stage request (R.Policy n) x = early tt
 stage request (R.CodeTooLarge bytes) (p, prepared, x) = late p prepared x
 stage request (R.DataTooLarge init end) (p, prepared, x) = late p prepared x
 stage request (R.RelocRange section offset) (p, prepared, x) = late p prepared x
+stage request other x = absurd x
 
 -- a policy under which a graph is closed has no wrong line
 no_wrong_policy : (program : Program) (policy : Option (List ℕ)) (n : ℕ) → IsWrongPolicy program policy n

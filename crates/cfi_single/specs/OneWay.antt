@@ -1,7 +1,6 @@
 -- A request is prepared, hardened and refused in one way.
-use Rattle.std.specs.Prelude.{◌≡◌, ℕ, List}
-use Rattle.cfi_harden.specs.declared.refusal.Refusal.{Refusal}
-use Rattle.cfi_harden.specs.Given.{DuplicateIn, IsGiven}
+use Rattle.std.specs.Prelude.{◌≡◌}
+use Rattle.refusals.specs.declared.refusal.Refusal.{Refusal}
 use Rattle.cfi_writer.specs.Hardened.{HardenedParts}
 use Rattle.cfi_harden.specs.Hardened.{IsHardened, IsHardenedOf}
 use Rattle.cfi_harden.specs.Prepared.{IsPrepared, IsPreparedOf, PreparedParts}
@@ -31,7 +30,3 @@ pub record GivenInOneWay : Type 0 where
   pub hardened : (request : Request) (h g : HardenedParts) → IsHardened request h → IsHardened request g → h ≡ g
   pub not_refused : (request : Request) (h : HardenedParts) (refusal : Refusal) → IsHardened request h → Refuses request refusal → ⊥
   pub refused : (request : Request) (first other : Refusal) → Refuses request first → Refuses request other → first ≡ other
-  -- where a name is defined twice it is one name; no program is given, and nothing else is told
-  pub one_name : (request : Request) (name other : List ℕ) → DuplicateIn request.given name → DuplicateIn request.given other → name ≡ other
-  pub not_given : (request : Request) (name : List ℕ) → DuplicateIn request.given name → IsGiven request.given → ⊥
-  pub no_refusal : (request : Request) (name : List ℕ) (refusal : Refusal) → DuplicateIn request.given name → Refuses request refusal → ⊥

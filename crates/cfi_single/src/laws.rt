@@ -21,8 +21,7 @@ pub fn refused_in_one_way()
     ensures { RefusedInOneWay }
 {}
 
-/// All of this holds of a request whose program is given, as an object or as several that are joined; and where these define a
-/// name twice, that is all that is told.
+/// All of this holds of a request whose program is given, as an object or as several that are joined.
 pub fn given_in_one_way()
     ensures { GivenInOneWay }
 {}

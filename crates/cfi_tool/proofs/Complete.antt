@@ -26,14 +26,14 @@ module _ (content : Content) where
   -- a file that is too long is none that is held
   too_long : (request : Request) (name : List ℕ) (status : ℕ) → IsReached content (names_of request) name → IsLong (content name)
       → IsComplete content request status
-  too_long (rewrites words) name status reached long = λ given policy held policy_held once none.
+  too_long (rewrites words) name status reached long = λ given policy held policy_held none.
       let (all, are) = all_held content words.objects given (words.policy ∷ []) (policy ∷ []) held (policy_held, tt) in
       absurd (none_long content (names_of (rewrites words)) all name are reached long)
   too_long (verifies words) name status reached long = λ image_bytes graph_bytes image graph held spell well.
       absurd (none_long content (names_of (verifies words)) (image_bytes ∷ graph_bytes ∷ []) name held reached long)
   too_long (runs words) name status reached long = λ image_bytes graph_bytes script_bytes input image graph changes held spell given well.
       absurd (none_long content (names_of (runs words)) (image_bytes ∷ graph_bytes ∷ script_bytes ∷ input ∷ []) name held reached long)
-  too_long (compares words) name status reached long = λ given policy image map input objects held once none.
+  too_long (compares words) name status reached long = λ given policy image map input objects held none.
       let (all, are) = all_held content words.objects given (words.policy ∷ Some words.image ∷ Some words.map ∷ words.input ∷ []) (policy ∷ image ∷ map ∷ input ∷ []) objects held in
       absurd (none_long content (names_of (compares words)) all name are reached long)
   too_long (demos number) name status reached long = absurd reached

@@ -25,7 +25,6 @@ written_apart words hardened written apart is =
 -- no two files of an explained outcome have one name
 pub explained_apart : (content : Content) (request : Request) (given : Outcome) → ExplainsRequest content request given → AreApart (outcome_outputs given)
 explained_apart content (rewrites words) (Rewrite (outcome.Refused refusal)) is = tt
-explained_apart content (rewrites words) (Rewrite (outcome.Duplicate name)) is = tt
 explained_apart content (rewrites words) (Rewrite (outcome.Rewritten written)) is =
     let (hardened, hardens, spelled) = is.rewrite_is in
     written_apart words hardened written is.apart spelled

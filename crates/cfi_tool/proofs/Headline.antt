@@ -69,7 +69,6 @@ module _ (content : Content) where
   pub told_is : (given_words : CompareWords) (given : Outcome) → ExplainsRequest content (compares given_words) given → IsDone (outcome_status given)
       → IsTold content given_words (outcome_status given) (outcome_text given)
   told_is words (Compare (told.Refused refusal)) is done = absurd (small_report 1 (inl refl) done)
-  told_is words (Compare (told.Duplicate name)) is done = absurd (small_report 1 (inl refl) done)
   told_is words (Compare (told.Compared result)) is done = (result, is, refl, refl)
   told_is words other is done = absurd is
 
@@ -84,7 +83,6 @@ pub rewritten_is : {S : Type 0} (files : Ghosts S) (before now : S) (given_words
     → ExplainsRequest (files.content before) (rewrites given_words) given → outcome_status given ≡ 0 → Wrote files before now (outcome_outputs given) None
     → IsRewritten files before now given_words (outcome_text given)
 rewritten_is files before now words (Rewrite (rewritten.Refused refusal)) is zero wrote = absurd (omega (arith, zero))
-rewritten_is files before now words (Rewrite (rewritten.Duplicate name)) is zero wrote = absurd (omega (arith, zero))
 rewritten_is files before now words (Rewrite (rewritten.Rewritten written)) is zero wrote =
     record { written = written; explained = is; wrote = wrote; text_is = refl }
 rewritten_is files before now words other is zero wrote = absurd is

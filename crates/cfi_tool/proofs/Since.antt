@@ -61,7 +61,6 @@ no_status n zero is = grind (arith, zero, is)
 pub status_unwritten : (given : Outcome)
     → (outcome_status given ≡ 1) ⊎ (outcome_status given ≡ 2) ⊎ (outcome_status given ≡ 3) ⊎ (outcome_status given ≡ 6) → outcome_outputs given ≡ []
 status_unwritten (Rewrite (outcome.Refused refusal)) is = refl
-status_unwritten (Rewrite (outcome.Duplicate name)) is = refl
 status_unwritten (Rewrite (outcome.Rewritten written)) is = absurd (no_status 0 refl is)
 status_unwritten Usage is = refl
 status_unwritten (Help text) is = refl

@@ -5,7 +5,6 @@
 pub use cfi_pairs::Verdict;
 pub use command::rvcfi;
 pub use sure::rvcfi_over_sure_files;
-pub use tool_common::Refusal;
 pub use tool_common::status::NO_MEMORY;
 
 mod command;

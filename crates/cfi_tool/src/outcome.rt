@@ -83,7 +83,7 @@ impl Outcome<'_> {
             )?),
             Outcome::Unread(unread) => line(alloc, unread),
             Outcome::Rewrite(outcome) => outcome.text(alloc),
-            Outcome::Verify(verdict) => line(alloc, verdict),
+            Outcome::Verify(verdict) => verdict.text(alloc),
             Outcome::Run(outcome) => outcome.text(alloc),
             Outcome::Compare(outcome) => outcome.text(alloc),
             Outcome::Demo(outcome) => outcome.text(alloc),

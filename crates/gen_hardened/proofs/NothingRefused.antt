@@ -20,8 +20,8 @@ use Rattle.cfi_gen.specs.Demo.{demo_parts, parts_with}
 use Rattle.cfi_gen.specs.Drawing.{functions_from}
 use Rattle.gen_hardened.specs.Generated.{IsGenerated}
 use Rattle.gen_hardened.proofs.Reading.{generated_is}
-use Rattle.cfi_harden.specs.declared.refusal.Refusal.{Refusal}
-use Rattle.cfi_harden.specs.declared.refusal.Refusal.TheVariants.{Object, Items, NoEntry, Policy, CodeTooLarge, DataTooLarge, RelocRange}
+use Rattle.refusals.specs.declared.refusal.Refusal.{Refusal}
+use Rattle.refusals.specs.declared.refusal.Refusal.TheVariants.{Object, Items, NoEntry, Policy, CodeTooLarge, DataTooLarge, RelocRange}
 use Rattle.cfi_harden.specs.Given.{RefusesGiven, alone}
 use Rattle.cfi_harden.specs.Room.{HasDataRoom}
 use Rattle.cfi_harden.specs.Prepared.{IsPreparedOf, PreparedParts}

@@ -3,7 +3,7 @@ use Rattle.std.specs.Prelude.{ℕ, None, List, codes}
 use Rattle.rv_word.specs.declared.form.Form.TheVariants.{Plain}
 use Rattle.elf_writer.specs.Object.{object_bytes}
 use Rattle.cfi_gen.specs.Demo.{demo_parts}
-use Rattle.cfi_harden.specs.declared.refusal.Refusal.{Refusal}
+use Rattle.refusals.specs.declared.refusal.Refusal.{Refusal}
 use Rattle.cfi_harden.specs.Given.{alone}
 use Rattle.cfi_harden.specs.Refused.{Refuses}
 use Rattle.cfi_harden.specs.Request.{Request}

@@ -6,9 +6,9 @@ ghost use Rattle.obj_items.specs.Added.{IsAdded};
 ghost use Rattle.obj_items.specs.Finished.{IsFinished, Tells};
 
 use crate::finish::finished;
-use crate::join_fault::JoinFault;
 use elf_object::Object;
 use obj_program::Items;
+use refusals::Refusal;
 use rv_word::End;
 use std::alloc::Global;
 use std::marker::Model;
@@ -47,18 +47,22 @@ impl<'a> Join<'a> {
         }
     }
 
-    /// Puts the object that a file is behind the others. After an error the objects are those that they were.
-    pub fn add(&mut self, object: &'a [u8]) -> Result<(), End<JoinFault<'a>>>
+    /// Puts the object that a file is behind the others. After an error the objects are those that they were, and a fault of the
+    /// file is told with the number, from 1, that the object would have had.
+    pub fn add(&mut self, object: &'a [u8]) -> Result<(), End<Refusal>>
         ensures { IsAdded self.old object.now result self.new }
     {
         let object = match Object::read(self.alloc, object) {
             Ok(object) => object,
-            Err(End::Fault(fault)) => return Err(End::Fault(JoinFault::Object(fault))),
+            Err(End::Fault(fault)) => {
+                let number = self.objects.len() as u64 + 1;
+                return Err(End::Fault(Refusal::ObjectIn(fault, number)));
+            }
             Err(End::NoMemory) => return Err(End::NoMemory),
         };
         let sections = self.sections + u64::from(object.sections());
         if sections > MAX_SECTIONS {
-            return Err(End::Fault(JoinFault::TooManySections(sections)));
+            return Err(End::Fault(Refusal::TooManySections(sections)));
         }
         self.objects.push(object)?;
         self.sections = sections;
@@ -67,7 +71,7 @@ impl<'a> Join<'a> {
 
     /// The program that the objects are, where no name is defined twice and nothing is wrong with their instructions and
     /// relocations.
-    pub fn finish(self) -> Result<Items<'a>, End<JoinFault<'a>>>
+    pub fn finish(self) -> Result<Items<'a>, End<Refusal>>
         ensures finished { IsFinished self.entry result }
         // One object whose names all differ is the program that it is by itself.
         ensures alone { (object : List ℕ) → self.entry ≡ object ∷ [] → HasOwnNames (said_of object).symbols → Tells (object ∷ []) (input_of object) result }

@@ -7,7 +7,6 @@
 pub use fault::fault_in;
 pub use from_object::input_of;
 pub use join::Join;
-pub use join_fault::JoinFault;
 pub use program::{items, items_of};
 
 mod bare;
@@ -16,7 +15,6 @@ mod finish;
 mod from_object;
 mod init;
 mod join;
-mod join_fault;
 pub mod laws;
 mod links;
 mod outline;

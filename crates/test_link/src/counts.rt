@@ -33,9 +33,9 @@ static ADDED: &[u8] = b"\
     main,8000,taken;f,8001,TooManySections 65537;f,8000,taken|enter 40000040, words 01c000ef, end 10000\n\
     main,8000,taken;f,8001,TooManySections 65537;f,8002,TooManySections 65538;f,0,taken|\
     enter 40000040, words 01c000ef, end 10000\n\
-    main,8000,taken;f,0,taken;broken,0,NotRiscv 62;g,7ffc,TooManySections 65537|\
+    main,8000,taken;f,0,taken;broken,0,NotRiscv 62 in 3;g,7ffc,TooManySections 65537|\
     enter 40000040, words 01c000ef, end 10000\n\
-    main,8000,taken;broken,8001,NotRiscv 62|Undefined 2 in 1\n\
+    main,8000,taken;broken,8001,NotRiscv 62 in 2|Undefined 2 in 1\n\
     none,0,taken;main,0,taken;f,0,taken;g,fef5,taken;none,0,taken;h,101,TooManySections 65537;h,100,taken;none,0,taken|\
     enter 40000040, words 01c000ef, end 10000\n\
     main,feff,taken;g,feff,TooManySections 130558|Undefined 2 in 1\n\

@@ -7,8 +7,9 @@ use cfi_rewrite::{Hardened, rewrite_joined};
 use elf_bytes::u32_at;
 use elf_image::read_image;
 use obj_input::ItemKind;
-use obj_items::{Join, JoinFault};
+use obj_items::Join;
 use obj_program::Items;
+use refusals::Refusal;
 use rv_word::memory_map::CODE_START;
 use rv_word::{End, Form, Image};
 use std::alloc::{AllocError, Global};
@@ -22,10 +23,7 @@ struct Mark {
 }
 
 /// Objects as one program.
-pub(crate) fn joined<'a>(
-    alloc: Global,
-    files: &'a [Vec<u8>],
-) -> Result<Items<'a>, End<JoinFault<'a>>> {
+pub(crate) fn joined<'a>(alloc: Global, files: &'a [Vec<u8>]) -> Result<Items<'a>, End<Refusal>> {
     let mut join = Join::new(alloc);
     for file in files {
         join.add(file)?;
@@ -33,21 +31,19 @@ pub(crate) fn joined<'a>(
     join.finish()
 }
 
+/// What a refusal tells behind its number.
+fn told_of_refusal(alloc: Global, refusal: &Refusal) -> Option<String> {
+    let line = refusal.line(alloc).ok()?;
+    let (_, numbered) = str::from_utf8(&line).ok()?.split_once(' ')?;
+    let (_, told) = numbered.split_once(' ')?;
+    String::from_str(alloc, told).ok()
+}
+
 /// What is told where objects are no program.
-pub(crate) fn told_of_end(alloc: Global, end: &End<JoinFault<'_>>) -> Option<String> {
-    let End::Fault(fault) = *end else {
-        return None;
-    };
-    match fault {
-        JoinFault::Object(fault) => fault.to_string(alloc).ok(),
-        JoinFault::TooManySections(count) => format!(in alloc; "TooManySections {count}").ok(),
-        JoinFault::Duplicate(name) => {
-            format!(in alloc; "Duplicate {}", str::from_utf8(name).ok()?).ok()
-        }
-        JoinFault::Items(fault) => fault.to_string(alloc).ok(),
-        JoinFault::Undefined(object, symbol) => {
-            format!(in alloc; "Undefined {symbol} in {}", object.saturating_add(1)).ok()
-        }
+pub(crate) fn told_of_end(alloc: Global, end: &End<Refusal>) -> Option<String> {
+    match end {
+        End::Fault(refusal) => told_of_refusal(alloc, refusal),
+        End::NoMemory => None,
     }
 }
 
@@ -183,7 +179,7 @@ fn told_of_program(
     let end = items.data_extent().end;
     match rewrite_joined(alloc, Form::Plain, &items, entry, policy) {
         Ok(hardened) => told_of_hardened(alloc, &hardened, &marks, end),
-        Err(End::Fault(refusal)) => refusal.to_string(alloc).ok(),
+        Err(End::Fault(refusal)) => told_of_refusal(alloc, &refusal),
         Err(End::NoMemory) => None,
     }
 }

@@ -1,4 +1,5 @@
-use cfi_rewrite::{Hardened, Refusal, rewrite, rewrite_as};
+use cfi_rewrite::{Hardened, rewrite, rewrite_as};
+use refusals::Refusal;
 use rv_word::{End, Form};
 use sample_hardened::Given;
 use std::alloc::Global;

@@ -1,10 +1,10 @@
 //! Command lines, with the status and the text of each, and the lines of verdicts.
 
 use crate::calls::check;
-use cfi_harden::Refusal as ObjectRefusal;
-use cfi_tool::{Refusal, Verdict};
+use cfi_tool::Verdict;
 use cfi_verify::{Reject, Rule};
 use elf_image::ImageRefusal;
+use refusals::Refusal;
 use std::alloc::Global;
 use text_lines::Reason;
 
@@ -43,66 +43,63 @@ fn commands(rt: HostRuntime) {
 }
 
 /// Verdicts, and the line of each.
-static LINES: [(Verdict, &str); 14] = [
+const LINES: [(Verdict, &str); 14] = [
+    (Verdict::Refused(Refusal::NoEntry), "refused 17 NoEntry\n"),
     (
-        Verdict::Refused(Refusal::Object(ObjectRefusal::NoEntry)),
-        "refused 17 NoEntry",
+        Verdict::Refused(Refusal::Policy(300)),
+        "refused 18 Policy 300\n",
     ),
     (
-        Verdict::Refused(Refusal::Object(ObjectRefusal::Policy(300))),
-        "refused 18 Policy 300",
+        Verdict::Refused(Refusal::CodeTooLarge(1_048_580)),
+        "refused 19 CodeTooLarge 1048580\n",
     ),
     (
-        Verdict::Refused(Refusal::Object(ObjectRefusal::CodeTooLarge(1_048_580))),
-        "refused 19 CodeTooLarge 1048580",
+        Verdict::Refused(Refusal::DataTooLarge(33_554_433, 65_537)),
+        "refused 20 DataTooLarge 33554433 65537\n",
     ),
     (
-        Verdict::Refused(Refusal::Object(ObjectRefusal::DataTooLarge(33_554_433, 65_537))),
-        "refused 20 DataTooLarge 33554433 65537",
-    ),
-    (
-        Verdict::Refused(Refusal::Object(ObjectRefusal::RelocRange(2, 24))),
-        "refused 21 RelocRange 2 24",
+        Verdict::Refused(Refusal::RelocRange(2, 24)),
+        "refused 21 RelocRange 2 24\n",
     ),
     (
         Verdict::Refused(Refusal::Image(ImageRefusal::Byte(16))),
-        "refused 22 Byte 16",
+        "refused 22 Byte 16\n",
     ),
     (
         Verdict::Refused(Refusal::Image(ImageRefusal::Long(8192))),
-        "refused 22 Long 8192",
+        "refused 22 Long 8192\n",
     ),
     (
         Verdict::Refused(Refusal::Graph(3, Reason::Form)),
-        "refused 23 Graph 3 Form",
+        "refused 23 Graph 3 Form\n",
     ),
     (
         Verdict::Refused(Refusal::Graph(12, Reason::Order)),
-        "refused 23 Graph 12 Order",
+        "refused 23 Graph 12 Order\n",
     ),
     (
         Verdict::Refused(Refusal::Script(2, Reason::Range)),
-        "refused 25 Script 2 Range",
+        "refused 25 Script 2 Range\n",
     ),
-    (Verdict::Refused(Refusal::Harts(8)), "refused 26 Harts 8"),
+    (Verdict::Refused(Refusal::Harts(8)), "refused 26 Harts 8\n"),
     (
         Verdict::Rejected(Reject::Length(80, 84)),
-        "rejected Length 80 84",
+        "rejected Length 80 84\n",
     ),
     (
         Verdict::Rejected(Reject::At(Rule::Astray, 0x4000_0040)),
-        "rejected Astray 40000040",
+        "rejected Astray 40000040\n",
     ),
     (
         Verdict::Rejected(Reject::At(Rule::Unused, 0x4000_00e4)),
-        "rejected Unused 400000e4",
+        "rejected Unused 400000e4\n",
     ),
 ];
 
 /// Whether a verdict has its line.
 fn has_line(alloc: Global, row: &(Verdict, &str)) -> bool {
-    match row.0.to_string(alloc) {
-        Ok(line) => line.as_str() == row.1,
+    match row.0.text(alloc) {
+        Ok(line) => line.as_slice() == row.1.as_bytes(),
         Err(_) => false,
     }
 }

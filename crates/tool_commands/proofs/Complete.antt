@@ -1,25 +1,18 @@
 -- Each command is complete: where its files are delivered, an outcome that is explained is determined by them.
 use Rattle.std.proofs.Common.{◌≡◌, ℕ, List, [], ◌∷◌, ◌++◌, Option, Some, map, refl, ap, subst}
 use Rattle.cfi_harden.specs.Given.{Given, alone, joined}
-use Rattle.cfi_harden.specs.Request as asks
 use Rattle.tool_common.specs.Held.{AreHeld, IsHeldNamed}
 use Rattle.tool_common.specs.Reads.{Content, GaveAll}
 use Rattle.tool_common.specs.Words.{text_named}
-use Rattle.tool_common.specs.declared.refusal.Refusal.{Refusal}
-use Rattle.tool_common.specs.declared.refusal.Refusal.TheVariants.{Object}
 use Rattle.tool_common.proofs.Held.{same_bytes, same_named}
 use Rattle.tool_commands.specs.Compare.{CompareWords, ExplainsCompare, IsCompareOf, asked_at, compare_status}
-use Rattle.tool_commands.specs.Complete.{CompareIsComplete, IsUnrefused, RewriteIsComplete}
+use Rattle.tool_commands.specs.Complete.{CompareIsComplete, RewriteIsComplete}
 use Rattle.tool_commands.specs.Objects.{Objects, one, several, GaveObjects, HoldObjects, names_with}
-use Rattle.tool_commands.specs.Rewrite.{ExplainsRewrite, IsRefused, IsRewriteOf, RewriteWords, request_of, rewrite_status}
+use Rattle.tool_commands.specs.Rewrite.{ExplainsRewrite, IsRewriteOf, RewriteWords, rewrite_status}
 use Rattle.tool_commands.specs.declared.compare.CompareOutcome as C
 use Rattle.tool_commands.specs.declared.compare.CompareOutcome.TheVariants as compares
 use Rattle.tool_commands.specs.declared.rewrite.RewriteOutcome as W
 use Rattle.tool_commands.specs.declared.rewrite.RewriteOutcome.TheVariants as rewrites
-
-unrefused : (request : asks.Request) → IsUnrefused request → (refusal : Refusal) → IsRefused request refusal → ⊥
-unrefused request none (Object refusal) is = none refusal is
-unrefused request none other is = is
 
 -- what was read of objects that are held is what they hold
 same_all : (content : Content) (names all given : List (List ℕ)) → AreHeld content (map Some names) all → GaveAll content (map Some names) given → given ≡ all
@@ -63,12 +56,9 @@ rewritten_in content words result is given policy held policy_held =
 
 pub rewrite_complete : (content : Content) (words : RewriteWords) (result : W.RewriteOutcome) → ExplainsRewrite content words result
     → RewriteIsComplete content words (rewrite_status result)
-rewrite_complete content words (rewrites.Rewritten written) is = λ given policy held policy_held once none. refl
-rewrite_complete content words (rewrites.Duplicate name) is = λ given policy held policy_held once none.
-    absurd (once name (rewritten_in content words (rewrites.Duplicate name) is given policy held policy_held))
-rewrite_complete content words (rewrites.Refused refusal) is = λ given policy held policy_held once none.
-    absurd (unrefused (request_of words given (text_named words.policy policy)) none refusal
-    (rewritten_in content words (rewrites.Refused refusal) is given policy held policy_held))
+rewrite_complete content words (rewrites.Rewritten written) is = λ given policy held policy_held none. refl
+rewrite_complete content words (rewrites.Refused refusal) is = λ given policy held policy_held none.
+    absurd (none refusal (rewritten_in content words (rewrites.Refused refusal) is given policy held policy_held))
 
 -- the contents of the files of a comparison
 record CompareBytes : Type 0 where
@@ -98,12 +88,9 @@ compared_in content words result is b objects_held held =
 
 pub compare_complete : (content : Content) (words : CompareWords) (result : C.CompareOutcome) → ExplainsCompare content words result
     → CompareIsComplete content words (compare_status result)
-compare_complete content words (compares.Refused refusal) is = λ given policy image map input objects held once none.
+compare_complete content words (compares.Refused refusal) is = λ given policy image map input objects held none.
     let b : CompareBytes = record { given = given; policy = policy; image = image; map = map; input = input } in
     absurd (none refusal (compared_in content words (compares.Refused refusal) is b objects held))
-compare_complete content words (compares.Duplicate name) is = λ given policy image map input objects held once none.
-    let b : CompareBytes = record { given = given; policy = policy; image = image; map = map; input = input } in
-    absurd (once name (compared_in content words (compares.Duplicate name) is b objects held))
-compare_complete content words (compares.Compared result) is = λ given policy image map input objects held once none.
+compare_complete content words (compares.Compared result) is = λ given policy image map input objects held none.
     let b : CompareBytes = record { given = given; policy = policy; image = image; map = map; input = input } in
     (result, compared_in content words (compares.Compared result) is b objects held, refl)

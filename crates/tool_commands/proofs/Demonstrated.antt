@@ -19,7 +19,7 @@ use Rattle.cfi_harden.specs.Hardened.{IsWrittenOf}
 use Rattle.cfi_harden.specs.Prepared.{IsPrepared, IsPreparedOf, PreparedParts}
 use Rattle.cfi_harden.specs.Refused.{Refuses}
 use Rattle.cfi_harden.specs.Request.{ProgramRequest, Request}
-use Rattle.cfi_harden.specs.declared.refusal.Refusal.{Refusal}
+use Rattle.refusals.specs.declared.refusal.Refusal.{Refusal}
 use Rattle.cfi_meaning.specs.Compared as runs
 use Rattle.cfi_meaning.specs.Hardened.{NeverDiffersOf}
 use Rattle.cfi_meaning.specs.NeverDiffers.{NoRunDiffers}

@@ -10,6 +10,7 @@ use Rattle.rv_word.specs.declared.form.Form.{Form}
 use Rattle.text_lines.specs.declared.reason.Reason.{Reason}
 use Rattle.text_lines.specs.Answers.{line_fault}
 use Rattle.obj_program.specs.DataAtMap.{init_size}
+use Rattle.obj_program.specs.Program.{Program}
 use Rattle.elf_image.specs.Fault.{fault_of}
 use Rattle.cfi_map_text.specs.Map.{MapParts}
 use Rattle.cfi_map_text.specs.MapText.{map_of}
@@ -18,14 +19,14 @@ use Rattle.cfi_map.specs.MapFault.{IsWrongLine}
 use Rattle.cfi_harden.specs.Given.{Given}
 use Rattle.cfi_harden.specs.Room.{HasDataRoom}
 use Rattle.cfi_harden.specs.Prepared.{IsPrepared, PreparedParts}
-use Rattle.cfi_harden.specs.Refused.{IsEarly, Refuses}
+use Rattle.cfi_harden.specs.Preparing.{Reads}
+use Rattle.cfi_harden.specs.Refused.{IsEarly, PreparesProgram, Refuses}
 use Rattle.cfi_harden.specs.Request.{Request}
-use Rattle.cfi_harden.specs.declared.refusal.Refusal.{Refusal}
-use Rattle.cfi_harden.specs.declared.refusal.Refusal.TheVariants as hardening
 use Rattle.cfi_harden.proofs.Giving.{given_early}
-use Rattle.tool_common.specs.declared.refusal.MapReason.TheVariants.{Text, Place}
-use Rattle.tool_common.specs.declared.refusal.Refusal.{Refusal as Refused}
-use Rattle.tool_common.specs.declared.refusal.Refusal.TheVariants as refused
+use Rattle.cfi_harden.proofs.Preparing.{prepared_given, refused_given}
+use Rattle.refusals.specs.declared.map_reason.MapReason.TheVariants.{Text, Place}
+use Rattle.refusals.specs.declared.refusal.Refusal.{Refusal}
+use Rattle.refusals.specs.declared.refusal.Refusal.TheVariants as refused
 use Rattle.cfi_flow.specs.Policy.{instruction_at}
 use Rattle.src_machine.specs.Beginning.{Ends, IsBegun}
 use Rattle.src_machine.specs.declared.source_fault.SourceFault.{SourceFault}
@@ -34,9 +35,6 @@ use Rattle.src_machine.specs.Running.{SourceParts}
 use Rattle.cfi_meaning.specs.Compared.{compared}
 use Rattle.cfi_compare.specs.Told.{told_answer}
 use Rattle.cfi_compare.specs.declared.answer.Compared as A
-use Rattle.tool_commands.specs.Objects.{Gives}
-use Rattle.tool_commands.specs.declared.objects.GivenFault.{GivenFault}
-use Rattle.tool_commands.specs.declared.objects.GivenFault.TheVariants as faults
 use Rattle.tool_commands.specs.declared.compare.CompareOutcome.{CompareOutcome}
 use Rattle.tool_commands.specs.declared.compare.CompareOutcome.TheVariants as outcome
 use Rattle.tool_commands.specs.Compare.{IsAfterImage, IsCompareOf, IsCompareRefused, IsComparison, IsImageCompared, IsResult, IsRoomy, IsRoomyEnd, IsRunnable, IsSourceAt, asked_at, first_out, map_form}
@@ -81,28 +79,30 @@ source_is p map input m run read on = record {
 }
 
 -- what a request comes to that is not prepared
-not_prepared : (request : Request) (refusal : Refusal) → Refuses request refusal → IsEarly refusal → (image map : List ℕ)
-    → IsCompareRefused request image map (refused.Object refusal)
-not_prepared request (hardening.Object fault) is early = λ image map. is
-not_prepared request (hardening.ObjectIn fault k) is early = λ image map. is
-not_prepared request (hardening.TooManySections n) is early = λ image map. is
-not_prepared request (hardening.Items fault) is early = λ image map. is
-not_prepared request (hardening.UndefinedIn symbol k) is early = λ image map. is
-not_prepared request hardening.NoEntry is early = λ image map. is
-not_prepared request (hardening.Policy line) is early = λ image map. is
-not_prepared request (hardening.CodeTooLarge bytes) is early = absurd early
-not_prepared request (hardening.DataTooLarge init last) is early = absurd early
-not_prepared request (hardening.RelocRange section offset) is early = absurd early
+not_roomy : (request : Request) (refusal : Refusal) → Refuses request refusal → IsEarly refusal → IsRoomyEnd request (Fault refusal)
+not_roomy request (refused.Object fault) is early = λ image map. is
+not_roomy request (refused.ObjectIn fault k) is early = λ image map. is
+not_roomy request (refused.TooManySections n) is early = λ image map. is
+not_roomy request (refused.Duplicate name) is early = λ image map. is
+not_roomy request (refused.Items fault) is early = λ image map. is
+not_roomy request (refused.UndefinedIn symbol k) is early = λ image map. is
+not_roomy request refused.NoEntry is early = λ image map. is
+not_roomy request (refused.Policy line) is early = λ image map. is
+not_roomy request other is early = absurd early
 
 -- what is given is no program
-pub not_given : (request : Request) (end : End GivenFault) → Gives request.given (Err end) → IsRoomyEnd request end
-not_given request (Fault (faults.Refused refusal)) is = not_prepared request refusal (inl is) (given_early request.given refusal is)
-not_given request (Fault (faults.Duplicate name)) is = is
+pub not_given : (request : Request) (end : End Refusal) → Reads request.given (Err end) → IsRoomyEnd request end
+not_given request (Fault refusal) is = not_roomy request refusal (inl is) (given_early request.given refusal is)
 not_given request NoMemory is = tt
 
--- a program is given, and is not prepared
-pub not_roomy : (request : Request) (refusal : Refusal) → Refuses request refusal → IsEarly refusal → IsRoomyEnd request (Fault (faults.Refused refusal))
-not_roomy request refusal is early = not_prepared request refusal is early
+-- what preparing the program that is given comes to
+pub prepared_or_not : (request : Request) (program : Program) (result : Result PreparedParts (End Refusal)) → Reads request.given (Ok program)
+    → PreparesProgram (record { form = request.form; program = program; entry = request.entry; policy = request.policy }) result
+    → MatchResult result (IsPrepared request) (IsRoomyEnd request)
+prepared_or_not request program (Ok p) gives is = prepared_given request program gives p is
+prepared_or_not request program (Err (Fault refusal)) gives (refuses, early) =
+    not_roomy request refusal (refused_given request program gives refusal refuses) early
+prepared_or_not request program (Err NoMemory) gives is = tt
 
 -- a prepared program is closed for graphs of the form that was asked for
 pub closed_for : (request : Request) (p : PreparedParts) → IsPrepared request p → p.closed.version ≡ graph_version request.form
@@ -146,23 +146,18 @@ module _ (request : Request) (p : PreparedParts) (map : List ℕ) (roomy : IsRoo
   pub compared_with : (image input : List ℕ) (limit : ℕ) (run : SourceParts) (result : CompareOutcome) → IsSourceAt p map input run
       → IsImageCompared run image input limit result → IsCompareOf request image map input limit result
   compared_with image input limit run (outcome.Refused (refused.Image refusal)) source is = (p, runnable_source input run source, is)
-  compared_with image input limit run (outcome.Refused (refused.Object refusal)) source is = absurd is
-  compared_with image input limit run (outcome.Refused (refused.Graph line reason)) source is = absurd is
-  compared_with image input limit run (outcome.Refused (refused.Map line reason)) source is = absurd is
-  compared_with image input limit run (outcome.Refused (refused.Script line reason)) source is = absurd is
-  compared_with image input limit run (outcome.Refused (refused.Harts count)) source is = absurd is
-  compared_with image input limit run (outcome.Duplicate name) source is = absurd is
+  compared_with image input limit run (outcome.Refused other) source is = absurd is
   compared_with image input limit run (outcome.Compared result) source is = comparison_is image input limit run result source is
 
-  module _ (image : List ℕ) (refusal : Refused) where
+  module _ (image : List ℕ) (refusal : Refusal) where
     -- a map's line that is no legal placement's, and a text that is no map, after an image's own refusal
     pub wrong_place : (m : MapParts) (line : ℕ) → WrongIsNotLegal → map_of map ≡ Ok m → IsWrongLine p.program p.closed p.entry m line
         → IsAfterImage image (refused.Map line Place) refusal → IsCompareRefused request image map refusal
     wrong_place m line law read wrong after =
         let runnable = runnable_place m line law read wrong in
         elim (cases_Option (fault_of image)) [
-          | inl none ↦ subst (λ (r : Refused). IsCompareRefused request image map r) (sym (after.right none)) (p, m, runnable, none, read, wrong)
-          | inr (f, some) ↦ subst (λ (r : Refused). IsCompareRefused request image map r) (sym (after.wrong f some)) (p, runnable, some)
+          | inl none ↦ subst (λ (r : Refusal). IsCompareRefused request image map r) (sym (after.right none)) (p, m, runnable, none, read, wrong)
+          | inr (f, some) ↦ subst (λ (r : Refusal). IsCompareRefused request image map r) (sym (after.wrong f some)) (p, runnable, some)
         ]
 
     pub wrong_text : (line : ℕ) (reason : Reason) → map_of map ≡ Err (line_fault line reason) → IsAfterImage image (refused.Map line (Text reason)) refusal
@@ -170,6 +165,6 @@ module _ (request : Request) (p : PreparedParts) (map : List ℕ) (roomy : IsRoo
     wrong_text line reason wrong after =
         let runnable = runnable_text line reason wrong in
         elim (cases_Option (fault_of image)) [
-          | inl none ↦ subst (λ (r : Refused). IsCompareRefused request image map r) (sym (after.right none)) (p, runnable, none, wrong)
-          | inr (f, some) ↦ subst (λ (r : Refused). IsCompareRefused request image map r) (sym (after.wrong f some)) (p, runnable, some)
+          | inl none ↦ subst (λ (r : Refusal). IsCompareRefused request image map r) (sym (after.right none)) (p, runnable, none, wrong)
+          | inr (f, some) ↦ subst (λ (r : Refusal). IsCompareRefused request image map r) (sym (after.wrong f some)) (p, runnable, some)
         ]

@@ -19,12 +19,11 @@ use Rattle.cfi_map_text.specs.MapText.{map_of}
 use Rattle.cfi_map.specs.LegalMap.{IsLegalMap, gates_of}
 use Rattle.cfi_map.specs.MapFault.{IsWrongLine}
 use Rattle.cfi_map.specs.Placement.{words_from}
-use Rattle.cfi_harden.specs.Given.{Given, DuplicateIn}
+use Rattle.cfi_harden.specs.Given.{Given}
 use Rattle.cfi_harden.specs.Room.{HasDataRoom}
 use Rattle.cfi_harden.specs.Prepared.{IsPrepared, PreparedParts}
 use Rattle.cfi_harden.specs.Refused.{Refuses}
 use Rattle.cfi_harden.specs.Request as asks
-use Rattle.cfi_harden.specs.declared.refusal.Refusal.TheVariants as rewriter
 use Rattle.cfi_map.specs.Source.{source_start}
 use Rattle.cfi_map.specs.GraphAtMap.{ProgramAtMap, program_at}
 use Rattle.src_machine.specs.Running.{SourceParts, source_of}
@@ -34,18 +33,16 @@ use Rattle.cfi_compare.specs.Told.{told_answer}
 use Rattle.cfi_compare.specs.declared.answer.Compared as A
 use Rattle.cfi_compare.specs.declared.answer.Compared.TheVariants as answer
 use Rattle.tool_common.specs.Reads.{Content, Gave, GaveNamed}
-use Rattle.tool_common.specs.Refusals.{duplicate_line, refusal_line}
+use Rattle.refusals.specs.Refusals.{refusal_line}
 use Rattle.cfi_pair.specs.Spelled.{IsImage}
 use Rattle.tool_common.specs.Words.{file_word, steps_of, text_named}
 use Rattle.tool_commands.specs.Objects.{Objects, one, several, GaveObjects, names_with, objects_asked}
-use Rattle.tool_commands.specs.declared.objects.GivenFault.{GivenFault}
-use Rattle.tool_commands.specs.declared.objects.GivenFault.TheVariants as faults
 use Rattle.tool_commands.specs.declared.compare.CompareOutcome.{CompareOutcome}
 use Rattle.tool_commands.specs.declared.compare.CompareOutcome.TheVariants as outcome
 use Rattle.tool_commands.specs.declared.compare.CompareRequest.{CompareRequest}
-use Rattle.tool_common.specs.declared.refusal.Refusal.{Refusal}
-use Rattle.tool_common.specs.declared.refusal.MapReason.TheVariants.{Text, Place}
-use Rattle.tool_common.specs.declared.refusal.Refusal.TheVariants.{Object, Image, Map}
+use Rattle.refusals.specs.declared.refusal.Refusal.{Refusal}
+use Rattle.refusals.specs.declared.map_reason.MapReason.TheVariants.{Text, Place}
+use Rattle.refusals.specs.declared.refusal.Refusal.TheVariants.{CodeTooLarge, DataTooLarge, RelocRange, Image, Graph, Map, Script, Harts}
 
 -- what is asked for: the names of the files and of the entry, and how many steps the program takes at most
 pub record CompareWords : Type 0 where
@@ -115,23 +112,24 @@ pub record IsRunnable (request : asks.Request) (p : PreparedParts) (map : List �
 -- a refusal stands, and none before it: of the objects, their entry or the policy, of room for data, of a value out of its range at a legal
 -- map, of the image, of the map
 abbrev pub IsCompareRefused : asks.Request → List ℕ → List ℕ → Refusal → Type 0
-IsCompareRefused request image map (Object (rewriter.CodeTooLarge bytes)) = ⊥
-IsCompareRefused request image map (Object (rewriter.DataTooLarge init last)) =
+IsCompareRefused request image map (CodeTooLarge bytes) = ⊥
+IsCompareRefused request image map (DataTooLarge init last) =
     (p : PreparedParts) × IsPrepared request p × (init ≡ init_size p.program) × (last ≡ p.program.data_end) × (HasDataRoom p.program → ⊥)
-IsCompareRefused request image map (Object (rewriter.RelocRange section offset)) =
+IsCompareRefused request image map (RelocRange section offset) =
     (p : PreparedParts) × (m : MapParts) × IsRoomy request p × IsMapOf p map m × (first_out p m ≡ Some (record { section = section; offset = offset }))
-IsCompareRefused request image map (Object early) = Refuses request early
 IsCompareRefused request image map (Image refusal) = (p : PreparedParts) × IsRunnable request p map × (fault_of image ≡ Some refusal)
 IsCompareRefused request image map (Map line (Text reason)) =
     (p : PreparedParts) × IsRunnable request p map × (fault_of image ≡ None) × (map_of map ≡ Err (line_fault line reason))
 IsCompareRefused request image map (Map line Place) =
     (p : PreparedParts) × (m : MapParts) × IsRunnable request p map × (fault_of image ≡ None) × (map_of map ≡ Ok m) × IsWrongLine p.program p.closed p.entry m line
-IsCompareRefused request image map other = ⊥
+IsCompareRefused request image map (Graph line reason) = ⊥
+IsCompareRefused request image map (Script line reason) = ⊥
+IsCompareRefused request image map (Harts count) = ⊥
+IsCompareRefused request image map early = Refuses request early
 
 -- why there is no program whose data have room, where only want of memory is free. Only private contracts cite this
-abbrev pub IsRoomyEnd : asks.Request → End GivenFault → Type 0
-IsRoomyEnd request (Fault (faults.Refused refusal)) = (image map : List ℕ) → IsCompareRefused request image map (Object refusal)
-IsRoomyEnd request (Fault (faults.Duplicate name)) = DuplicateIn request.given name
+abbrev pub IsRoomyEnd : asks.Request → End Refusal → Type 0
+IsRoomyEnd request (Fault refusal) = (image map : List ℕ) → IsCompareRefused request image map refusal
 IsRoomyEnd request NoMemory = ⊤
 
 -- what is told of a map that is none, where an image's own refusal goes first. Only private contracts cite this
@@ -162,7 +160,6 @@ pub record IsResult (run : SourceParts) (image input : List ℕ) (limit : ℕ) (
 abbrev pub IsImageCompared : SourceParts → List ℕ → List ℕ → ℕ → CompareOutcome → Type 0
 IsImageCompared run image input limit (outcome.Refused (Image refusal)) = fault_of image ≡ Some refusal
 IsImageCompared run image input limit (outcome.Refused other) = ⊥
-IsImageCompared run image input limit (outcome.Duplicate name) = ⊥
 IsImageCompared run image input limit (outcome.Compared result) = IsResult run image input limit result
 
 -- the program is run at the map, the image beside it, and this is how they compare
@@ -177,7 +174,6 @@ pub record IsComparison (request : asks.Request) (image map input : List ℕ) (l
 
 abbrev pub IsCompareOf : asks.Request → List ℕ → List ℕ → List ℕ → ℕ → CompareOutcome → Type 0
 IsCompareOf request image map input limit (outcome.Refused refusal) = IsCompareRefused request image map refusal
-IsCompareOf request image map input limit (outcome.Duplicate name) = DuplicateIn request.given name
 IsCompareOf request image map input limit (outcome.Compared result) = IsComparison request image map input limit result
 
 -- the files gave bytes of which the comparison comes to this
@@ -196,7 +192,6 @@ pub record ExplainsCompare (content : Content) (words : CompareWords) (result : 
 
 abbrev pub compare_line : CompareOutcome → List ℕ
 compare_line (outcome.Refused refusal) = refusal_line refusal
-compare_line (outcome.Duplicate name) = duplicate_line name
 compare_line (outcome.Compared result) = answer_text result
 
 abbrev pub answer_status : A.Compared → ℕ
@@ -207,7 +202,6 @@ answer_status answer.Limit = 12
 
 abbrev pub compare_status : CompareOutcome → ℕ
 compare_status (outcome.Refused refusal) = 1
-compare_status (outcome.Duplicate name) = 1
 compare_status (outcome.Compared result) = answer_status result
 
 -- the files spell objects, an image and a map of which the comparison comes to this; the text tells it

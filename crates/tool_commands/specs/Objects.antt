@@ -1,15 +1,10 @@
 -- The objects of a command's program, by the names of their files: one by itself, or several that are joined; and what their files give.
-use Rattle.std.specs.Prelude.{◌≡◌, ℕ, List, ◌∷◌, ◌++◌, map, Option, Some, Result, Ok, Err}
-use Rattle.rv_word.specs.declared.end.End.{End}
-use Rattle.rv_word.specs.declared.end.End.TheVariants.{Fault, NoMemory}
-use Rattle.obj_program.specs.Program.{Program}
-use Rattle.cfi_harden.specs.Given.{Given, alone, joined, DuplicateIn, IsGiven, RefusesGiven, program_given}
+use Rattle.std.specs.Prelude.{ℕ, List, ◌∷◌, ◌++◌, map, Option, Some}
+use Rattle.cfi_harden.specs.Given.{Given, alone, joined}
 use Rattle.tool_common.specs.Held.{AreHeld, IsHeld}
 use Rattle.tool_common.specs.Reads.{Content, Gave, GaveAll}
 use Rattle.tool_commands.specs.declared.objects.ObjectBytes as bytes
 use Rattle.tool_commands.specs.declared.objects.ObjectBytes.TheVariants as given
-use Rattle.tool_commands.specs.declared.objects.GivenFault.{GivenFault}
-use Rattle.tool_commands.specs.declared.objects.GivenFault.TheVariants.{Refused, Duplicate}
 use Rattle.tool_commands.specs.declared.objects.Objects as R
 use Rattle.tool_commands.specs.declared.objects.Objects.TheVariants as kept
 
@@ -42,10 +37,3 @@ objects_asked (kept.Joined names) = several (map (λ name. name.now) names.items
 abbrev pub given_by : bytes.ObjectBytes → Given
 given_by (given.Alone object) = alone object.now
 given_by (given.Joined objects) = joined (map (λ object. object.items) objects.now)
-
--- what they come to. Only private contracts cite this
-abbrev pub Gives : Given → Result Program (End GivenFault) → Type 0
-Gives given (Ok program) = IsGiven given × (program ≡ program_given given)
-Gives given (Err (Fault (Refused refusal))) = RefusesGiven given refusal
-Gives given (Err (Fault (Duplicate name))) = DuplicateIn given name
-Gives given (Err NoMemory) = Unit {0}

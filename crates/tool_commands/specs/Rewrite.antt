@@ -14,7 +14,7 @@ use Rattle.cfi_graph.specs.Graph.{GraphParts, IsGraph, is_class, is_site}
 use Rattle.cfi_map_text.specs.Map.{IsMap}
 use Rattle.cfi_map_text.specs.MapText.{map_text}
 use Rattle.cfi_graph.specs.Text.{graph_text}
-use Rattle.cfi_harden.specs.Given.{Given, DuplicateIn}
+use Rattle.cfi_harden.specs.Given.{Given}
 use Rattle.cfi_writer.specs.Hardened.{HardenedParts}
 use Rattle.cfi_harden.specs.Hardened.{IsHardened}
 use Rattle.cfi_harden.specs.Refused.{Refuses}
@@ -22,7 +22,7 @@ use Rattle.cfi_harden.specs.Request as asks
 use Rattle.cfi_meaning.specs.Hardened.{KeepsMeaningAtMap, NeverDiffersAtMap}
 use Rattle.tool_common.specs.Lines.{with_newline}
 use Rattle.tool_common.specs.Reads.{Content, GaveNamed}
-use Rattle.tool_common.specs.Refusals.{duplicate_line, refusal_line}
+use Rattle.refusals.specs.Refusals.{refusal_line}
 use Rattle.tool_common.specs.Words.{file_word, text_named}
 use Rattle.tool_common.specs.Writes.{OutputParts, Wrote}
 use Rattle.tool_commands.specs.Objects.{Objects, one, several, GaveObjects, names_with, objects_asked}
@@ -31,8 +31,6 @@ use Rattle.tool_commands.specs.declared.rewrite.RewriteOutcome.TheVariants as ou
 use Rattle.tool_commands.specs.declared.rewrite.RewriteRequest.{RewriteRequest}
 use Rattle.tool_commands.specs.declared.rewrite.Rewritten.{Rewritten}
 use Rattle.tool_commands.specs.declared.rewrite.Sizes.{Sizes}
-use Rattle.tool_common.specs.declared.refusal.Refusal.{Refusal}
-use Rattle.tool_common.specs.declared.refusal.Refusal.TheVariants.{Object}
 use Rattle.tool_io.specs.declared.files.Files.{Ghosts}
 
 -- what is asked for: in which form, the names of the files that are read and of those that are written, and that of the entry
@@ -89,11 +87,6 @@ rewrite_asked r = record { form = r.form; objects = objects_asked r.objects; ent
 abbrev pub request_of : RewriteWords → Given → Option (List ℕ) → asks.Request
 request_of words given policy = record { form = words.form; given = given; entry = words.entry; policy = policy }
 
--- a refusal stands against a request, and none before it
-abbrev pub IsRefused : asks.Request → Refusal → Type 0
-IsRefused request (Object refusal) = Refuses request refusal
-IsRefused request other = ⊥
-
 -- the bytes of a file are an image's of a version
 abbrev pub IsSpelled : ImageVersion → List ℕ → Type 0
 IsSpelled version bytes =
@@ -136,8 +129,7 @@ pub record IsMade (request : asks.Request) (hardened : HardenedParts) : Type 0 w
 
 -- the program is refused, or hardened
 abbrev pub IsRewriteOf : RewriteWords → Given → Option (List ℕ) → RewriteOutcome → Type 0
-IsRewriteOf words given policy (outcome.Refused refusal) = IsRefused (request_of words given policy) refusal
-IsRewriteOf words given policy (outcome.Duplicate name) = DuplicateIn given name
+IsRewriteOf words given policy (outcome.Refused refusal) = Refuses (request_of words given policy) refusal
 IsRewriteOf words given policy (outcome.Rewritten written) =
     (hardened : HardenedParts) × IsMade (request_of words given policy) hardened × IsSpelledOut words hardened written
 
@@ -156,7 +148,6 @@ outputs_of written = written.image ∷ written.graph ∷ written.map ∷ []
 
 abbrev pub rewrite_outputs : RewriteOutcome → List OutputParts
 rewrite_outputs (outcome.Refused refusal) = []
-rewrite_outputs (outcome.Duplicate name) = []
 rewrite_outputs (outcome.Rewritten written) = outputs_of written
 
 abbrev pub sizes_text : Sizes → List ℕ
@@ -168,12 +159,10 @@ rewritten_line sizes = codes "rewritten " ++ sizes_text sizes
 
 abbrev pub rewrite_line : RewriteOutcome → List ℕ
 rewrite_line (outcome.Refused refusal) = refusal_line refusal
-rewrite_line (outcome.Duplicate name) = duplicate_line name
 rewrite_line (outcome.Rewritten written) = rewritten_line written.sizes
 
 abbrev pub rewrite_status : RewriteOutcome → ℕ
 rewrite_status (outcome.Refused refusal) = 1
-rewrite_status (outcome.Duplicate name) = 1
 rewrite_status (outcome.Rewritten written) = 0
 
 -- the files gave objects and a policy; the image, the graph and the map of the hardened program were written, each whole; the text

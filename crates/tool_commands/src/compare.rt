@@ -13,26 +13,26 @@ ghost use Rattle.cfi_flow.specs.Entry.{entry_place};
 ghost use Rattle.cfi_harden.specs.Given.{Given};
 ghost use Rattle.cfi_harden.specs.Room.{HasDataRoom};
 ghost use Rattle.cfi_harden.specs.Prepared.{PreparedParts};
+ghost use Rattle.cfi_harden.specs.Preparing.{Reads};
 ghost use Rattle.cfi_harden.specs.Request.{Request};
 ghost use Rattle.src_machine.specs.Beginning.{Ends};
 ghost use Rattle.tool_commands.specs.Compare.{ExplainsCompare, IsAfterImage, IsCompareOf, IsCompareRefused, IsFresh, IsImageCompared, IsRoomy, IsRoomyEnd, answer_status, asked_at, compare_asked, compare_line, compare_link_words, compare_names, compare_status, compare_words};
-ghost use Rattle.tool_commands.specs.Objects.{Gives, given_by};
+ghost use Rattle.tool_commands.specs.Objects.{given_by};
 
-use crate::objects::{GivenFault, ObjectBytes, Objects, program_given};
+use crate::objects::{ObjectBytes, Objects, program_given};
 use crate::source::{roomy, source_on};
 use cfi_compare::{Compared, compare};
 use cfi_harden::Prepared;
 use cfi_map_text::{Map, read_map};
 use elf_image::read_image;
 use obj_program::Items;
-use rv_word::{Bytes, End, Form, NoMemory};
+use refusals::{MapReason, Refusal};
+use rv_word::{End, Form, NoMemory};
 use src_machine::laws::wrong_is_not_legal;
 use src_machine::{SourceFault, SourceRun};
 use std::alloc::Global;
 use text_lines::{LineFault, Reason};
-use tool_common::{
-    MapReason, Refusal, Stop, duplicate_line, file_word, line, read_all, status, steps, text_named,
-};
+use tool_common::{Stop, file_word, line, read_all, refusal_line, status, steps, text_named};
 use tool_io::Files;
 use tool_words::{CompareLinkWords, CompareWords};
 
@@ -90,8 +90,6 @@ impl<'a> CompareRequest<'a> {
 pub enum CompareOutcome {
     /// An object, the entry, the policy, the image or the map is not what it should be.
     Refused(Refusal),
-    /// There is no program, since two global symbols of this name are defined.
-    Duplicate(Bytes),
     Compared(Compared),
 }
 
@@ -113,7 +111,7 @@ impl CompareOutcome {
         ensures { result ≡ compare_status self.now }
     {
         match self {
-            CompareOutcome::Refused(_) | CompareOutcome::Duplicate(_) => status::REFUSED,
+            CompareOutcome::Refused(_) => status::REFUSED,
             CompareOutcome::Compared(compared) => answer_status(compared),
         }
     }
@@ -123,8 +121,7 @@ impl CompareOutcome {
         ensures { IfOk result (λ text. text.items ≡ with_newline (compare_line self.now)) }
     {
         match self {
-            CompareOutcome::Refused(refusal) => line(alloc, refusal),
-            CompareOutcome::Duplicate(name) => duplicate_line(alloc, name.as_slice()),
+            CompareOutcome::Refused(refusal) => refusal_line(alloc, refusal),
             CompareOutcome::Compared(compared) => line(alloc, compared),
         }
     }
@@ -169,9 +166,7 @@ fn not_at_the_map(image: &[u8], fault: SourceFault) -> Refusal
 {
     wrong_is_not_legal();
     match fault {
-        SourceFault::RelocRange(section, offset) => {
-            Refusal::Object(cfi_harden::Refusal::RelocRange(section, offset))
-        }
+        SourceFault::RelocRange(section, offset) => Refusal::RelocRange(section, offset),
         SourceFault::BadMap(line) => after_the_image(image, Refusal::Map(line, MapReason::Place)),
     }
 }
@@ -200,15 +195,12 @@ fn compare_at(
 }
 
 /// What is told where there is no program that could be run at a map.
-fn not_run(end: End<GivenFault>) -> Result<CompareOutcome, NoMemory>
+fn not_run(end: End<Refusal>) -> Result<CompareOutcome, NoMemory>
     ensures { (asked : Request) (image text input : List ℕ) (limit : ℕ) → IsRoomyEnd asked end
         → IfOk result (IsCompareOf asked image text input limit) }
 {
     match end {
-        End::Fault(GivenFault::Refused(refusal)) => {
-            Ok(CompareOutcome::Refused(Refusal::Object(refusal)))
-        }
-        End::Fault(GivenFault::Duplicate(name)) => Ok(CompareOutcome::Duplicate(name)),
+        End::Fault(refusal) => Ok(CompareOutcome::Refused(refusal)),
         End::NoMemory => Err(NoMemory),
     }
 }
@@ -223,9 +215,9 @@ fn compare_program(
     map: &Map,
     input: &[u8],
 ) -> Result<CompareOutcome, NoMemory>
-    requires read { (given : Given) × Gives given (Ok items.now) }
+    requires read { (given : Given) × Reads given (Ok items.now) }
     requires few { request.now.limit ≤ MAX_STEP }
-    ensures { (given : Given) (text : List ℕ) → Gives given (Ok items.now) → map_of text ≡ Ok map.now
+    ensures { (given : Given) (text : List ℕ) → Reads given (Ok items.now) → map_of text ≡ Ok map.now
         → IfOk result (IsCompareOf (asked_at text given request.now.entry.now (option_copied policy.entry))
         image.now text input.now request.now.limit) }
 {
@@ -245,7 +237,7 @@ fn after_the_program(
     line: u64,
     reason: Reason,
 ) -> Result<CompareOutcome, NoMemory>
-    ensures { (given : Given) (text input : List ℕ) → Gives given (Ok items.now) → map_of text ≡ Err (line_fault line reason)
+    ensures { (given : Given) (text input : List ℕ) → Reads given (Ok items.now) → map_of text ≡ Err (line_fault line reason)
         → IfOk result (IsCompareOf (asked_at text given request.now.entry.now (option_copied policy.entry))
         image.now text input request.now.limit) }
 {
@@ -268,9 +260,9 @@ fn compare_spelled(
     map: &[u8],
     input: &[u8],
 ) -> Result<CompareOutcome, NoMemory>
-    requires read { (given : Given) × Gives given (Ok items.now) }
+    requires read { (given : Given) × Reads given (Ok items.now) }
     requires few { request.now.limit ≤ MAX_STEP }
-    ensures { (given : Given) → Gives given (Ok items.now)
+    ensures { (given : Given) → Reads given (Ok items.now)
         → IfOk result (IsCompareOf (asked_at map.now given request.now.entry.now (option_copied policy.entry))
         image.now map.now input.now request.now.limit) }
 {

@@ -1,14 +1,15 @@
 //! The objects of a command's program: one by itself, or several that are joined, by the names of their files and by what the
 //! files gave.
 
-ghost use Rattle.std.specs.Prelude.{◌≡◌, ◌+◌, ◌++◌, [], ℕ, List, Option, Some, Ok, IfOk, OnOk, length, map, option_map};
-ghost use Rattle.cfi_harden.specs.Given.{alone, joined};
+ghost use Rattle.std.specs.Prelude.{◌≡◌, ◌+◌, ◌++◌, [], ℕ, List, Option, Some, IfOk, OnOk, length, map, option_map};
+ghost use Rattle.cfi_harden.specs.Preparing.{Reads};
 ghost use Rattle.tool_common.specs.Reads.{Content, GaveAll};
-ghost use Rattle.tool_commands.specs.Objects.{GaveObjects, Gives, given_by, names_with, objects_asked};
+ghost use Rattle.tool_commands.specs.Objects.{GaveObjects, given_by, names_with, objects_asked};
 
-use cfi_harden::{JoinedFault, Refusal, joined_program, program_of};
+use cfi_harden::{joined_program, program_of};
 use obj_program::Items;
-use rv_word::{Bytes, End, NoMemory};
+use refusals::Refusal;
+use rv_word::{End, NoMemory};
 use std::alloc::Global;
 
 /// The names of files that hold objects.
@@ -25,14 +26,6 @@ pub(crate) enum Objects<'a> {
 pub(crate) enum ObjectBytes<'b> {
     Alone(&'b [u8]),
     Joined(&'b [Vec<u8>]),
-}
-
-/// Why what is given is no program.
-#[derive(Drop)]
-pub(crate) enum GivenFault {
-    Refused(Refusal),
-    /// This name is defined twice.
-    Duplicate(Bytes),
 }
 
 /// Puts names of files, where they are named, behind others.
@@ -99,49 +92,15 @@ impl<'a> Objects<'a> {
     }
 }
 
-/// A name's bytes, copied.
-fn copied(alloc: Global, name: &[u8]) -> Result<Bytes, NoMemory>
-    ensures { IfOk result (λ bytes. bytes ≡ name.now) }
-{
-    Ok(Bytes::of(Vec::from_slice(alloc, name)?))
-}
-
-/// The program of several objects.
-fn joined<'b>(alloc: Global, objects: &'b [Vec<u8>]) -> Result<Items<'b>, End<GivenFault>>
-    ensures { Gives (joined (map (λ b. b.items) objects.now)) result }
-{
-    match joined_program(alloc, objects) {
-        Ok(items) => Ok(items),
-        Err(End::Fault(JoinedFault::Refused(refusal))) => {
-            Err(End::Fault(GivenFault::Refused(refusal)))
-        }
-        Err(End::Fault(JoinedFault::Duplicate(name))) => {
-            Err(End::Fault(GivenFault::Duplicate(copied(alloc, name)?)))
-        }
-        Err(End::NoMemory) => Err(End::NoMemory),
-    }
-}
-
-/// The program of one object.
-fn alone<'b>(alloc: Global, object: &'b [u8]) -> Result<Items<'b>, End<GivenFault>>
-    ensures { Gives (alone object.now) result }
-{
-    match program_of(alloc, object) {
-        Ok(items) => Ok(items),
-        Err(End::Fault(refusal)) => Err(End::Fault(GivenFault::Refused(refusal))),
-        Err(End::NoMemory) => Err(End::NoMemory),
-    }
-}
-
 /// The program of what is given.
 pub(crate) fn program_given<'b>(
     alloc: Global,
     given: ObjectBytes<'b>,
-) -> Result<Items<'b>, End<GivenFault>>
-    ensures { Gives (given_by given.entry) result }
+) -> Result<Items<'b>, End<Refusal>>
+    ensures { Reads (given_by given.entry) result }
 {
     match given {
-        ObjectBytes::Alone(object) => alone(alloc, object),
-        ObjectBytes::Joined(objects) => joined(alloc, objects),
+        ObjectBytes::Alone(object) => program_of(alloc, object),
+        ObjectBytes::Joined(objects) => joined_program(alloc, objects),
     }
 }

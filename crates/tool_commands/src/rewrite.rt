@@ -5,24 +5,24 @@ ghost use Rattle.tool_io.specs.Reading.{CountsReads, IsOnlyRead};
 ghost use Rattle.tool_io.specs.declared.ends.OutEnd.TheVariants as OutEnd;
 ghost use Rattle.elf_image.specs.Header.{data_start};
 ghost use Rattle.cfi_harden.specs.Given.{Given};
+ghost use Rattle.cfi_harden.specs.Preparing.{Reads};
 ghost use Rattle.tool_common.specs.Lines.{with_newline};
 ghost use Rattle.tool_common.specs.Reads.{IsFault, IsStop, IsTooLong, file_names};
 ghost use Rattle.tool_common.specs.Words.{text_named};
 ghost use Rattle.tool_common.specs.Writes.{AreApart, IsCut, IsTorn, KeepsReads, Wrote};
-ghost use Rattle.tool_commands.specs.Objects.{Gives, given_by, objects_asked};
+ghost use Rattle.tool_commands.specs.Objects.{given_by, objects_asked};
 ghost use Rattle.tool_commands.specs.Rewrite.{AreNamedApart, ExplainsRewrite, HasSizes, IsRewriteOf, IsSpelledOut, IsSpelledWith, harden_words, link_words, outputs_of, rewrite_asked, rewrite_line, rewrite_names, rewrite_outputs, rewrite_status, rewrite_words, words_alone, words_in};
 
-use crate::objects::{GivenFault, ObjectBytes, Objects, program_given};
+use crate::objects::{ObjectBytes, Objects, program_given};
 use cfi_graph::{Graph, write_graph};
 use cfi_map_text::{Map, write_map};
 use cfi_rewrite::{Hardened, rewrite_joined};
 use obj_program::Items;
+use refusals::Refusal;
 use rv_word::{Bytes, End, Form, NoMemory};
 use std::alloc::Global;
 use std::fmt;
-use tool_common::{
-    Output, Refusal, Stop, duplicate_line, file_word, line, read_all, status, text_named,
-};
+use tool_common::{Output, Stop, file_word, line, read_all, refusal_line, status, text_named};
 use tool_io::{Files, OutEnd};
 use tool_words::{HardenWords, LinkWords, RewriteWords};
 
@@ -164,8 +164,6 @@ pub struct Sizes {
 pub enum RewriteOutcome<'a> {
     /// The program is not hardened.
     Refused(Refusal),
-    /// There is no program, since two global symbols of this name are defined.
-    Duplicate(Bytes),
     Rewritten(Rewritten<'a>),
 }
 
@@ -212,7 +210,7 @@ impl RewriteOutcome<'_> {
         ensures { result ≡ rewrite_status self.now }
     {
         match self {
-            RewriteOutcome::Refused(_) | RewriteOutcome::Duplicate(_) => status::REFUSED,
+            RewriteOutcome::Refused(_) => status::REFUSED,
             RewriteOutcome::Rewritten(_) => status::WELL,
         }
     }
@@ -222,8 +220,7 @@ impl RewriteOutcome<'_> {
         ensures { IfOk result (λ text. text.items ≡ with_newline (rewrite_line self.now)) }
     {
         match self {
-            RewriteOutcome::Refused(refusal) => line(alloc, refusal),
-            RewriteOutcome::Duplicate(name) => duplicate_line(alloc, name.as_slice()),
+            RewriteOutcome::Refused(refusal) => refusal_line(alloc, refusal),
             RewriteOutcome::Rewritten(written) => line(alloc, &written.sizes),
         }
     }
@@ -239,7 +236,7 @@ impl RewriteOutcome<'_> {
         ensures unwritten { rewrite_outputs self.now ≡ [] → IsOnlyRead F.Files files.old files.new }
     {
         match self {
-            RewriteOutcome::Refused(_) | RewriteOutcome::Duplicate(_) => Ok(()),
+            RewriteOutcome::Refused(_) => Ok(()),
             RewriteOutcome::Rewritten(written) => written.write(files),
         }
     }
@@ -322,12 +319,12 @@ fn rewrite_items<'a>(
     items: &Items<'_>,
     policy: Option<&[u8]>,
 ) -> Result<RewriteOutcome<'a>, NoMemory>
-    ensures { (given : Given) → Gives given (Ok items.now)
+    ensures { (given : Given) → Reads given (Ok items.now)
         → IfOk result (IsRewriteOf (rewrite_asked request.now) given (option_copied policy.entry)) }
 {
     match rewrite_joined(alloc, request.form, items, request.entry, policy) {
         Ok(hardened) => Ok(RewriteOutcome::Rewritten(spelled_out(alloc, request, hardened)?)),
-        Err(End::Fault(refusal)) => Ok(RewriteOutcome::Refused(Refusal::Object(refusal))),
+        Err(End::Fault(refusal)) => Ok(RewriteOutcome::Refused(refusal)),
         Err(End::NoMemory) => Err(NoMemory),
     }
 }
@@ -343,10 +340,7 @@ fn rewrite_given<'a>(
 {
     match program_given(alloc, given) {
         Ok(items) => rewrite_items(alloc, request, &items, policy),
-        Err(End::Fault(GivenFault::Refused(refusal))) => {
-            Ok(RewriteOutcome::Refused(Refusal::Object(refusal)))
-        }
-        Err(End::Fault(GivenFault::Duplicate(name))) => Ok(RewriteOutcome::Duplicate(name)),
+        Err(End::Fault(refusal)) => Ok(RewriteOutcome::Refused(refusal)),
         Err(End::NoMemory) => Err(NoMemory),
     }
 }

@@ -7,30 +7,29 @@ ghost use Rattle.cfi_flow.specs.Policy.{instruction_at};
 ghost use Rattle.cfi_harden.specs.Given.{Given};
 ghost use Rattle.cfi_harden.specs.Room.{HasDataRoom};
 ghost use Rattle.cfi_harden.specs.Prepared.{IsPrepared};
+ghost use Rattle.cfi_harden.specs.Preparing.{Reads};
 ghost use Rattle.cfi_harden.specs.Request.{Request};
 ghost use Rattle.src_machine.specs.Beginning.{Ends};
 ghost use Rattle.tool_commands.specs.Compare.{IsRoomy, IsRoomyEnd};
 ghost use Rattle.tool_commands.specs.Demonstration.{IsSourceOn};
-ghost use Rattle.tool_commands.specs.Objects.{Gives};
 
-use crate::objects::GivenFault;
-use cfi_harden::{Prepared, Refusal, has_data_room, prepare_program};
+use cfi_harden::{Prepared, has_data_room, prepare_program};
 use cfi_map_text::Map;
 use obj_program::Items;
+use refusals::Refusal;
 use rv_word::{End, Form};
 use src_machine::{SourceFault, SourceRun};
 use std::alloc::Global;
 
 /// A prepared program, if its data have room.
-fn with_room<'a, 'b>(prepared: Prepared<'a, 'b>) -> Result<Prepared<'a, 'b>, End<GivenFault>>
+fn with_room<'a, 'b>(prepared: Prepared<'a, 'b>) -> Result<Prepared<'a, 'b>, End<Refusal>>
     ensures { (request : Request) → IsPrepared request prepared.entry → MatchResult result (IsRoomy request) (IsRoomyEnd request) }
 {
     if has_data_room(prepared.items) {
         return Ok(prepared);
     }
     let extent = prepared.items.data_extent();
-    let refusal = Refusal::DataTooLarge(extent.init, extent.end);
-    Err(End::Fault(GivenFault::Refused(refusal)))
+    Err(End::Fault(Refusal::DataTooLarge(extent.init, extent.end)))
 }
 
 /// A program, prepared as it is run at a map of a form.
@@ -40,16 +39,12 @@ fn prepared<'a, 'b>(
     items: &'a Items<'b>,
     entry: &str,
     policy: Option<&[u8]>,
-) -> Result<Prepared<'a, 'b>, End<GivenFault>>
-    ensures { (given : Given) → Gives given (Ok items.now)
+) -> Result<Prepared<'a, 'b>, End<Refusal>>
+    ensures { (given : Given) → Reads given (Ok items.now)
         → MatchResult result (IsPrepared (record { form = form; given = given; entry = entry.now; policy = option_copied policy.entry }))
         (IsRoomyEnd (record { form = form; given = given; entry = entry.now; policy = option_copied policy.entry })) }
 {
-    match prepare_program(alloc, form, items, entry, policy) {
-        Ok(prepared) => Ok(prepared),
-        Err(End::Fault(refusal)) => Err(End::Fault(GivenFault::Refused(refusal))),
-        Err(End::NoMemory) => Err(End::NoMemory),
-    }
+    prepare_program(alloc, form, items, entry, policy)
 }
 
 /// A program, as it is run at a map of a form, if its data have room.
@@ -59,8 +54,8 @@ pub(crate) fn roomy<'a, 'b>(
     items: &'a Items<'b>,
     entry: &str,
     policy: Option<&[u8]>,
-) -> Result<Prepared<'a, 'b>, End<GivenFault>>
-    ensures { (given : Given) → Gives given (Ok items.now)
+) -> Result<Prepared<'a, 'b>, End<Refusal>>
+    ensures { (given : Given) → Reads given (Ok items.now)
         → MatchResult result (IsRoomy (record { form = form; given = given; entry = entry.now; policy = option_copied policy.entry }))
         (IsRoomyEnd (record { form = form; given = given; entry = entry.now; policy = option_copied policy.entry })) }
 {

@@ -1,6 +1,5 @@
 pub mod Lines
 pub mod Words
 pub mod Writes
-pub mod Refusals
 pub mod Reads
 pub mod Held

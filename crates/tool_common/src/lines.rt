@@ -2,8 +2,9 @@
 
 ghost use Rattle.std.specs.Prelude.{◌≡◌, IfOk, IfSome};
 ghost use Rattle.tool_common.specs.Lines.{with_newline};
-ghost use Rattle.tool_common.specs.Refusals.{duplicate_line};
+ghost use Rattle.refusals.specs.Refusals.{refusal_line};
 
+use refusals::Refusal;
 use rv_word::NoMemory;
 use std::alloc::Global;
 use std::fmt::Display;
@@ -16,12 +17,11 @@ pub fn line<T: Display>(alloc: Global, shown: &T) -> Result<Vec<u8>, NoMemory>
     Ok(line.into_bytes())
 }
 
-/// The line of a name that two objects define, with its bytes as they are.
-pub fn duplicate_line(alloc: Global, name: &[u8]) -> Result<Vec<u8>, NoMemory>
-    ensures { IfOk result (λ line. line.items ≡ with_newline (duplicate_line name.now)) }
+/// The line of a refusal.
+pub fn refusal_line(alloc: Global, refusal: &Refusal) -> Result<Vec<u8>, NoMemory>
+    ensures { IfOk result (λ line. line.items ≡ with_newline (refusal_line refusal.now)) }
 {
-    let mut line = Vec::from_slice(alloc, b"refused 27 Duplicate ")?;
-    line.extend_from_slice(name)?;
+    let mut line = refusal.line(alloc)?;
     line.push(b'\n')?;
     Ok(line)
 }

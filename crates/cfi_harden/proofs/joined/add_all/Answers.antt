@@ -5,14 +5,14 @@ use Rattle.cfi_harden.proofs.joined.add_all.Goals as goal
 pub returns-in_err-add : goal.returns-in_err-add
 returns-in_err-add c =
     let p = err_from_is_err_and c.from_residual.result c.from_residual.ensures.1 in
-    rw (p.1, p.2) (unread_here (λ object. object.items) c.args.objects.now c.loop-index.join c.loop-index.index c.loop-index.invariant
-    c.index-objects-index.result c.as_slice.result.now c.loop-index-test.true c.index-objects-index.is c.as_slice.ensures.value c.in_err-add.field-0.0 c.add.new.join
+    rw (p.1, p.2) (unread_here (λ object. object.items) c.args.objects.now c.loop-object.join c.loop-object.object-index c.loop-object.invariant
+    c.object-item.result c.as_slice.result.now c.loop-object-test.true c.object-item.is c.as_slice.ensures.value c.in_err-add.field-0.0 c.add.new.self
     c.in_err-add.ensures)
 
-pub loop-index-preserved : goal.loop-index-preserved
-loop-index-preserved c =
-    one_more (λ object. object.items) c.args.objects.now c.loop-index.join c.loop-index.index c.loop-index.invariant
-    c.index-objects-index.result c.as_slice.result.now c.loop-index-test.true c.index-objects-index.is c.as_slice.ensures.value c.add.new.join c.in_ok-add.ensures
+pub loop-object-preserved : goal.loop-object-preserved
+loop-object-preserved c =
+    one_more (λ object. object.items) c.args.objects.now c.loop-object.join c.loop-object.object-index c.loop-object.invariant
+    c.object-item.result c.as_slice.result.now c.loop-object-test.true c.object-item.is c.as_slice.ensures.value c.add.new.self c.in_ok-add.ensures
 
 pub returns : goal.returns
-returns c = all_added (λ object. object.items) c.args.objects.now c.loop-index.join c.loop-index.index c.loop-index.invariant c.loop-index-test.false
+returns c = all_added (λ object. object.items) c.args.objects.now c.loop-object.join c.loop-object.object-index c.loop-object.invariant c.loop-object-test.false

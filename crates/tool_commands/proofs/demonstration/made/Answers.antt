@@ -3,7 +3,7 @@ use Rattle.rv_word.specs.declared.end.End.{End}
 use Rattle.rv_word.specs.declared.end.End.TheVariants.{Fault}
 use Rattle.cfi_harden.specs.Refused.{HardensProgram}
 use Rattle.cfi_harden.specs.Request.{program_request}
-use Rattle.cfi_harden.specs.declared.refusal.Refusal.{Refusal}
+use Rattle.refusals.specs.declared.refusal.Refusal.{Refusal}
 use Rattle.cfi_harden.proofs.Preparing.{hardens_given}
 use Rattle.gen_hardened.specs.Laws.{entered}
 use Rattle.tool_commands.proofs.Demonstrated.{unrefused}

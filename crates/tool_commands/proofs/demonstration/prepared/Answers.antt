@@ -1,7 +1,7 @@
 use Rattle.std.proofs.Common.{Err, subst}
 use Rattle.rv_word.specs.declared.end.End.{End}
 use Rattle.cfi_harden.specs.Refused.{PreparesProgram}
-use Rattle.cfi_harden.specs.declared.refusal.Refusal.{Refusal}
+use Rattle.refusals.specs.declared.refusal.Refusal.{Refusal}
 use Rattle.cfi_harden.proofs.Preparing.{prepared_given, refused_given}
 use Rattle.gen_hardened.specs.Laws.{entered}
 use Rattle.tool_commands.proofs.Demonstrated.{unrefused}

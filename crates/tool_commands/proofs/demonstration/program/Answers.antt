@@ -2,7 +2,7 @@ use Rattle.std.proofs.Common.{Err, inl, subst}
 use Rattle.rv_word.specs.declared.end.End.{End}
 use Rattle.cfi_harden.specs.Given.{alone}
 use Rattle.cfi_harden.specs.Preparing.{Reads}
-use Rattle.cfi_harden.specs.declared.refusal.Refusal.{Refusal}
+use Rattle.refusals.specs.declared.refusal.Refusal.{Refusal}
 use Rattle.tool_commands.proofs.Demonstrated.{unrefused}
 use Rattle.tool_commands.proofs.demonstration.program.Goals as goal
 
