@@ -14,7 +14,7 @@ use Rattle.cfi_map.proofs.Values.{values_there}
 use Rattle.cfi_closed.specs.Closed.{ClosedGraph, Side}
 use Rattle.cfi_flow.specs.Closing.{IsClosed, IsSide}
 use Rattle.cfi_map.specs.GraphAtMap.{ProgramAtMap, program_at}
-use Rattle.cfi_map.specs.Groups.{AreGroups, is_entered}
+use Rattle.cfi_map.specs.Groups.{AreGroups, bounds_in}
 use Rattle.cfi_map.specs.Placement.{whole_at, words_from}
 use Rattle.cfi_map.proofs.Greedy.{greedy_groups}
 use Rattle.cfi_flow.proofs.Laws.{members_there}
@@ -24,7 +24,7 @@ use Rattle.cfi_writer.specs.GraphOf.{IsGraphOf}
 use Rattle.cfi_writer.specs.Hardened.{AreGiven, chosen}
 use Rattle.cfi_map.specs.Placing.{IsPlacement, Spaced}
 use Rattle.cfi_map.specs.Source.{first_astray}
-use Rattle.cfi_harden.specs.Prepared.{IsClosedUnder, PreparedParts}
+use Rattle.cfi_harden.specs.Prepared.{IsClosedUnder, PreparedParts, entered_of}
 use Rattle.cfi_harden.specs.Ready.{IsReady}
 use Rattle.cfi_harden.proofs.Listing.{asked_right}
 use Rattle.cfi_writer.proofs.CodeRoom.{room_there}
@@ -69,12 +69,12 @@ module _ (p : PreparedParts) (ready : IsReady p) (s : Spaced) (fitting : IsFitti
   none_astray = subst (λ (l : ProgramAtMap). first_astray l ≡ None) fitting.placed.of fitting.in_range
 
   values : (k : ℕ) → k < count p.program → is_end (item_of p.program k).kind ≡ false →
-      is_some (instr_at p.program s.layout.gates (words_from p.closed.sides 0 s.layout.gates) k) ≡ true
-  values = values_there p.program s.layout.gates (words_from p.closed.sides 0 s.layout.gates) none_astray
+      is_some (instr_at p.program s.layout.gates (words_from (entered_of p) 0 s.layout.gates) k) ≡ true
+  values = values_there p.program s.layout.gates (words_from (entered_of p) 0 s.layout.gates) none_astray
 
   -- stores that join from left to right are groups
-  groups_here : AreGroups (item_of p.program) (is_entered p.program p.closed p.entry) (whole_at s.whole)
-  groups_here = greedy_groups (item_of p.program) (is_entered p.program p.closed p.entry) (whole_at s.whole) placed_here.groups
+  groups_here : AreGroups (item_of p.program) (bounds_in (entered_of p)) (whole_at s.whole)
+  groups_here = greedy_groups (item_of p.program) (bounds_in (entered_of p)) (whole_at s.whole) placed_here.groups
 
   pub accepted_here : IsAccepted (chosen here labels)
   accepted_here =
@@ -90,7 +90,7 @@ module _ (p : PreparedParts) (ready : IsReady p) (s : Spaced) (fitting : IsFitti
         entry_there = ready.entered;
         legal = placed_here.legal;
         groups = groups_here;
-        room = room_there (chosen here labels) ready.sound values groups_here (is_profile (image_version p.form)) placed_here.legal placed_here.size;
+        room = room_there (chosen here labels) ready.sound values (ap has_leaves ready.version ∙ form_full p.form) groups_here (is_profile (image_version p.form)) placed_here.legal placed_here.size;
         values = values;
         calls = ready.calls;
         sorts = closes.sorts;

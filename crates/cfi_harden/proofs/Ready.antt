@@ -15,11 +15,11 @@ use Rattle.cfi_harden.specs.Fitting.{IsFitting, RefusesPlaced}
 use Rattle.cfi_writer.specs.Hardened.{AreGiven, HardenedParts, chosen}
 use Rattle.cfi_harden.specs.Hardened.{IsWrittenOf}
 use Rattle.cfi_harden.specs.HardenedLaws.{WrittenIsAccepted}
-use Rattle.cfi_map.specs.GraphAtMap.{ProgramAtMap}
+use Rattle.cfi_map.specs.GraphAtMap.{ProgramAtMap, entered_in}
 use Rattle.cfi_map.specs.Placement.{words_from}
 use Rattle.cfi_map.specs.Placing.{Spaced}
 use Rattle.cfi_map.specs.Sizes.{whole_size, whole_sizes}
-use Rattle.cfi_harden.specs.Prepared.{IsPreparedOf, PreparedParts}
+use Rattle.cfi_harden.specs.Prepared.{IsPreparedOf, PreparedParts, entered_of}
 use Rattle.cfi_harden.specs.Refused.{HardensPrepared, HardensProgram, RefusesProgram}
 use Rattle.cfi_harden.specs.Request.{ProgramRequest}
 use Rattle.cfi_harden.specs.Ready.{IsReady}
@@ -59,15 +59,15 @@ writable p s labels ready fitting given =
       accepted = ok;
       fits_maps = ready.fits_maps;
       fits = accepted_map p.form (chosen (here p ready s fitting labels given) labels) ok refl (λ k below. let near = ready.fits_maps.fits k below in (near.section, near.whole, near.near));
-      init_there = data_there p.program s.layout.gates (words_from p.closed.sides 0 s.layout.gates) (none_astray p ready s fitting labels given);
+      init_there = data_there p.program s.layout.gates (words_from (entered_of p) 0 s.layout.gates) (none_astray p ready s fitting labels given);
       room = fitting.room.init;
     })
 
 -- the parts of a placement that fits have room behind the prologue
-pub room_behind : (p : PreparedParts) (s : Spaced) → IsFitting p s → sum (whole_sizes p.program p.closed) < CODE_SIZE
+pub room_behind : (p : PreparedParts) (s : Spaced) → IsFitting p s → sum (whole_sizes (entered_of p)) < CODE_SIZE
 room_behind p s fitting =
     let laid = laid_out (profile_for p.form) (is_profile (image_version p.form)) in
-    let room = subst (λ (l : ProgramAtMap). whole_size p.form l.program l.closed ≤ CODE_SIZE) fitting.placed.of fitting.placed.placed.room in
+    let room = subst (λ (l : ProgramAtMap). whole_size p.form (entered_in l) ≤ CODE_SIZE) fitting.placed.of fitting.placed.placed.room in
     omega (arith, laid.low, room)
 
 pub written_of : (p : PreparedParts) (s : Spaced) (labels : List ℕ) (h : HardenedParts) → IsFitting p s → IsWrittenAs p.form s labels h → IsWrittenOf p h

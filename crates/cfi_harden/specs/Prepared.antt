@@ -9,6 +9,7 @@ use Rattle.rv_word.specs.declared.end.End.TheVariants.{Fault}
 use Rattle.text_lines.specs.declared.fault.LineFault.{LineFault}
 use Rattle.obj_program.specs.Program.{Program}
 use Rattle.cfi_closed.specs.Closed.{ClosedGraph}
+use Rattle.cfi_leads.specs.Entered.{Entered, entered_at}
 use Rattle.cfi_flow.specs.Closing.{IsClosed}
 use Rattle.cfi_flow.specs.Entry.{entry_place}
 use Rattle.cfi_flow.specs.Policy.{IsRaw, wrong_line}
@@ -26,6 +27,10 @@ pub record PreparedParts : Type 0 where
   pub program : Program
   pub closed : ClosedGraph
   pub entry : ℕ
+
+-- the program with its closed graph, entered at its entry
+abbrev pub entered_of : PreparedParts → Entered
+entered_of p = entered_at p.program p.closed p.entry
 
 pub record IsPreparedOf (request : ProgramRequest) (p : PreparedParts) : Type 0 where
   pub form : p.form ≡ request.form

@@ -4,7 +4,7 @@ ghost use Rattle.std.specs.Prelude.{◌<◌, IfOk, option_copied, sum};
 ghost use Rattle.rv_word.specs.MemoryMap.{CODE_SIZE};
 ghost use Rattle.cfi_writer.specs.GraphOf.{IsGraphOf};
 ghost use Rattle.cfi_writer.specs.Hardened.{AreGiven};
-ghost use Rattle.cfi_harden.specs.Prepared.{IsOfRequest, IsPreparedOf};
+ghost use Rattle.cfi_harden.specs.Prepared.{IsOfRequest, IsPreparedOf, entered_of};
 ghost use Rattle.cfi_harden.specs.Refused.{HardensPrepared, HardensProgram};
 ghost use Rattle.cfi_harden.specs.Request.{ProgramRequest};
 ghost use Rattle.cfi_map.specs.Sizes.{whole_sizes};
@@ -22,7 +22,7 @@ use std::alloc::Global;
 /// The labels of a prepared program's classes.
 fn labels_of(alloc: Global, prepared: &Prepared) -> Result<Vec<u32>, NoMemory>
     requires graph { IsGraphOf prepared.now.program prepared.now.closed }
-    requires room { sum (whole_sizes prepared.now.program prepared.now.closed) < CODE_SIZE }
+    requires room { sum (whole_sizes (entered_of prepared.now)) < CODE_SIZE }
     ensures { IfOk result (λ v. AreGiven prepared.now.program prepared.now.closed v.items) }
 {
     class_labels(alloc, prepared.items, &prepared.closed)
