@@ -29,7 +29,7 @@ pub mod CodeWritten
 pub mod WholeImage
 pub mod LineList
 pub mod PlaceLines
-mod Plain
+pub mod Plain
 pub mod WriteRows
 mod WrittenRows
 mod AcceptedRow
