@@ -7,11 +7,12 @@ use Rattle.obj_input.specs.declared.item_kind.ItemKind.{ItemKind}
 use Rattle.obj_input.specs.declared.item_kind.ItemKind.TheVariants as is
 use Rattle.obj_program.specs.declared.item.Item.{Item}
 use Rattle.obj_program.specs.Program.{count, item_of, no_item}
-use Rattle.cfi_map.specs.GraphAtMap.{gate, word}
+use Rattle.cfi_map.specs.GraphAtMap.{entered_in, gate, word}
 use Rattle.cfi_map.specs.Groups.{is_store}
 use Rattle.cfi_map.specs.Placement.{is_ecall, kind_size, whole_at}
 use Rattle.cfi_writer.specs.Accepted.{IsAccepted}
 use Rattle.cfi_writer.specs.Units.{Choice, is_later_at}
+use Rattle.cfi_writer.proofs.Plain.{plain_size}
 use Rattle.cfi_writer.proofs.Standing.{next_gate}
 use Rattle.cfi_meaning.specs.LaterStores.{is_at_later}
 use Rattle.cfi_meaning.specs.PlaceSteps.{Linked, holds_store}
@@ -35,7 +36,9 @@ at_later_is m k ok =
           elim (cases_lt k (count m.layout.program)) [
             | inl below ↦
                 let next = place_behind m k ok (store_is_place m k below store) in
-                let size = store_size m.layout.closed.calls (item_of m.layout.program k).kind (is_ecall (item_of m.layout.program k)) (whole_at m.whole k) store in
+                let size =
+                plain_size (entered_in m.layout) k (item_of m.layout.program k) (whole_at m.whole k) ok.version
+                ∙ store_size m.layout.closed.calls (item_of m.layout.program k).kind (is_ecall (item_of m.layout.program k)) (whole_at m.whole k) store in
                 ap (λ (b : Bool). holds_store m k && b)
                 (sized (whole_at m.whole k) (word m.layout k) (gate m.layout (k + 1))
                 (next_gate m ok k next ∙ ap (λ (n : ℕ). word m.layout k + n) size))

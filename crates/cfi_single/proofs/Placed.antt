@@ -5,16 +5,21 @@ use Rattle.std.proofs.lemmas.Bool.{or_cases, or_right}
 use Rattle.rv_word.specs.Form.{profile_for}
 use Rattle.rv_word.specs.MemoryMap.{CODE_SIZE}
 use Rattle.rv_word.specs.declared.form.Form.{Form}
+use Rattle.rv_word.specs.declared.version.GraphVersion.{GraphVersion}
+use Rattle.rv_word.specs.declared.version.GraphVersion.TheVariants.{OneLabel, TwoLabels, CalleeSaves}
 use Rattle.obj_input.specs.declared.item_kind.ItemKind.{ItemKind}
 use Rattle.obj_input.specs.declared.item_kind.ItemKind.TheVariants as is
 use Rattle.obj_program.specs.declared.item.Item.{Item}
 use Rattle.obj_program.specs.Program.{Program, item_of, no_item}
 use Rattle.cfi_layout.specs.LongSet.{IsLongSet}
 use Rattle.cfi_layout.specs.LongSet.{is_branch as is_part}
-use Rattle.cfi_closed.specs.Closed.{ClosedGraph, Side}
-use Rattle.cfi_map.specs.GraphAtMap.{ProgramAtMap, program_at}
-use Rattle.cfi_map.specs.Groups.{is_entered, is_store, may_join}
-use Rattle.cfi_map.specs.Placement.{AreGates, is_ecall, kind_size, lead_size, whole_at, size_of}
+use Rattle.cfi_closed.specs.Closed.{ClosedGraph}
+use Rattle.cfi_leads.specs.Entered.{Entered, entered_at}
+use Rattle.cfi_leads.specs.Leads.{lead_size}
+use Rattle.cfi_leads.specs.Leaves.{in_leaf}
+use Rattle.cfi_map.specs.GraphAtMap.{ProgramAtMap, entered_in, program_at}
+use Rattle.cfi_map.specs.Groups.{bounds_in, is_short, is_store, may_join}
+use Rattle.cfi_map.specs.Placement.{AreGates, is_ecall, kind_size, lean_size, size_by, size_of, whole_at}
 use Rattle.cfi_map.specs.Placing.{IsPlacement, IsPlacementOf, Spaced}
 use Rattle.cfi_map.specs.Shorts.{shorts_of, is_branch}
 use Rattle.cfi_map.specs.Sizes.{grouped_parts, grouped_sizes, whole_size}
@@ -52,21 +57,37 @@ same_size calls is.Branch ecall a b same = ap (kind_size calls is.Branch ecall) 
 same_size calls is.Store ecall a b same = ap (kind_size calls is.Store ecall) (same refl)
 same_size calls other ecall a b same = refl
 
-gates_same : (calls : Option (List ℕ)) (sides : List Side) (whole more : List Bool) (k at : ℕ) (items : List Item) (gates others : List ℕ)
-    → SameSizes whole more k items → AreGates calls sides whole k at items gates → AreGates calls sides more k at items others → gates ≡ others
+lean_same : (calls : Option (List ℕ)) (kind : ItemKind) (ecall short inside a b : Bool) → (is_sized kind ≡ true → a ≡ b)
+    → lean_size calls kind ecall short inside a ≡ lean_size calls kind ecall short inside b
+lean_same calls is.Store ecall short inside a b same = ap (lean_size calls is.Store ecall short inside) (same refl)
+lean_same calls is.Call ecall short inside a b same = refl
+lean_same calls is.Return ecall short inside a b same = refl
+lean_same calls is.Ijump ecall short inside a b same = refl
+lean_same calls is.Icall ecall short inside a b same = refl
+lean_same calls other ecall short inside a b same = same_size calls other ecall a b same
+
+size_same : (version : GraphVersion) (calls : Option (List ℕ)) (inside : Bool) (item : Item) (a b : Bool) → (is_sized item.kind ≡ true → a ≡ b)
+    → size_by version calls inside item a ≡ size_by version calls inside item b
+size_same OneLabel calls inside item a b same = same_size calls item.kind (is_ecall item) a b same
+size_same TwoLabels calls inside item a b same = same_size calls item.kind (is_ecall item) a b same
+size_same CalleeSaves calls inside item a b same = lean_same calls item.kind (is_ecall item) (is_short item) inside a b same
+
+gates_same : (of : Entered) (whole more : List Bool) (k at : ℕ) (items : List Item) (gates others : List ℕ)
+    → SameSizes whole more k items → AreGates of whole k at items gates → AreGates of more k at items others → gates ≡ others
 unfolding AreGates
-gates_same calls sides whole more k at [] [] [] same a b = refl
-gates_same calls sides whole more k at [] (g ∷ gates) others same a b = absurd a
-gates_same calls sides whole more k at [] [] (o ∷ others) same a b = absurd b
-gates_same calls sides whole more k at (item ∷ items) [] others same a b = absurd a
-gates_same calls sides whole more k at (item ∷ items) (g ∷ gates) [] same a b = absurd b
-gates_same calls sides whole more k at (item ∷ items) (g ∷ gates) (o ∷ others) same a b =
-    let start = at + lead_size sides k in
-    let size = same_size calls item.kind (is_ecall item) (whole_at whole k) (whole_at more k) (first_sized whole more k item items same) in
-    let there : AreGates calls sides more (k + 1) (start + size_of calls item (whole_at whole k)) items others =
-    subst (λ (n : ℕ). AreGates calls sides more (k + 1) (start + n) items others) (sym size) b.1 in
+gates_same of whole more k at [] [] [] same a b = refl
+gates_same of whole more k at [] (g ∷ gates) others same a b = absurd a
+gates_same of whole more k at [] [] (o ∷ others) same a b = absurd b
+gates_same of whole more k at (item ∷ items) [] others same a b = absurd a
+gates_same of whole more k at (item ∷ items) (g ∷ gates) [] same a b = absurd b
+gates_same of whole more k at (item ∷ items) (g ∷ gates) (o ∷ others) same a b =
+    let start = at + lead_size of k in
+    let size : size_of of k item (whole_at whole k) ≡ size_of of k item (whole_at more k) =
+    size_same of.closed.version of.closed.calls (in_leaf of k) item (whole_at whole k) (whole_at more k) (first_sized whole more k item items same) in
+    let there : AreGates of more (k + 1) (start + size_of of k item (whole_at whole k)) items others =
+    subst (λ (n : ℕ). AreGates of more (k + 1) (start + n) items others) (sym size) b.1 in
     let rest =
-    gates_same calls sides whole more (k + 1) (start + size_of calls item (whole_at whole k)) items gates others
+    gates_same of whole more (k + 1) (start + size_of of k item (whole_at whole k)) items gates others
     (rest_sized whole more k item items same) a.1 there in
     let head : g ≡ o = a.0 ∙ sym b.0 in
     ap (λ (x : ℕ). x ∷ gates) head ∙ ap (λ (xs : List ℕ). o ∷ xs) rest
@@ -76,31 +97,28 @@ abbrev SameStores : List Bool → List Bool → ℕ → List Item → Type 0
 SameStores whole more k items =
     (i : ℕ) → i < length items → is_store (get_or items i no_item).kind ≡ true → whole_at whole (k + i) ≡ whole_at more (k + i)
 
-sized_store : (calls : Option (List ℕ)) (kind : ItemKind) (ecall a b : Bool) → (is_store kind ≡ true → a ≡ b) →
-    kind_size calls kind ecall (a || not (is_store kind)) ≡ kind_size calls kind ecall (b || not (is_store kind))
-sized_store calls is.Store ecall a b same = ap (λ (w : Bool). kind_size calls is.Store ecall (w || false)) (same refl)
-sized_store calls is.Branch ecall true b same = sym (ap (kind_size calls is.Branch ecall) (or_right b true refl))
-sized_store calls is.Branch ecall false b same = sym (ap (kind_size calls is.Branch ecall) (or_right b true refl))
-sized_store calls other ecall a b same = refl
+whole_same : (store a b : Bool) → (store ≡ true → a ≡ b) → (a || not store) ≡ (b || not store)
+whole_same true a b same = ap (λ (w : Bool). w || false) (same refl)
+whole_same false a b same = or_right a true refl ∙ sym (or_right b true refl)
 
-grouped_same : (calls : Option (List ℕ)) (sides : List Side) (whole more : List Bool) (k : ℕ) (items : List Item) → SameStores whole more k items →
-    grouped_sizes calls sides whole k items ≡ grouped_sizes calls sides more k items
+grouped_same : (of : Entered) (whole more : List Bool) (k : ℕ) (items : List Item) → SameStores whole more k items →
+    grouped_sizes of whole k items ≡ grouped_sizes of more k items
 unfolding grouped_sizes
-grouped_same calls sides whole more k [] same = refl
-grouped_same calls sides whole more k (item ∷ items) same =
+grouped_same of whole more k [] same = refl
+grouped_same of whole more k (item ∷ items) same =
     let start : k + 0 ≡ k = omega arith in
     let next : (i : ℕ) → k + suc i ≡ k + 1 + i = λ i. omega arith in
     let here : is_store item.kind ≡ true → whole_at whole k ≡ whole_at more k =
     λ store. subst (λ (n : ℕ). whole_at whole n ≡ whole_at more n) start (same 0 (omega arith) store) in
-    let rest = grouped_same calls sides whole more (k + 1) items
+    let rest = grouped_same of whole more (k + 1) items
     (λ i below store. subst (λ (n : ℕ). whole_at whole n ≡ whole_at more n) (next i) (same (suc i) (omega arith) store)) in
-    ap (λ (n : ℕ). (lead_size sides k + n) ∷ grouped_sizes calls sides whole (k + 1) items) (sized_store calls item.kind (is_ecall item) (whole_at whole k) (whole_at more k) here)
-    ∙ ap (λ (ns : List ℕ). (lead_size sides k + size_of calls item (whole_at more k || not (is_store item.kind))) ∷ ns) rest
+    ap (λ (w : Bool). (lead_size of k + size_of of k item w) ∷ grouped_sizes of whole (k + 1) items) (whole_same (is_store item.kind) (whole_at whole k) (whole_at more k) here)
+    ∙ ap (λ (ns : List ℕ). (lead_size of k + size_of of k item (whole_at more k || not (is_store item.kind))) ∷ ns) rest
 
 -- the code of a program that is placed has room with every branch long
 pub placed_room : (form : Form) (program : Program) (closed : ClosedGraph) (entry : ℕ) (s : Spaced) → IsPlacementOf form program closed entry s →
-    whole_size form program closed ≤ CODE_SIZE
-placed_room form program closed entry s hs = subst (λ (l : ProgramAtMap). whole_size form l.program l.closed ≤ CODE_SIZE) hs.of hs.placed.room
+    whole_size form (entered_at program closed entry) ≤ CODE_SIZE
+placed_room form program closed entry s hs = subst (λ (l : ProgramAtMap). whole_size form (entered_in l) ≤ CODE_SIZE) hs.of hs.placed.room
 
 module _ (form : Form) (program : Program) (closed : ClosedGraph) (entry : ℕ) (s t : Spaced)
     (hs : IsPlacementOf form program closed entry s) (ht : IsPlacementOf form program closed entry t) where
@@ -114,23 +132,23 @@ module _ (form : Form) (program : Program) (closed : ClosedGraph) (entry : ℕ) 
   abbrev items : ℕ → Item
   items = item_of program
 
-  abbrev entered : ℕ → Bool
-  entered = is_entered program closed entry
+  abbrev of_here : Entered
+  of_here = entered_at program closed entry
 
   -- each store joins the group before it under both flags, or under neither
   stores_below : (n k : ℕ) → k < n → is_store (items k).kind ≡ true → whole_at s.whole k ≡ whole_at t.whole k
   stores_below zero k below store = absurd (omega arith)
   stores_below (suc n) k below store =
       let before = members_alike items items (whole_at s.whole) (whole_at t.whole) k (λ j less. refl) (λ j less is_one. stores_below n j (omega arith) is_one) in
-      first.groups k store ∙ ap (λ (m : ℕ). not (may_join items entered k m)) before ∙ sym (second.groups k store)
+      first.groups k store ∙ ap (λ (m : ℕ). not (may_join items (bounds_in of_here) k m)) before ∙ sym (second.groups k store)
 
   stores_same : SameStores s.whole t.whole 0 program.items
   stores_same i below store =
       let start : i ≡ 0 + i = omega arith in
       subst (λ (n : ℕ). whole_at s.whole n ≡ whole_at t.whole n) start (stores_below (suc i) i (omega arith) store)
 
-  parts_same : grouped_parts program closed s.whole ≡ grouped_parts program closed t.whole
-  parts_same = grouped_same closed.calls closed.sides s.whole t.whole 0 program.items stores_same
+  parts_same : grouped_parts of_here s.whole ≡ grouped_parts of_here t.whole
+  parts_same = grouped_same of_here s.whole t.whole 0 program.items stores_same
 
   -- each long set lies in the other
   flags_same : SameSizes s.whole t.whole 0 program.items
@@ -140,8 +158,8 @@ module _ (form : Form) (program : Program) (closed : ClosedGraph) (entry : ℕ) 
       (elim (or_cases (is_branch (items i).kind) (is_store (items i).kind) sized) [
         | inr store ↦ stores_below (suc i) i (omega arith) store
         | inl branch ↦
-            let part : is_part (shorts_of program closed) i ≡ true = parts_are program closed i first.sound below ∙ branch in
-            let other = subst (λ (parts : List ℕ). IsLongSet (profile_for form).units_from (shorts_of program closed) parts (whole_at t.whole)) (sym parts_same) second.least in
+            let part : is_part (shorts_of of_here) i ≡ true = parts_are of_here i first.sound below ∙ branch in
+            let other = subst (λ (parts : List ℕ). IsLongSet (profile_for form).units_from (shorts_of of_here) parts (whole_at t.whole)) (sym parts_same) second.least in
             same_truth (whole_at s.whole i) (whole_at t.whole i)
             (λ whole. first.least.least (whole_at t.whole) other.closed i part whole)
             (λ whole. other.least (whole_at s.whole) first.least.closed i part whole)
@@ -151,7 +169,7 @@ module _ (form : Form) (program : Program) (closed : ClosedGraph) (entry : ℕ) 
   sizes_same = subst (λ (l : ProgramAtMap). SameSizes s.whole t.whole 0 l.program.items) (sym ht.of) flags_same
 
   gates_unique : s.layout.gates ≡ t.layout.gates
-  gates_unique = gates_same closed.calls closed.sides s.whole t.whole 0 _ program.items s.layout.gates t.layout.gates flags_same first.legal second.legal
+  gates_unique = gates_same of_here s.whole t.whole 0 _ program.items s.layout.gates t.layout.gates flags_same first.legal second.legal
 
   pub layout_unique : s.layout ≡ t.layout
   layout_unique = hs.of ∙ ap (λ (gates : List ℕ). program_at form program closed gates entry) gates_unique ∙ sym ht.of

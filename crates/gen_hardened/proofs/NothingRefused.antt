@@ -27,6 +27,7 @@ use Rattle.cfi_harden.specs.Room.{HasDataRoom}
 use Rattle.cfi_harden.specs.Prepared.{IsPreparedOf, PreparedParts}
 use Rattle.cfi_harden.specs.Refused.{RefusesProgram}
 use Rattle.cfi_harden.specs.Request.{program_request}
+use Rattle.cfi_leads.specs.Entered.{entered_at}
 use Rattle.cfi_map.specs.GraphAtMap.{ProgramAtMap, words_at}
 use Rattle.cfi_map.specs.Sizes.{whole_size}
 use Rattle.gen_hardened.specs.Laws.{DemoIsNeverRefused, IsNeverRefused, entered}
@@ -37,12 +38,12 @@ use Rattle.gen_hardened.proofs.AllInRange.{all_in_range}
 use Rattle.gen_hardened.proofs.DataRoom.{data_room}
 use Rattle.gen_hardened.proofs.EnteredAtMain.{entered_at_main}
 use Rattle.gen_hardened.proofs.NoPolicy.{no_wrong_line}
-use Rattle.gen_hardened.proofs.Room.{code_has_room}
+use Rattle.gen_hardened.proofs.Room.{IsBare, code_has_room}
 use Rattle.gen_hardened.proofs.Small.{AreSmall, small_functions}
 
--- its code has room, whatever its graph of one side without a list of system calls
+-- its code has room, whatever its graph of version 1 without a list of system calls, and wherever it is entered
 abbrev pub HasCodeRoom : List ℕ → Type 0
-HasCodeRoom object = (closed : ClosedGraph) → closed.calls ≡ None → length closed.sides ≡ 1 → whole_size Plain (program_of (input_of object)) closed ≤ CODE_SIZE
+HasCodeRoom object = (closed : ClosedGraph) (entry : ℕ) → IsBare closed → whole_size Plain (entered_at (program_of (input_of object)) closed entry) ≤ CODE_SIZE
 
 module _ (fs : List Function) (small : AreSmall fs) (object : List ℕ) (holds : Holds (parts_with fs) object)
     (sound : fault_of (input_of object) ≡ None) (room : HasCodeRoom object) where
@@ -52,22 +53,21 @@ module _ (fs : List Function) (small : AreSmall fs) (object : List ℕ) (holds :
   main_there : entry_place (program_of (input_of object)) (codes "main") ≡ Some 0
   main_there = entered_at_main is_generated
 
-  -- graphs of version 1 have one side
-  one_side : (p : PreparedParts) → IsPreparedOf (program_request (entered object)) p → length p.closed.sides ≡ 1
-  one_side p is =
+  -- graphs of version 1 have one side, and without a policy there is no list of system calls
+  bare : (p : PreparedParts) → IsPreparedOf (program_request (entered object)) p → IsBare p.closed
+  bare p is =
       let (raw, drawn, closes) = is.closed.drawn in
-      sym (length-map p.closed.sides (λ (s : Side). s.sort)) ∙ ap length closes.sorts ∙ ap (λ (form : Form). length (sorts_of (graph_version form))) is.form
+      record {
+        version = closes.version_is ∙ ap graph_version is.form;
+        calls = closes.calls ∙ drawn.calls;
+        sides =
+            sym (length-map p.closed.sides (λ (s : Side). s.sort)) ∙ ap length closes.sorts ∙ ap (λ (form : Form). length (sorts_of (graph_version form))) is.form;
+      }
 
-  -- and without a policy there is no list of system calls
-  no_calls : (p : PreparedParts) → IsPreparedOf (program_request (entered object)) p → p.closed.calls ≡ None
-  no_calls p is =
-      let (raw, drawn, closes) = is.closed.drawn in
-      closes.calls ∙ drawn.calls
-
-  code_room : (p : PreparedParts) → IsPreparedOf (program_request (entered object)) p → whole_size p.form p.program p.closed ≤ CODE_SIZE
-  code_room p is = subst (λ (form : Form). whole_size form p.program p.closed ≤ CODE_SIZE) (sym is.form)
-      (subst (λ (x : Program). whole_size Plain x p.closed ≤ CODE_SIZE) (sym is.program)
-      (room p.closed (no_calls p is) (one_side p is)))
+  code_room : (p : PreparedParts) → IsPreparedOf (program_request (entered object)) p → whole_size p.form (entered_at p.program p.closed p.entry) ≤ CODE_SIZE
+  code_room p is = subst (λ (form : Form). whole_size form (entered_at p.program p.closed p.entry) ≤ CODE_SIZE) (sym is.form)
+      (subst (λ (x : Program). whole_size Plain (entered_at x p.closed p.entry) ≤ CODE_SIZE) (sym is.program)
+      (room p.closed p.entry (bare p is)))
 
   room_there : (p : PreparedParts) → IsPreparedOf (program_request (entered object)) p → HasDataRoom p.program
   room_there p is = subst HasDataRoom (sym is.program) (data_room is_generated)
@@ -108,17 +108,17 @@ module _ (fs : List Function) (small : AreSmall fs) (object : List ℕ) (holds :
 -- the object of each number, where it holds its parts, has no fault, and its code has room
 pub demo_never_refused : ((number : ℕ) → Holds (demo_parts number) (object_bytes (demo_parts number)))
     → ((number : ℕ) (input : InputParts) → IsGenerated (functions_from 2000 0 number) input → fault_of input ≡ None)
-    → ((number : ℕ) (input : InputParts) (closed : ClosedGraph) → closed.calls ≡ None → length closed.sides ≡ 1 → IsGenerated (functions_from 2000 0 number) input
-    → whole_size Plain (program_of input) closed ≤ CODE_SIZE)
+    → ((number : ℕ) (input : InputParts) (closed : ClosedGraph) (entry : ℕ) → IsBare closed → IsGenerated (functions_from 2000 0 number) input
+    → whole_size Plain (entered_at (program_of input) closed entry) ≤ CODE_SIZE)
     → DemoIsNeverRefused
 demo_never_refused holds sound room number =
     let fs = functions_from 2000 0 number in
     let object = object_bytes (demo_parts number) in
     let is = generated_is fs object (holds number) in
     nothing_refused fs (small_functions 2000 0 number (omega arith)) object (holds number) (sound number (input_of object) is)
-    (λ closed none one. room number (input_of object) closed none one is)
+    (λ closed entry bare. room number (input_of object) closed entry bare is)
 
 pub never_refused : DemoIsNeverRefused
 never_refused =
     demo_never_refused (λ number. demo_holds number (object_bytes (demo_parts number)) refl) no_fault
-    (λ number input closed none one is. code_has_room (functions_from 2000 0 number) input closed none one (length-functions 2000 0 number) is)
+    (λ number input closed entry bare is. code_has_room (functions_from 2000 0 number) input closed entry bare (length-functions 2000 0 number) is)

@@ -6,6 +6,7 @@ use Rattle.std.proofs.lemmas.Bool.{cases_Bool}
 use Rattle.std.proofs.lemmas.List.Sums.{sum_by-cons}
 use Rattle.rv_word.specs.MemoryMap.{CODE_SIZE}
 use Rattle.rv_word.specs.declared.form.Form.TheVariants.{Plain}
+use Rattle.rv_word.specs.declared.version.GraphVersion.TheVariants.{OneLabel}
 use Rattle.obj_input.specs.declared.item_kind.ItemKind.{ItemKind}
 use Rattle.obj_input.specs.declared.item_kind.ItemKind.TheVariants as is
 use Rattle.obj_input.specs.Input.{InputParts}
@@ -14,8 +15,10 @@ use Rattle.obj_program.specs.Program.{is_end}
 use Rattle.obj_items.specs.Outline.{outline}
 use Rattle.obj_items.specs.Links.{item_with}
 use Rattle.obj_items.specs.ProgramOf.{program_of}
-use Rattle.cfi_closed.specs.Closed.{ClosedGraph, Side, is_target}
-use Rattle.cfi_map.specs.Placement.{is_ecall, kind_size, lead_size, size_of, whole_at}
+use Rattle.cfi_closed.specs.Closed.{ClosedGraph, is_target}
+use Rattle.cfi_leads.specs.Entered.{Entered, entered_at}
+use Rattle.cfi_leads.specs.Leads.{lead_size}
+use Rattle.cfi_map.specs.Placement.{is_ecall, kind_size, size_of, whole_at}
 use Rattle.cfi_map.specs.Sizes.{part_sizes, whole_size}
 use Rattle.cfi_gen.specs.declared.function.Function.{Function}
 use Rattle.gen_hardened.specs.Generated.{IsGenerated}
@@ -37,24 +40,36 @@ unit_weighs None is.Ijump ecall whole none = omega arith
 unit_weighs None is.Icall ecall whole none = omega arith
 unit_weighs None other ecall whole none = omega arith
 
-lead_weighs : (sides : List Side) (k : ℕ) → length sides ≡ 1 → lead_size sides k ≤ 4
-lead_weighs sides k one =
-    elim (cases_Bool (is_target sides k)) [ inl target ↦ rw target (omega arith) | inr other ↦ rw other (omega arith) ]
+-- a closed graph of version 1 without a list of system calls
+pub record IsBare (closed : ClosedGraph) : Type 0 where
+  pub version : closed.version ≡ OneLabel
+  pub calls : closed.calls ≡ None
+  pub sides : length closed.sides ≡ 1
 
-parts_weigh : (calls : Option (List ℕ)) (sides : List Side) (whole : List Bool) (k : ℕ) (items : List Item) → calls ≡ None → length sides ≡ 1
-    → sum (part_sizes calls sides whole k items) ≤ sum_by item_weight items
-unfolding part_sizes
-parts_weigh calls sides whole k [] none one = omega arith
-parts_weigh calls sides whole k (item ∷ items) none one =
-    let size = lead_size sides k + size_of calls item (whole_at whole k) in
-    omega (
-      arith,
-      unit_weighs calls item.kind (is_ecall item) (whole_at whole k) none,
-      lead_weighs sides k one,
-      parts_weigh calls sides whole (k + 1) items none one,
-      sum_by-cons (λ (x : ℕ). x) size (part_sizes calls sides whole (k + 1) items),
-      sum_by-cons item_weight item items,
-    )
+module _ (of : Entered) (bare : IsBare of.closed) where
+  lead_weighs : (k : ℕ) → lead_size of k ≤ 4
+  lead_weighs k =
+      let one = bare.sides in
+      rw bare.version
+      (elim (cases_Bool (is_target of.closed.sides k)) [ inl target ↦ rw target (omega arith) | inr other ↦ rw other (omega arith) ])
+
+  unit_is : (k : ℕ) (item : Item) (whole : Bool) → size_of of k item whole ≡ kind_size of.closed.calls item.kind (is_ecall item) whole
+  unit_is k item whole = rw bare.version refl
+
+  parts_weigh : (whole : List Bool) (k : ℕ) (items : List Item) → sum (part_sizes of whole k items) ≤ sum_by item_weight items
+  unfolding part_sizes
+  parts_weigh whole k [] = omega arith
+  parts_weigh whole k (item ∷ items) =
+      let size = lead_size of k + size_of of k item (whole_at whole k) in
+      omega (
+        arith,
+        unit_weighs of.closed.calls item.kind (is_ecall item) (whole_at whole k) bare.calls,
+        unit_is k item (whole_at whole k),
+        lead_weighs k,
+        parts_weigh whole (k + 1) items,
+        sum_by-cons (λ (x : ℕ). x) size (part_sizes of whole (k + 1) items),
+        sum_by-cons item_weight item items,
+      )
 
 -- relocations change no kind
 linked_weighs : (input : InputParts) (places items : List Item)
@@ -72,19 +87,19 @@ linked_weighs input places (item ∷ items) =
     )
 
 -- the prologue has 64 bytes
-pub size_within : (fs : List Function) (input : InputParts) (closed : ClosedGraph) → closed.calls ≡ None → length closed.sides ≡ 1 → IsGenerated fs input
-    → whole_size Plain (program_of input) closed ≤ 64 + (17 * 84 + 332 * length fs + 8)
+pub size_within : (fs : List Function) (input : InputParts) (closed : ClosedGraph) (entry : ℕ) → IsBare closed → IsGenerated fs input
+    → whole_size Plain (entered_at (program_of input) closed entry) ≤ 64 + (17 * 84 + 332 * length fs + 8)
 unfolding program_of
-size_within fs input closed none one g =
+size_within fs input closed entry bare g =
     let places = outline input in
     omega (
       arith,
-      parts_weigh closed.calls closed.sides [] 0 (map (item_with input places) places) none one,
+      parts_weigh (entered_at (program_of input) closed entry) bare [] 0 (map (item_with input places) places),
       linked_weighs input places places,
       outline_weighs fs input g,
     )
 
--- the code of 2,000 functions has room, whatever its graph of one side without a list of system calls
-pub code_has_room : (fs : List Function) (input : InputParts) (closed : ClosedGraph) → closed.calls ≡ None → length closed.sides ≡ 1 → length fs ≡ 2000 → IsGenerated fs input
-    → whole_size Plain (program_of input) closed ≤ CODE_SIZE
-code_has_room fs input closed none one many g = omega (arith, many, size_within fs input closed none one g)
+-- the code of 2,000 functions has room, whatever its graph of version 1 without a list of system calls, and wherever it is entered
+pub code_has_room : (fs : List Function) (input : InputParts) (closed : ClosedGraph) (entry : ℕ) → IsBare closed → length fs ≡ 2000 → IsGenerated fs input
+    → whole_size Plain (entered_at (program_of input) closed entry) ≤ CODE_SIZE
+code_has_room fs input closed entry bare many g = omega (arith, many, size_within fs input closed entry bare g)

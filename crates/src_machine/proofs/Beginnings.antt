@@ -17,6 +17,7 @@ use Rattle.rv_code.specs.Decode.{decoded}
 use Rattle.obj_program.specs.DataAtMap.{data_at}
 use Rattle.obj_program.specs.Program.{Program, count, is_end, item_of}
 use Rattle.cfi_closed.specs.Closed.{ClosedGraph}
+use Rattle.cfi_leads.specs.Entered.{entered_at}
 use Rattle.cfi_map.specs.LegalMap.{IsLegalMap, gates_of}
 use Rattle.cfi_map.specs.Source.{Source, init_here, instr_here, source_start}
 use Rattle.src_machine.specs.Placed.{AreRead}
@@ -46,12 +47,12 @@ gates_small g map gates is k = subst (λ (gs : List ℕ). slice_index gs k < 2 ^
 module _ (program : Program) (closed : ClosedGraph) (entry : ℕ) (g : MapParts) (legal : IsLegalMap program closed entry g) where
   pub gates_counted : (gates : List ℕ) → gates ≡ gates_of g.lines → length gates ≡ count program
   gates_counted gates are =
-      ap length are ∙ as_many_gates closed.calls closed.sides legal.gates.0 0 (profile_for g.form).units_from program.items (gates_of g.lines) legal.gates.1
+      ap length are ∙ as_many_gates (entered_at program closed entry) legal.gates.0 0 (profile_for g.form).units_from program.items (gates_of g.lines) legal.gates.1
 
   pub gates_rising : (gates : List ℕ) → gates ≡ gates_of g.lines → IsStrictlyIncreasing gates
   gates_rising gates are =
       subst IsStrictlyIncreasing (sym are)
-      (gates_rise closed.calls closed.sides legal.gates.0 0 (profile_for g.form).units_from program.items (gates_of g.lines) legal.gates.1)
+      (gates_rise (entered_at program closed entry) legal.gates.0 0 (profile_for g.form).units_from program.items (gates_of g.lines) legal.gates.1)
 
 -- with the word of one instruction more
 pub read_more : (layout : ProgramAtMap) (k : ℕ) (code more : List ℕ) (word : ℕ) → AreRead layout k code →

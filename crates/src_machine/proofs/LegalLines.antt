@@ -12,9 +12,11 @@ use Rattle.cfi_map_text.specs.declared.map.MapLine.{MapLine}
 use Rattle.obj_program.specs.declared.item.Item.{Item}
 use Rattle.obj_program.specs.Program.{Program, count, item_of, no_item}
 use Rattle.cfi_closed.specs.Closed.{ClosedGraph}
-use Rattle.cfi_map.specs.Groups.{AreGroups, Entries, entries, is_entered, is_store, joins_in}
+use Rattle.cfi_leads.specs.Entered.{Entered, entered_at}
+use Rattle.cfi_leads.specs.Leads.{lead_size}
+use Rattle.cfi_map.specs.Groups.{AreGroups, Bounds, bounds_in, is_store, joins_in}
 use Rattle.cfi_map.specs.LegalMap.{AreLegal, IsLegalMap, gates_of}
-use Rattle.cfi_map.specs.Placement.{AreGates, lead_size, size_of, whole_at}
+use Rattle.cfi_map.specs.Placement.{AreGates, size_of, whole_at}
 use Rattle.cfi_map.specs.MapFault.{BeginsLegal, IsWrongLine}
 use Rattle.cfi_map.proofs.GroupFacts.{later_if, later_parts}
 use Rattle.src_machine.specs.MapLine.{follows, follows_at, has_whole, is_named, is_past_whole, is_right, is_wrong, line_at, no_line, stands, stores_before}
@@ -35,9 +37,12 @@ module _ (form : Form) (program : Program) (closed : ClosedGraph) (entry : ℕ) 
   abbrev map_here : MapParts
   map_here = record { form = form; lines = lines }
 
-  -- the program with its entered places
-  abbrev of_here : Entries
-  of_here = entries program closed entry
+  -- the program entered at its place, and what bounds its groups
+  abbrev of_here : Entered
+  of_here = entered_at program closed entry
+
+  abbrev bounds_here : Bounds
+  bounds_here = bounds_in of_here
 
   gate_in : (n i : ℕ) → i < n → n ≤ length lines → slice_index (gates_of (take n lines)) i ≡ (line_at lines i).gate
   gate_in n i below within = mapped (λ (l : MapLine). l.gate) lines n i no_line 0 below within
@@ -54,13 +59,13 @@ module _ (form : Form) (program : Program) (closed : ClosedGraph) (entry : ℕ) 
 
   -- the next line's gate tells whether a unit has its whole size
   whole_read : (i : ℕ) → suc i < length lines
-      → has_whole of_here lines i ≡ is_past_whole closed (item_of program i) i (line_at lines i).gate (line_at lines (suc i)).gate
+      → has_whole of_here lines i ≡ is_past_whole of_here (item_of program i) i (line_at lines i).gate (line_at lines (suc i)).gate
   whole_read i below =
       let more : nat_le (length lines) (i + 1) ≡ false = lt-leb (length lines) (i + 1) (omega arith) in
       let next : i + 1 ≡ suc i = omega arith in
-      let here : has_whole of_here lines i ≡ is_past_whole closed (item_of program i) i (line_at lines i).gate (line_at lines (i + 1)).gate =
+      let here : has_whole of_here lines i ≡ is_past_whole of_here (item_of program i) i (line_at lines i).gate (line_at lines (i + 1)).gate =
       rw more refl in
-      here ∙ ap (λ (m : ℕ). is_past_whole closed (item_of program i) i (line_at lines i).gate (line_at lines m).gate) next
+      here ∙ ap (λ (m : ℕ). is_past_whole of_here (item_of program i) i (line_at lines i).gate (line_at lines m).gate) next
 
   item_taken : (n i : ℕ) → i < n → item_of program i ≡ get_or (take n program.items) i no_item
   item_taken n i below = sym (get_or-take n program.items i no_item below)
@@ -104,36 +109,36 @@ module _ (form : Form) (program : Program) (closed : ClosedGraph) (entry : ℕ) 
     abbrev flags : List Bool
     flags = flags_to (has_whole of_here lines) n
 
-    legal_gates : AreGates closed.calls closed.sides flags 0 (profile_for form).units_from (take n program.items) (gates_of (take n lines))
+    legal_gates : AreGates of_here flags 0 (profile_for form).units_from (take n program.items) (gates_of (take n lines))
     legal_gates =
         let size : length (gates_of (take n lines)) ≡ n = map_size (λ (l : MapLine). l.gate) lines n in_lines in
         let places : length (take n program.items) ≡ n = length-take-le n program.items in_items in
-        are_gates closed.calls closed.sides flags 0 (profile_for form).units_from (take n program.items) (gates_of (take n lines)) (omega arith)
+        are_gates of_here flags 0 (profile_for form).units_from (take n program.items) (gates_of (take n lines)) (omega arith)
         (λ some. gate_in n 0 (omega arith) in_lines ∙ eqb-true _ _ (stood 0 (omega arith)))
         (λ i below.
         let less : suc i < n = omega arith in
         let plus : 0 + i ≡ i = omega arith in
         let flag = whole_read i (omega arith) in
-        let told : is_past_whole closed (item_of program i) i (line_at lines i).gate (line_at lines (suc i)).gate ≡ whole_at flags i =
+        let told : is_past_whole of_here (item_of program i) i (line_at lines i).gate (line_at lines (suc i)).gate ≡ whole_at flags i =
         sym flag ∙ sym (flag_here (has_whole of_here lines) n i less) in
-        let at : (line_at lines (suc i)).gate ≡ (line_at lines i).gate + (lead_size closed.sides i + size_of closed.calls (item_of program i) (whole_at flags i)) =
+        let at : (line_at lines (suc i)).gate ≡ (line_at lines i).gate + (lead_size of_here i + size_of of_here i (item_of program i) (whole_at flags i)) =
         led_by of_here (item_of program i) i (stores_before of_here lines i) (line_at lines i).gate (line_at lines (suc i)).gate (whole_at flags i) told (followed i less) in
         let item = sym (item_taken n i (omega arith)) in
         let here = gate_in n i (omega arith) in_lines in
         let there = gate_in n (suc i) less in_lines in
         rw (plus, item, here, there) at)
 
-    legal_groups : AreGroups (λ k. get_or (take n program.items) k no_item) (is_entered program closed entry) (whole_at flags)
+    legal_groups : AreGroups (λ k. get_or (take n program.items) k no_item) bounds_here (whole_at flags)
     legal_groups k later =
         let taken : ℕ → Item = λ j. get_or (take n program.items) j no_item in
-        let parts = later_parts taken (is_entered program closed entry) (whole_at flags) k later in
+        let parts = later_parts taken bounds_here (whole_at flags) k later in
         elim (cases_lt (suc k) n) [
           | inl less ↦
               let kind = kind_taken n k (omega arith) in
               let store : is_store (item_of program k).kind ≡ true = ap is_store (sym kind) ∙ parts.0 in
-              let short : is_past_whole closed (item_of program k) k (line_at lines k).gate (line_at lines (suc k)).gate ≡ false =
+              let short : is_past_whole of_here (item_of program k) k (line_at lines k).gate (line_at lines (suc k)).gate ≡ false =
               sym (whole_read k (omega arith)) ∙ sym (flag_here (has_whole of_here lines) n k less) ∙ parts.1 in
-              join_moved (item_of program) taken (is_entered program closed entry) (has_whole of_here lines) (whole_at flags) k
+              join_moved (item_of program) taken bounds_here (has_whole of_here lines) (whole_at flags) k
               (λ j below. item_taken n j (omega arith))
               (λ j below is. sym (flag_here (has_whole of_here lines) n j (omega arith)))
               (joined_by of_here (item_of program k) k (stores_before of_here lines k) (line_at lines k).gate (line_at lines (suc k)).gate store short (followed k less))
@@ -159,11 +164,11 @@ module _ (form : Form) (program : Program) (closed : ClosedGraph) (entry : ℕ) 
 
   -- the gates of a legal beginning
   gate_next : (n : ℕ) (legal : BeginsLegal program closed entry map_here n) → n ≤ length lines → (i : ℕ) → suc i < n
-      → (line_at lines (suc i)).gate ≡ (line_at lines i).gate + (lead_size closed.sides i + size_of closed.calls (item_of program i) (whole_at legal.gates.0 i))
+      → (line_at lines (suc i)).gate ≡ (line_at lines i).gate + (lead_size of_here i + size_of of_here i (item_of program i) (whole_at legal.gates.0 i))
   gate_next n legal within i below =
       let size = map_size (λ (l : MapLine). l.gate) lines n within in
       let zero_plus : 0 + i ≡ i = omega arith in
-      let step = next_gate closed.calls closed.sides legal.gates.0 0 (profile_for form).units_from (take n program.items) (gates_of (take n lines)) legal.gates.1 i (omega arith) in
+      let step = next_gate of_here legal.gates.0 0 (profile_for form).units_from (take n program.items) (gates_of (take n lines)) legal.gates.1 i (omega arith) in
       let item = sym (item_taken n i (omega arith)) in
       let here = gate_in n i (omega arith) within in
       let there = gate_in n (suc i) below within in
@@ -175,18 +180,18 @@ module _ (form : Form) (program : Program) (closed : ClosedGraph) (entry : ℕ) 
   joins_next n legal within i below store short =
       let taken : ℕ → Item = λ j. get_or (take n program.items) j no_item in
       let whole : List Bool = legal.gates.0 in
-      join_moved taken (item_of program) (is_entered program closed entry) (whole_at whole) (has_whole of_here lines) i
+      join_moved taken (item_of program) bounds_here (whole_at whole) (has_whole of_here lines) i
       (λ j less. sym (item_taken n j (omega arith)))
       (λ j less is.
       let kind = kind_taken n j (omega arith) in
       sym (whole_read j (omega arith)
-      ∙ whole_by closed (item_of program j) j (line_at lines j).gate (line_at lines (suc j)).gate (whole_at whole j) (ap is_store (sym kind) ∙ is) (gate_next n legal within j (omega arith))))
-      (legal.gates.2 i (later_if taken (is_entered program closed entry) (whole_at whole) i (ap is_store (kind_taken n i (omega arith)) ∙ store) short))
+      ∙ whole_by of_here (item_of program j) j (line_at lines j).gate (line_at lines (suc j)).gate (whole_at whole j) (ap is_store (sym kind) ∙ is) (gate_next n legal within j (omega arith))))
+      (legal.gates.2 i (later_if taken bounds_here (whole_at whole) i (ap is_store (kind_taken n i (omega arith)) ∙ store) short))
 
   stands_right : (j : ℕ) → BeginsLegal program closed entry map_here (j + 1) → j < length lines → j < count program → stands form of_here lines j ≡ true
   stands_right zero legal in_lines in_items =
       let size = map_size (λ (l : MapLine). l.gate) lines 1 (omega arith) in
-      eq-eqb _ _ (sym (gate_in 1 0 (omega arith) (omega arith)) ∙ first_gate closed.calls closed.sides legal.gates.0 0 (profile_for form).units_from (take 1 program.items) (gates_of (take 1 lines)) legal.gates.1 (omega arith))
+      eq-eqb _ _ (sym (gate_in 1 0 (omega arith) (omega arith)) ∙ first_gate of_here legal.gates.0 0 (profile_for form).units_from (take 1 program.items) (gates_of (take 1 lines)) legal.gates.1 (omega arith))
   stands_right (suc i) legal in_lines in_items =
       let n : ℕ = suc i + 1 in
       stands_next i
@@ -221,8 +226,8 @@ module _ (form : Form) (program : Program) (closed : ClosedGraph) (entry : ℕ) 
       let few : count program ≤ length lines = ltb-false _ _ missing in
       let all_lines : take (length lines) lines ≡ lines = take_all (length lines) lines (omega arith) in
       let all_items : take (length lines) program.items ≡ program.items = take_all (length lines) program.items few in
-      subst (λ (items : List Item). AreLegal (record program { items = items }) closed (is_entered program closed entry) map_here) all_items
-      (subst (λ (ls : List MapLine). AreLegal (record program { items = take (length lines) program.items }) closed (is_entered program closed entry) (record { form = form; lines = ls })) all_lines each)
+      subst (λ (items : List Item). AreLegal of_here items map_here) all_items
+      (subst (λ (ls : List MapLine). AreLegal of_here (take (length lines) program.items) (record { form = form; lines = ls })) all_lines each)
 
   sizes_same : (n : ℕ) → BeginsLegal program closed entry map_here n → length (take n lines) ≡ length (take n program.items)
   sizes_same n legal =
@@ -267,9 +272,9 @@ module _ (form : Form) (program : Program) (closed : ClosedGraph) (entry : ℕ) 
       }
 
 -- the first wrong line of a map, as it is found among its lines
-pub first_as : (map : MapParts) (of : Entries) {form : Form} {from : Entries} {lines : List MapLine} {found : Option ℕ} → form ≡ map.form → from ≡ of →
+pub first_as : (map : MapParts) (of : Entered) {form : Form} {from : Entered} {lines : List MapLine} {found : Option ℕ} → form ≡ map.form → from ≡ of →
     lines ≡ map.lines → found ≡ first_below (is_wrong form from lines) (length lines + 1) → first_below (is_wrong map.form of map.lines) (length map.lines + 1) ≡ found
 first_as map of {form = form} {from = from} {lines = lines} same_form same_entries same_lines is =
     ap (λ (f : Form). first_below (is_wrong f of map.lines) (length map.lines + 1)) (sym same_form)
     ∙ ap (λ (ls : List MapLine). first_below (is_wrong form of ls) (length ls + 1)) (sym same_lines)
-    ∙ ap (λ (o : Entries). first_below (is_wrong form o lines) (length lines + 1)) (sym same_entries) ∙ sym is
+    ∙ ap (λ (o : Entered). first_below (is_wrong form o lines) (length lines + 1)) (sym same_entries) ∙ sym is

@@ -8,7 +8,8 @@ use Rattle.rv_word.specs.declared.form.Form.{Form}
 use Rattle.cfi_map_text.specs.declared.map.MapLine.{MapLine}
 use Rattle.obj_program.specs.declared.item.Item.{Item}
 use Rattle.obj_program.specs.Program.{count, item_of}
-use Rattle.cfi_map.specs.Groups.{Entries, members_after, members_before}
+use Rattle.cfi_leads.specs.Entered.{Entered}
+use Rattle.cfi_map.specs.Groups.{members_after, members_before}
 use Rattle.cfi_map.proofs.Greedy.{before_most}
 use Rattle.src_machine.specs.MapLine.{has_whole, is_right, is_wrong, stores_before}
 
@@ -20,7 +21,7 @@ none_first : (items : ℕ → Item) (whole : ℕ → Bool) (k : ℕ) → k ≡ 0
 unfolding members_before
 none_first items whole k is = sym (ap (members_before items whole) is)
 
-module _ (of : Entries) (lines : List MapLine) (j before : ℕ) (are : before ≡ stores_before of lines (j - 1)) where
+module _ (of : Entered) (lines : List MapLine) (j before : ℕ) (are : before ≡ stores_before of lines (j - 1)) where
   pub few_before : before ≤ j - 1
   few_before = let most = before_most (item_of of.program) (has_whole of lines) (j - 1) in omega (arith, most, are)
 
@@ -31,11 +32,11 @@ module _ (of : Entries) (lines : List MapLine) (j before : ℕ) (are : before �
       is ∙ ap (members_after (item_of of.program (j - 1)).kind (has_whole of lines (j - 1))) are
       ∙ sym (one_on (item_of of.program) (has_whole of lines) (j - 1)) ∙ ap (stores_before of lines) next
 
-pub none_at_first : (of : Entries) (lines : List MapLine) → 0 ≡ stores_before of lines (0 - 1)
+pub none_at_first : (of : Entered) (lines : List MapLine) → 0 ≡ stores_before of lines (0 - 1)
 none_at_first of lines = none_first (item_of of.program) (has_whole of lines) (0 - 1) (omega arith)
 
 -- where no line is wrong so far the one before stands for a place
-pub place_there : (form : Form) (of : Entries) (lines : List MapLine) (j : ℕ) → first_below (is_wrong form of lines) j ≡ None → j ≤ length lines → 0 < j →
+pub place_there : (form : Form) (of : Entered) (lines : List MapLine) (j : ℕ) → first_below (is_wrong form of lines) j ≡ None → j ≤ length lines → 0 < j →
     j - 1 < count of.program
 place_there form of lines j none within some =
     let right = first_none (is_wrong form of lines) j (j - 1) none (omega arith) in

@@ -4,6 +4,7 @@ use Rattle.cfi_map_text.specs.Map.{MapParts}
 use Rattle.obj_program.specs.Program.{Program}
 use Rattle.obj_program.specs.Range.{out_of_range}
 use Rattle.cfi_closed.specs.Closed.{ClosedGraph}
+use Rattle.cfi_leads.specs.Entered.{entered_at}
 use Rattle.cfi_map.specs.LegalMap.{IsLegalMap, gates_of}
 use Rattle.cfi_map.specs.Placement.{words_from}
 use Rattle.cfi_map.specs.MapFault.{IsWrongLine}
@@ -18,7 +19,7 @@ use Rattle.src_machine.specs.declared.source_fault.SourceFault.TheVariants.{BadM
 -- a run of a program that is entered at a place, at a map
 pub record IsBegun (program : Program) (closed : ClosedGraph) (entry : ℕ) (map : MapParts) (input : List ℕ) (run : SourceParts) : Type 0 where
   pub legal : IsLegalMap program closed entry map
-  pub in_range : out_of_range program (gates_of map.lines) (words_from closed.sides 0 (gates_of map.lines)) ≡ None
+  pub in_range : out_of_range program (gates_of map.lines) (words_from (entered_at program closed entry) 0 (gates_of map.lines)) ≡ None
   pub layout : run.layout ≡ program_at map.form program closed (gates_of map.lines) entry
   pub state : source_of run ≡ source_start run.layout input
   pub steps : run.steps ≡ 0
@@ -28,5 +29,5 @@ abbrev pub Ends : Program → ClosedGraph → ℕ → MapParts → End SourceFau
 Ends program closed entry map (Fault (BadMap number)) = IsWrongLine program closed entry map number
 Ends program closed entry map (Fault (RelocRange section offset)) =
     IsLegalMap program closed entry map
-    × (out_of_range program (gates_of map.lines) (words_from closed.sides 0 (gates_of map.lines)) ≡ Some (record { section = section; offset = offset }))
+    × (out_of_range program (gates_of map.lines) (words_from (entered_at program closed entry) 0 (gates_of map.lines)) ≡ Some (record { section = section; offset = offset }))
 Ends program closed entry map NoMemory = Unit {0}

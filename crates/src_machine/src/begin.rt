@@ -20,6 +20,7 @@ use crate::run::SourceRun;
 use crate::source_fault::SourceFault;
 use crate::state::State;
 use cfi_closed::Closed;
+use cfi_leads::Leads;
 use cfi_map::Mapped;
 use cfi_map_text::{Map, MapLine};
 use obj_input::ItemKind;
@@ -64,34 +65,32 @@ fn code(alloc: Global, mapped: &Mapped) -> Result<Vec<u32>, NoMemory>
 /// A program at a legal map, with the place where it is entered.
 fn mapped<'a, 'b>(
     alloc: Global,
-    items: &'a Items<'b>,
-    closed: &'a Closed,
+    leads: Leads<'a, 'b>,
     map: &Map,
-    entry: u64,
 ) -> Result<Mapped<'a, 'b>, NoMemory>
-    requires version { closed.now.version ≡ graph_version map.now.form }
-    requires legal { IsLegalMap items.now closed.now entry map.now }
-    requires entry { entry < count items.now }
-    ensures { IfOk result (λ m. m ≡ program_at map.now.form items.now closed.now (gates_of map.now.lines) entry) }
+    requires version { leads.closed.version ≡ graph_version map.now.form }
+    requires legal { IsLegalMap leads.program leads.closed leads.entry map.now }
+    requires entry { leads.entry < count leads.program }
+    ensures { IfOk result (λ m. m ≡ program_at map.now.form leads.entry.program leads.entry.closed (gates_of map.now.lines) leads.entry.entry) }
 {
     let gates = gates(alloc, map.as_slice())?;
-    Mapped::of(alloc, map.form(), items, closed, gates, entry)
+    Mapped::of(alloc, map.form(), leads, gates)
 }
 
 /// The same with the words of its instructions.
 fn placed<'a, 'b>(
     alloc: Global,
-    items: &'a Items<'b>,
-    closed: &'a Closed,
+    leads: Leads<'a, 'b>,
     map: &Map,
-    entry: u64,
 ) -> Result<Placed<'a, 'b>, End<SourceFault>>
-    requires version { closed.now.version ≡ graph_version map.now.form }
-    requires legal { IsLegalMap items.now closed.now entry map.now }
-    requires entry { entry < count items.now }
-    ensures { MatchResult result (λ p. AreAt items.now closed.now map.now entry p) (λ e. Ends items.now closed.now entry map.now e) }
+    requires version { leads.closed.version ≡ graph_version map.now.form }
+    requires legal { IsLegalMap leads.program leads.closed leads.entry map.now }
+    requires entry { leads.entry < count leads.program }
+    ensures { MatchResult result
+        (λ p. AreAt leads.entry.program leads.entry.closed map.now leads.entry.entry p)
+        (λ e. Ends leads.entry.program leads.entry.closed leads.entry.entry map.now e) }
 {
-    let mapped = mapped(alloc, items, closed, map, entry)?;
+    let mapped = mapped(alloc, leads, map)?;
     if let Some(place) = mapped.out_of_range() {
         return Err(End::Fault(SourceFault::RelocRange(place.section, place.offset)));
     }
@@ -139,8 +138,9 @@ impl<'a, 'b> SourceRun<'a, 'b> {
             (λ e. Ends items.now closed.now place map.now e) }
     {
         let entry = place_of(items, entry.0, entry.1);
-        check_map(alloc, items, closed, map, entry)?;
-        let placed = placed(alloc, items, closed, map, entry)?;
+        let leads = Leads::of(alloc, items, closed, entry)?;
+        check_map(alloc, &leads, map)?;
+        let placed = placed(alloc, leads, map)?;
         let state = start(alloc, &placed, input)?;
         Ok(SourceRun {
             placed,

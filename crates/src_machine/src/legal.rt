@@ -9,11 +9,11 @@ ghost use Rattle.src_machine.specs.Beginning.{Ends};
 ghost use Rattle.src_machine.specs.MapLine.{follows_at, has_whole, is_named, is_past_whole, is_wrong, may_be_short, stands, stores_before};
 
 use crate::source_fault::SourceFault;
-use cfi_closed::Closed;
-use cfi_map::{Grouping, lead_size, unit_size};
+use cfi_leads::Leads;
+use cfi_map::{Grouping, unit_size};
 use cfi_map_text::{Map, MapLine};
 use obj_input::ItemKind;
-use obj_program::{Item, Items};
+use obj_program::Item;
 use rv_word::{End, Form};
 use std::alloc::Global;
 
@@ -25,14 +25,11 @@ fn is_behind(address: u64, next: u64, bytes: u32) -> bool
 }
 
 /// Whether a gate stands behind the unit of the place `k`, where that has its whole size.
-fn is_past_whole(closed: &Closed, item: &Item, k: u64, gate: u64, next: u64) -> bool
-    ensures { result ≡ is_past_whole closed.now item.now k gate next }
+fn is_past_whole(leads: &Leads, item: &Item, k: u64, gate: u64, next: u64) -> bool
+    requires { k < count leads.now.program }
+    ensures { result ≡ is_past_whole leads.now item.now k gate next }
 {
-    is_behind(
-        gate,
-        next,
-        lead_size(closed, k) + unit_size(closed, item, true),
-    )
+    is_behind(gate, next, leads.size(k) + unit_size(leads, k, item, true))
 }
 
 /// Whether the unit of the place `k` has its whole size, by the gates; that of the last line has it.
@@ -44,10 +41,10 @@ fn has_whole(grouping: &Grouping, lines: &[MapLine], k: u64) -> bool
     if lines.len() as u64 <= k + 1 {
         return true;
     }
-    let item = grouping.items().item(k);
+    let leads = grouping.leads();
     let gate = lines[k as usize].gate;
     let next = lines[k as usize + 1].gate;
-    is_past_whole(grouping.closed(), &item, k, gate, next)
+    is_past_whole(leads, &leads.item(k), k, gate, next)
 }
 
 /// How many stores the group has that ends with the place `k`, where so many end right before it.
@@ -57,7 +54,7 @@ fn members_past(grouping: &Grouping, lines: &[MapLine], k: u64, before: u64) -> 
     requires inside { before ≤ k }
     ensures { result ≡ members_after (item_of grouping.now.program k).kind (has_whole grouping.now lines.now k) before }
 {
-    match grouping.items().item(k).kind {
+    match grouping.leads().item(k).kind {
         ItemKind::Store => {
             if has_whole(grouping, lines, k) {
                 1
@@ -102,15 +99,15 @@ fn follows_at(grouping: &Grouping, lines: &[MapLine], k: u64, before: u64) -> bo
     requires inside { before ≤ k }
     ensures { result ≡ follows_at grouping.now lines.now k before }
 {
-    let closed = grouping.closed();
-    let item = grouping.items().item(k);
+    let leads = grouping.leads();
+    let item = leads.item(k);
     let gate = lines[k as usize].gate;
     let next = lines[k as usize + 1].gate;
-    is_past_whole(closed, &item, k, gate, next)
+    is_past_whole(leads, &item, k, gate, next)
         || is_behind(
             gate,
             next,
-            lead_size(closed, k) + unit_size(closed, &item, false),
+            leads.size(k) + unit_size(leads, k, &item, false),
         ) && may_be_short(grouping, item.kind, k, before)
 }
 
@@ -135,7 +132,7 @@ fn is_named(grouping: &Grouping, lines: &[MapLine], j: u64) -> bool
     ensures { result ≡ is_named grouping.now lines.now j }
 {
     let line = lines[j as usize];
-    grouping.items().item(j).is_at(line.section, line.offset)
+    grouping.leads().item(j).is_at(line.section, line.offset)
 }
 
 /// Whether a line is wrong; past the last one, whether lines are missing.
@@ -144,7 +141,7 @@ fn is_wrong(form: Form, grouping: &Grouping, lines: &[MapLine], j: u64, before: 
     requires before { before ≡ stores_before grouping.now lines.now (j - 1) }
     ensures { result ≡ is_wrong form grouping.now lines.now j }
 {
-    let count = grouping.items().count();
+    let count = grouping.leads().count();
     if j < lines.len() as u64 {
         !(j < count && is_named(grouping, lines, j) && stands(form, grouping, lines, j, before))
     } else {
@@ -168,16 +165,12 @@ fn first_wrong(form: Form, grouping: &Grouping, lines: &[MapLine]) -> Option<u64
 }
 
 /// Refuses a map that is no legal placement's by the number of its first wrong line; by that of its line `end` where lines are missing.
-pub(crate) fn check_map<'a, 'b>(
-    alloc: Global,
-    items: &'a Items<'b>,
-    closed: &'a Closed,
-    map: &Map,
-    entry: u64,
-) -> Result<(), End<SourceFault>>
-    ensures { MatchResult result (λ done. IsLegalMap items.now closed.now entry map.now) (λ e. Ends items.now closed.now entry map.now e) }
+pub(crate) fn check_map(alloc: Global, leads: &Leads, map: &Map) -> Result<(), End<SourceFault>>
+    ensures { MatchResult result
+        (λ done. IsLegalMap leads.now.program leads.now.closed leads.now.entry map.now)
+        (λ e. Ends leads.now.program leads.now.closed leads.now.entry map.now e) }
 {
-    let grouping = Grouping::of(alloc, items, closed, entry)?;
+    let grouping = Grouping::of(alloc, leads)?;
     match first_wrong(map.form(), &grouping, map.as_slice()) {
         Some(j) => Err(End::Fault(SourceFault::BadMap(j + 2))),
         None => Ok(()),

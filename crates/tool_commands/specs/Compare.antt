@@ -18,14 +18,13 @@ use Rattle.cfi_map_text.specs.Map.{MapParts}
 use Rattle.cfi_map_text.specs.MapText.{map_of}
 use Rattle.cfi_map.specs.LegalMap.{IsLegalMap, gates_of}
 use Rattle.cfi_map.specs.MapFault.{IsWrongLine}
-use Rattle.cfi_map.specs.Placement.{words_from}
 use Rattle.cfi_harden.specs.Given.{Given}
 use Rattle.cfi_harden.specs.Room.{HasDataRoom}
 use Rattle.cfi_harden.specs.Prepared.{IsPrepared, PreparedParts}
 use Rattle.cfi_harden.specs.Refused.{Refuses}
 use Rattle.cfi_harden.specs.Request as asks
 use Rattle.cfi_map.specs.Source.{source_start}
-use Rattle.cfi_map.specs.GraphAtMap.{ProgramAtMap, program_at}
+use Rattle.cfi_map.specs.GraphAtMap.{ProgramAtMap, program_at, words_at}
 use Rattle.src_machine.specs.Running.{SourceParts, source_of}
 use Rattle.cfi_meaning.specs.Compared.{compared}
 use Rattle.cfi_compare.specs.Text.{answer_text}
@@ -102,7 +101,7 @@ at_map p m = program_at m.form p.program p.closed (gates_of m.lines) p.entry
 
 -- where a value first leaves its range at the map
 abbrev pub first_out : PreparedParts → MapParts → Option found.Place
-first_out p m = out_of_range p.program (gates_of m.lines) (words_from p.closed.sides 0 (gates_of m.lines))
+first_out p m = out_of_range p.program (gates_of m.lines) (words_at (at_map p m))
 
 -- a program that can be run, as far as the map is one
 pub record IsRunnable (request : asks.Request) (p : PreparedParts) (map : List ℕ) : Type 0 where
