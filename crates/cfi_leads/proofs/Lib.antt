@@ -1,3 +1,4 @@
+mod Rows
 mod Tables
 pub mod Called
 mod Spoiling
