@@ -1,6 +1,5 @@
 -- What is left of objects of which no name is defined twice, and what one object whose names all differ comes to: what it is by itself.
-use Rattle.std.proofs.Common.{◌≡◌, ℕ, List, [], ◌∷◌, Option, Some, None, option_map, Result, Ok, Err, refl, subst}
-use Rattle.std.specs.Option.{option_or}
+use Rattle.std.proofs.Common.{◌≡◌, ℕ, List, [], ◌∷◌, None, option_map, Result, Ok, Err, refl, subst}
 use Rattle.rv_word.proofs.Cases.{unmapped}
 use Rattle.obj_input.specs.Input.{InputParts}
 use Rattle.obj_program.specs.Program.{Program}
@@ -14,7 +13,6 @@ use Rattle.obj_items.specs.FromObject.{input_of}
 use Rattle.rv_word.specs.declared.end.End.{End}
 use Rattle.rv_word.specs.declared.end.End.TheVariants.{Fault, NoMemory}
 use Rattle.refusals.specs.declared.refusal.Refusal.{Refusal}
-use Rattle.refusals.specs.declared.refusal.Refusal.TheVariants.{Duplicate}
 use Rattle.obj_items.specs.Finished.{IsFinished, Tells, input_by, refusal_in, unfinished}
 
 -- no name is defined twice
