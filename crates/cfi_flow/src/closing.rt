@@ -1,6 +1,5 @@
 ghost use Rattle.std.specs.Prelude.{◌≡◌, ◌<◌, IfOk, length, map};
 ghost use Rattle.std.specs.List.{All};
-ghost use Rattle.rv_word.specs.Form.{graph_version};
 ghost use Rattle.cfi_closed.specs.declared.side.Site.{Site};
 ghost use Rattle.cfi_closed.specs.Closed as closed;
 ghost use Rattle.cfi_closed.specs.Closed.{IsSideInside, sorts_of};
@@ -12,7 +11,7 @@ use crate::raw::Raw;
 use cfi_class::{Entry, blank, note, table_of};
 use cfi_closed::{Closed, Side, Site, sorts_of};
 use cfi_graph::Sort;
-use rv_word::{Form, GraphVersion, NoMemory};
+use rv_word::{GraphVersion, NoMemory};
 use std::alloc::Global;
 
 /// The table of the sites that stand at the places.
@@ -71,11 +70,10 @@ fn close_sides(alloc: Global, version: GraphVersion, raw: &Raw) -> Result<Vec<Si
     Ok(sides)
 }
 
-/// The closed graph for a form of hardening. Each side is closed by its own sites alone.
-pub fn close(alloc: Global, form: Form, raw: &Raw) -> Result<Closed, NoMemory>
-    ensures { IfOk result (λ c. IsClosed (graph_version form) raw.now c) }
+/// The closed graph for a version of graphs. Each side is closed by its own sites alone.
+pub fn close(alloc: Global, version: GraphVersion, raw: &Raw) -> Result<Closed, NoMemory>
+    ensures { IfOk result (λ c. IsClosed version raw.now c) }
 {
-    let version = form.graph_version();
     let sides = close_sides(alloc, version, raw)?;
     let taken = Vec::from_slice(alloc, raw.marks())?;
     Ok(Closed::of(version, sides, taken, raw.calls()))

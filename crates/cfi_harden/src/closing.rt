@@ -57,5 +57,5 @@ pub(crate) fn closed_under(
     if let Some(number) = failed_line(&end) {
         return Err(End::Fault(Refusal::Policy(number)));
     }
-    Ok(close(alloc, form, &raw)?)
+    Ok(close(alloc, form.graph_version(), &raw)?)
 }

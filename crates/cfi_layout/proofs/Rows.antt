@@ -4,7 +4,7 @@ use Rattle.cfi_layout.specs.declared.short.Short.{Short}
 use Rattle.cfi_layout.specs.Starts.{starts_from, code_size}
 use Rattle.cfi_layout.specs.LongSet.{sizes_where, starts_under, is_in_reach, is_forced}
 
--- three parts: a unit of one word, one with a gate word and two words, one of three words
+-- three parts: a unit of one word, one with a lead of one word and two words, one of three words
 starts_row : (starts_from 0x40000040 (4 ∷ 12 ∷ 12 ∷ []) ≡ 0x40000040 ∷ 0x40000044 ∷ 0x40000050 ∷ 0x4000005c ∷ [])
     × (code_size 0x40000040 (4 ∷ 12 ∷ 12 ∷ []) ≡ 92) × (starts_from 0x40000040 [] ≡ 0x40000040 ∷ []) × (code_size 0x40000040 [] ≡ 64)
 unfolding starts_from
@@ -16,7 +16,7 @@ ahead lead = record { at = 0; target = 1; lead = lead; keep = false }
 behind : ℕ → Short
 behind lead = record { at = 1; target = 0; lead = lead; keep = false }
 
--- the last distance that reaches and the first that does not, ahead and behind, from the branch's word and not from its gate word
+-- the last distance that reaches and the first that does not, ahead and behind, from the branch's word and not from its lead
 reach_rows : (is_in_reach (0 ∷ 4092 ∷ []) (ahead 0) ≡ true) × (is_in_reach (0 ∷ 4096 ∷ []) (ahead 0) ≡ false)
     × (is_in_reach (0 ∷ 4096 ∷ []) (ahead 4) ≡ true) × (is_in_reach (0 ∷ 4100 ∷ []) (ahead 4) ≡ false)
     × (is_in_reach (0 ∷ 4096 ∷ []) (behind 0) ≡ true) × (is_in_reach (0 ∷ 4100 ∷ []) (behind 0) ≡ false)

@@ -25,7 +25,7 @@ sizes_under long branches sizes = sizes_where (is_whole branches long) 0 sizes
 abbrev pub starts_under : ℕ → (ℕ → Bool) → List Short → List ℕ → List ℕ
 starts_under from long branches sizes = starts_from from (sizes_under long branches sizes)
 
--- the address of a branch's word, after the gate word of its part
+-- the address of a branch's word, behind the lead of its part
 abbrev pub word : List ℕ → Short → ℕ
 word starts b = slice_index starts b.at + b.lead
 
@@ -52,8 +52,8 @@ pub record IsLongSet (from : ℕ) (branches : List Short) (sizes : List ℕ) (lo
   pub closed : HoldsAllForced from branches sizes long
   pub least : (other : ℕ → Bool) → HoldsAllForced from branches sizes other → IsWithin branches long other
 
--- what is asked of a branch: its part and its target's are there, and long it has two words after the
--- gate word
+-- what is asked of a branch: its part and its target's are there, and long it has two words behind the
+-- lead
 pub record IsShort (sizes : List ℕ) (b : Short) : Type 0 where
   pub at_is : b.at < length sizes
   pub target_is : b.target < length sizes

@@ -1,5 +1,5 @@
 -- Where parts of a hardened program's code stand: one after another, from the address after the
--- prologue, `from`. A part is what is placed as one: a gate word, if there is one, and a unit.
+-- prologue, `from`. A part is what is placed as one: the words of its lead, if there are any, and a unit.
 use Rattle.std.specs.Prelude.{ℕ, ◌+◌, ◌-◌, Bool, true, List, [], ◌∷◌, sum}
 use Rattle.std.specs.List.{slice_index_or}
 use Rattle.rv_word.specs.MemoryMap.{CODE_START}

@@ -11,7 +11,7 @@ use rv_word::{End, Form};
 use std::alloc::Global;
 use std::marker::Model;
 
-/// Where parts stand, by their number from 0: a part is a gate word, if there is one, and a unit.
+/// Where parts stand, by their number from 0: a part is the words of a lead, if there are any, and a unit.
 #[derive(Drop)]
 pub struct Placement {
     pub(crate) starts: Vec<u64>,

@@ -8,7 +8,7 @@ pub struct Short {
     pub at: u32,
     /// The number of its target's part.
     pub target: u32,
-    /// How many bytes of gate words stand before it in its part.
+    /// How many bytes the words of its lead have, before it in its part.
     pub lead: u32,
     /// Whether it is to be long wherever it stands.
     pub keep: bool,

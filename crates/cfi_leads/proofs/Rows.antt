@@ -1,5 +1,4 @@
--- Worked rows: which functions of small programs are leaves, and how many bytes their leads have. All but one have one section, whose first
--- place is the entry.
+-- Worked rows: which functions of small programs are leaves, and how many bytes their leads have. Each is entered at its first place.
 use Rattle.std.proofs.Common.{◌≡◌, ℕ, true, false, List, [], ◌∷◌, Option, Some, None, refl}
 use Rattle.rv_word.specs.declared.version.GraphVersion.{GraphVersion}
 use Rattle.rv_word.specs.declared.version.GraphVersion.TheVariants.{OneLabel, TwoLabels, CalleeSaves}

@@ -1,4 +1,4 @@
--- Tables of what holds of each place. Only models and private contracts cite this.
+-- Tables of what holds of each place. Models, private contracts and `mark` cite this.
 use Rattle.std.specs.Prelude.{◌≡◌, ℕ, ◌+◌, ◌<◌, nat_lt, ◌&&◌, Bool, true, false, not, ◌==◌, Option, Some, None, List, length, set, slice_index_or}
 use Rattle.obj_program.specs.Program.{count, item_of}
 use Rattle.cfi_graph.specs.Graph.{has_leaves}

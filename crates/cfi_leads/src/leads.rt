@@ -39,8 +39,8 @@ impl<'a, 'b> Model for Leads<'a, 'b> {
     ghost invariant = { λ l. AreLean (entered_at l.items.now l.closed.now l.entry) l.entered.items l.inside.items };
 }
 
-/// One or none.
-fn one_if(there: bool, words: u32) -> u32
+/// So many words, or none.
+fn words_if(there: bool, words: u32) -> u32
     ensures { result ≡ if there then words else 0 }
 {
     if there { words } else { 0 }
@@ -173,9 +173,9 @@ impl<'a, 'b> Leads<'a, 'b> {
         ensures value { result ≡ words_of_entry self.now k }
         ensures few { result ≤ 8 }
     {
-        one_if(self.closed.is_target(k), 1)
-            + one_if(self.enters(k), 6)
-            + one_if(is_call_target(self.closed, k), 1)
+        words_if(self.closed.is_target(k), 1)
+            + words_if(self.enters(k), 6)
+            + words_if(is_call_target(self.closed, k), 1)
     }
 
     /// How many words it has.

@@ -6,7 +6,7 @@ use Rattle.std.proofs.lemmas.List.{get_or_append_left, get_or_past, get_or_push,
 use Rattle.obj_program.specs.declared.item.Item.{Item}
 use Rattle.obj_program.specs.Program.{Program, count, item_of, no_item}
 use Rattle.cfi_leads.specs.Entered.{Entered}
-use Rattle.cfi_map.specs.Groups.{AreGreedy, AreGreedyTo, AreGroups, AreLeads, Bounds, bounds_in, is_store, joins_in, may_join, members_after, members_before}
+use Rattle.cfi_map.specs.Groups.{AreGreedy, AreGreedyTo, AreGroups, AreFirstStores, Bounds, bounds_in, is_store, joins_in, may_join, members_after, members_before}
 use Rattle.cfi_map.specs.Placement.{whole_at}
 use Rattle.cfi_map.proofs.GroupFacts.{later_parts}
 
@@ -53,23 +53,23 @@ before_most items whole (suc k) =
     (λ e. omega arith)
 
 -- while a loop makes the flags
-pub record AreLeadsTo (of : Entered) (k : ℕ) (flags : List Bool) (before : ℕ) : Type 0 where
+pub record AreFirstStoresTo (of : Entered) (k : ℕ) (flags : List Bool) (before : ℕ) : Type 0 where
   pub size : length flags ≡ k
   pub greedy : AreGreedyTo (item_of of.program) (bounds_in of) (whole_at flags) k
   pub before_is : before ≡ members_before (item_of of.program) (whole_at flags) k
 
-pub leads_begin : (of : Entered) (flags : List Bool) → flags ≡ [] → AreLeadsTo of 0 flags 0
+pub firsts_begin : (of : Entered) (flags : List Bool) → flags ≡ [] → AreFirstStoresTo of 0 flags 0
 unfolding members_before
-leads_begin of flags is = record { size = ap length is; greedy = λ k below store. absurd (omega arith); before_is = refl }
+firsts_begin of flags is = record { size = ap length is; greedy = λ k below store. absurd (omega arith); before_is = refl }
 
 members_step : (items : ℕ → Item) (whole : ℕ → Bool) (k : ℕ) → members_before items whole (suc k) ≡ members_after (items k).kind (whole k) (members_before items whole k)
 unfolding members_before
 members_step items whole k = refl
 
 module _ (of : Entered) (k : ℕ) (flags more : List Bool) (before after : ℕ) (lead : Bool) where
-  pub leads_more : AreLeadsTo of k flags before → lead ≡ not (joins_in of k before) → more ≡ flags ++ lead ∷ [] →
-      after ≡ members_after (item_of of.program k).kind lead before → AreLeadsTo of (k + 1) more after
-  leads_more so_far is grown counted =
+  pub firsts_more : AreFirstStoresTo of k flags before → lead ≡ not (joins_in of k before) → more ≡ flags ++ lead ∷ [] →
+      after ≡ members_after (item_of of.program k).kind lead before → AreFirstStoresTo of (k + 1) more after
+  firsts_more so_far is grown counted =
       let here : whole_at more k ≡ lead = ap (λ (l : List Bool). whole_at l k) grown ∙ get_or_push flags lead true k so_far.size in
       let same : (j : ℕ) → j < k → whole_at more j ≡ whole_at flags j =
       λ j below. ap (λ (l : List Bool). whole_at l j) grown ∙ get_or_append_left flags (lead ∷ []) true j (let size = so_far.size in omega arith) in
@@ -98,5 +98,5 @@ past_store program k store = elim (cases_lt k (count program)) [
       absurd (cc)
 ]
 
-pub leads_end : (of : Entered) (k : ℕ) (flags : List Bool) (before : ℕ) → count of.program ≤ k → AreLeadsTo of k flags before → AreLeads of flags
-leads_end of k flags before all is j store = let below = past_store of.program j store in is.greedy j (omega arith) store
+pub firsts_end : (of : Entered) (k : ℕ) (flags : List Bool) (before : ℕ) → count of.program ≤ k → AreFirstStoresTo of k flags before → AreFirstStores of flags
+firsts_end of k flags before all is j store = let below = past_store of.program j store in is.greedy j (omega arith) store

@@ -149,9 +149,9 @@ pub none_size : (form : Form) (of : Entered) (slice sizes : List ℕ) (bytes : �
 none_size form of slice sizes bytes counted same is =
     counted ∙ ap (code_size (profile_for form).units_from) (none_parts of slice sizes same is)
 
-pub grouped_room : (form : Form) (of : Entered) (leads : List Bool) (slice sizes : List ℕ) →
-    whole_size form of ≤ CODE_SIZE → slice ≡ sizes → sizes ≡ grouped_parts of leads → code_size (profile_for form).units_from slice ≤ CODE_SIZE
-grouped_room form of leads slice sizes room same is =
+pub grouped_room : (form : Form) (of : Entered) (firsts : List Bool) (slice sizes : List ℕ) →
+    whole_size form of ≤ CODE_SIZE → slice ≡ sizes → sizes ≡ grouped_parts of firsts → code_size (profile_for form).units_from slice ≤ CODE_SIZE
+grouped_room form of firsts slice sizes room same is =
     let bytes = ap (code_size (profile_for form).units_from) (same ∙ is) in
-    let shorter = code_shorter form of leads in
+    let shorter = code_shorter form of firsts in
     omega (arith, bytes, shorter, room)

@@ -14,5 +14,6 @@ mod Shortened
 mod Placements
 mod PlacingRows
 mod GroupRows
+mod LeanRows
 mod SourceRows
 pub mod Ecalls

@@ -24,7 +24,7 @@ use Rattle.cfi_layout.specs.LongSet.{is_branch as is_part}
 use Rattle.cfi_layout.specs.Starts.{Placed, code_size, flag, starts_from}
 use Rattle.cfi_layout.proofs.Offsets.{length_starts, length_where, start_most, sum_where}
 use Rattle.cfi_leads.specs.Entered.{Entered}
-use Rattle.cfi_map.specs.Groups.{AreLeads, is_store, joins_in, members_before}
+use Rattle.cfi_map.specs.Groups.{AreFirstStores, is_store, joins_in, members_before}
 use Rattle.cfi_map.specs.Placement.{AreGates, whole_at}
 use Rattle.cfi_map.specs.Placing.{IsPlacement, IsPlacementOf, IsShortened, joined}
 use Rattle.cfi_map.specs.Shorts.{shorts_of, IsShortAt, is_branch}
@@ -74,33 +74,33 @@ stores_same items whole other (suc k) same = elim (cases_Bool (is_store (items k
   | inr none ↦ rw none refl
 ]
 
-leads_same : (of : Entered) (leads whole : List Bool) → ((k : ℕ) → is_store (item_of of.program k).kind ≡ true → whole_at leads k ≡ whole_at whole k) →
-    AreLeads of leads → AreLeads of whole
-leads_same of leads whole same are k store =
+firsts_same : (of : Entered) (firsts whole : List Bool) → ((k : ℕ) → is_store (item_of of.program k).kind ≡ true → whole_at firsts k ≡ whole_at whole k) →
+    AreFirstStores of firsts → AreFirstStores of whole
+firsts_same of firsts whole same are k store =
     sym (same k store) ∙ are k store
-    ∙ ap (λ (n : ℕ). not (joins_in of k n)) (stores_same (item_of of.program) (whole_at leads) (whole_at whole) k same)
+    ∙ ap (λ (n : ℕ). not (joins_in of k n)) (stores_same (item_of of.program) (whole_at firsts) (whole_at whole) k same)
 
 no_store : (kind : ItemKind) → is_branch kind ≡ true → is_store kind ≡ false
 no_store is.Branch branch = refl
 no_store other branch = absurd (cc)
 
-module _ (form : Form) (of : Entered) (leads : List Bool) (p : Placed) (is : IsShortened form of leads p) where
+module _ (form : Form) (of : Entered) (firsts : List Bool) (p : Placed) (is : IsShortened form of firsts p) where
   -- there is a start for each place, and the end
   pub starts_many : length p.starts ≡ count of.program + 1
   starts_many =
       ap length is.starts
-      ∙ length_starts (profile_for form).units_from (sizes_under (flag p.long) (shorts_of of) (grouped_parts of leads))
+      ∙ length_starts (profile_for form).units_from (sizes_under (flag p.long) (shorts_of of) (grouped_parts of firsts))
       ∙ ap (λ (n : ℕ). n + 1)
-      (length_where (is_whole (shorts_of of) (flag p.long)) 0 (grouped_parts of leads) ∙ length_grouped of leads 0 of.program.items)
+      (length_where (is_whole (shorts_of of) (flag p.long)) 0 (grouped_parts of firsts) ∙ length_grouped of firsts 0 of.program.items)
 
   -- all of them in the region of code
   low : (k : ℕ) → get_or p.starts k 0 < 2 ^ 32
   low k =
       let laid = laid_out (profile_for form) (is_profile (image_version form)) in
       let at = ap (λ (xs : List ℕ). get_or xs k 0) is.starts in
-      let most = start_most (profile_for form).units_from (sizes_under (flag p.long) (shorts_of of) (grouped_parts of leads)) k in
-      let less = sum_where (is_whole (shorts_of of) (flag p.long)) 0 (grouped_parts of leads) in
-      let fewer = grouped_less of leads in
+      let most = start_most (profile_for form).units_from (sizes_under (flag p.long) (shorts_of of) (grouped_parts of firsts)) k in
+      let less = sum_where (is_whole (shorts_of of) (flag p.long)) 0 (grouped_parts of firsts) in
+      let fewer = grouped_less of firsts in
       omega (arith, laid.low, at, most, less, fewer, is.room)
 
   pub gates_low : (k : ℕ) → get_or (take (count of.program) p.starts) k 0 < 2 ^ 32
@@ -121,8 +121,8 @@ module _ (form : Form) (of : Entered) (leads : List Bool) (p : Placed) (is : IsS
   pub gates_many : length (take (count of.program) p.starts) ≡ count of.program
   gates_many = length-take-le (count of.program) p.starts (omega (arith, starts_many))
 
-  module _ (sound : IsSound of.program) (whole : List Bool) (same : (k : ℕ) → whole_at whole k ≡ joined of.program leads p.long k) where
-    at_store : (k : ℕ) → is_store (item_of of.program k).kind ≡ true → whole_at leads k ≡ whole_at whole k
+  module _ (sound : IsSound of.program) (whole : List Bool) (same : (k : ℕ) → whole_at whole k ≡ joined of.program firsts p.long k) where
+    at_store : (k : ℕ) → is_store (item_of of.program k).kind ≡ true → whole_at firsts k ≡ whole_at whole k
     at_store k store = let here = same k in sym (rw store at here)
 
     at_branch : (k : ℕ) → is_part (shorts_of of) k ≡ true → flag p.long k ≡ whole_at whole k
@@ -133,18 +133,18 @@ module _ (form : Form) (of : Entered) (leads : List Bool) (p : Placed) (is : IsS
         let here = same k in
         sym (rw none at here)
 
-    grouped : grouped_parts of leads ≡ grouped_parts of whole
-    grouped = grouped_same of leads whole 0 of.program.items (λ i lt store. let e : 0 + i ≡ i = omega arith in rw e (at_store i store))
+    grouped : grouped_parts of firsts ≡ grouped_parts of whole
+    grouped = grouped_same of firsts whole 0 of.program.items (λ i lt store. let e : 0 + i ≡ i = omega arith in rw e (at_store i store))
 
     least : IsLongSet (profile_for form).units_from (shorts_of of) (grouped_parts of whole) (whole_at whole)
     least =
         subst (λ (sizes : List ℕ). IsLongSet (profile_for form).units_from (shorts_of of) sizes (whole_at whole)) grouped
-        (long_set_same (profile_for form).units_from (shorts_of of) (grouped_parts of leads) (flag p.long) (whole_at whole) at_branch is.least)
+        (long_set_same (profile_for form).units_from (shorts_of of) (grouped_parts of firsts) (flag p.long) (whole_at whole) at_branch is.least)
 
     starts : p.starts ≡ starts_from (profile_for form).units_from (part_sizes of whole 0 of.program.items)
     starts =
         is.starts
-        ∙ ap (λ (f : ℕ → Bool). starts_from (profile_for form).units_from (sizes_where f 0 (grouped_parts of leads)))
+        ∙ ap (λ (f : ℕ → Bool). starts_from (profile_for form).units_from (sizes_where f 0 (grouped_parts of firsts)))
         (sets_same (shorts_of of) (flag p.long) (whole_at whole) at_branch)
         ∙ ap (starts_under (profile_for form).units_from (whole_at whole) (shorts_of of)) grouped
         ∙ starts_are form of whole sound
@@ -164,14 +164,14 @@ module _ (form : Form) (of : Entered) (leads : List Bool) (p : Placed) (is : IsS
     pub starts_rise : IsStrictlyIncreasing (take (count of.program) p.starts)
     starts_rise = gates_rise of whole 0 (profile_for form).units_from of.program.items (take (count of.program) p.starts) legal
 
-    module _ (are : AreLeads of leads) where
+    module _ (are : AreFirstStores of firsts) where
       at_starts : IsPlacement form (record { layout = program_at form of.program of.closed (take (count of.program) p.starts) of.entry; whole = whole })
       at_starts = record {
         sound = sound;
         room = is.room;
         size = size;
         legal = legal;
-        groups = leads_same of leads whole at_store are;
+        groups = firsts_same of firsts whole at_store are;
         shorter = code_shorter form of whole;
         shorts = λ k target lt branch short aim.
             subst (λ (xs : List ℕ). IsShortAt (program_at form of.program of.closed (take (count of.program) xs) of.entry) k target) (sym starts)
@@ -189,9 +189,9 @@ module _ (form : Form) (of : Entered) (leads : List Bool) (p : Placed) (is : IsS
       }
 
 -- a place whose unit has not its whole size is there
-pub joined_within : (program : Program) (leads long : List Bool) → ((k : ℕ) → flag long k ≡ false → k < count program) →
-    (k : ℕ) → joined program leads long k ≡ false → k < count program
-joined_within program leads long within k short = elim (cases_Bool (is_store (item_of program k).kind)) [
+pub joined_within : (program : Program) (firsts long : List Bool) → ((k : ℕ) → flag long k ≡ false → k < count program) →
+    (k : ℕ) → joined program firsts long k ≡ false → k < count program
+joined_within program firsts long within k short = elim (cases_Bool (is_store (item_of program k).kind)) [
   | inl store ↦ past_store program k store
   | inr none ↦ within k (rw none at short)
 ]

@@ -52,9 +52,9 @@ branch_size TwoLabels calls inside item whole yes_branch = branch_kind calls ite
 branch_size CalleeSaves calls inside item whole yes_branch = branch_lean calls item.kind (is_ecall item) (is_short item) inside whole yes_branch
 
 -- the branches may be placed in parts of these sizes
-pub branches_fit : (of : Entered) (leads : List Bool) → IsSound of.program →
-    AreShorts (shorts_of of) (grouped_parts of leads)
-branches_fit of leads sound = record {
+pub branches_fit : (of : Entered) (firsts : List Bool) → IsSound of.program →
+    AreShorts (shorts_of of) (grouped_parts of firsts)
+branches_fit of firsts sound = record {
   each = λ i b is.
       let shorts = shorts_of of in
       let at = told of (count of.program) b (i, slice_get_within shorts i b is, get_or_from_slice_get shorts i b b is) in
@@ -63,11 +63,11 @@ branches_fit of leads sound = record {
       let same : Some its.0 ≡ Some aim.0 = sym its.2 ∙ aim.1 in
       let target : its.0 ≡ aim.0 = cc in
       let start : 0 + at.0 ≡ at.0 = omega arith in
-      let size = rw start at (grouped_at of leads 0 of.program.items at.0 at.1) in
-      subst (IsShort (grouped_parts of leads)) its.3 (record {
-        at_is = omega (arith, at.1, length_grouped of leads 0 of.program.items);
-        target_is = omega (arith, target, aim.2, length_grouped of leads 0 of.program.items);
-        size = size ∙ ap (λ (n : ℕ). lead_size of at.0 + n) (branch_size of.closed.version of.closed.calls (in_leaf of at.0) (item_of of.program at.0) (whole_at leads at.0) its.1);
+      let size = rw start at (grouped_at of firsts 0 of.program.items at.0 at.1) in
+      subst (IsShort (grouped_parts of firsts)) its.3 (record {
+        at_is = omega (arith, at.1, length_grouped of firsts 0 of.program.items);
+        target_is = omega (arith, target, aim.2, length_grouped of firsts 0 of.program.items);
+        size = size ∙ ap (λ (n : ℕ). lead_size of at.0 + n) (branch_size of.closed.version of.closed.calls (in_leaf of at.0) (item_of of.program at.0) (whole_at firsts at.0) its.1);
       });
 }
 

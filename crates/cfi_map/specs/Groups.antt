@@ -135,8 +135,8 @@ abbrev pub joins_in : Entered → ℕ → ℕ → Bool
 joins_in of k n = may_join (item_of of.program) (bounds_in of) k n
 
 -- these flags say which stores of a program begin a group, from left to right
-abbrev pub AreLeads : Entered → List Bool → Type 0
-AreLeads of flags = AreGreedy (item_of of.program) (bounds_in of) (λ k. slice_index_or flags k true)
+abbrev pub AreFirstStores : Entered → List Bool → Type 0
+AreFirstStores of flags = AreGreedy (item_of of.program) (bounds_in of) (λ k. slice_index_or flags k true)
 
 -- what holds of the stores of a group: they are few, with their own immediates, one base register and offsets that are near, and none but
 -- the first may be entered

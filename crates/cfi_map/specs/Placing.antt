@@ -14,7 +14,7 @@ use Rattle.cfi_layout.specs.Starts.{Placed, code_size, flag}
 use Rattle.cfi_closed.specs.Closed.{ClosedGraph}
 use Rattle.cfi_leads.specs.Entered.{Entered}
 use Rattle.cfi_map.specs.GraphAtMap.{ProgramAtMap, entered_in, program_at}
-use Rattle.cfi_map.specs.Groups.{AreLeads, is_store}
+use Rattle.cfi_map.specs.Groups.{AreFirstStores, is_store}
 use Rattle.cfi_map.specs.Placement.{AreGates, whole_at}
 use Rattle.cfi_map.specs.Shorts.{IsShortAt, is_branch, shorts_of}
 use Rattle.cfi_map.specs.Sizes.{grouped_parts, grouped_size, part_sizes, saved_bytes, whole_size}
@@ -33,7 +33,7 @@ pub record IsPlacement (form : Form) (s : Spaced) : Type 0 where
   -- parts stand one after another
   pub legal : AreGates (entered_in s.layout) s.whole 0 (profile_for form).units_from s.layout.program.items s.layout.gates
   -- each store that may join the group before it does
-  pub groups : AreLeads (entered_in s.layout) s.whole
+  pub groups : AreFirstStores (entered_in s.layout) s.whole
   -- with every branch long the code is shorter by the masks that later members of groups would have
   pub shorter : grouped_size form (entered_in s.layout) s.whole + saved_bytes (entered_in s.layout) s.whole 0 s.layout.program.items
       ≡ whole_size form (entered_in s.layout)
@@ -55,11 +55,11 @@ PlaceEnds form of NoMemory = Unit {0}
 
 -- Words of private contracts. Of each place whether its unit has its whole size, by the flags of stores and those of branches
 abbrev pub joined : Program → List Bool → List Bool → ℕ → Bool
-joined program leads long k = if is_store (item_of program k).kind then whole_at leads k else flag long k
+joined program firsts long k = if is_store (item_of program k).kind then whole_at firsts k else flag long k
 
 -- the parts of a program whose stores are grouped, placed with as many short branches as can be
-pub record IsShortened (form : Form) (of : Entered) (leads : List Bool) (p : Placed) : Type 0 where
+pub record IsShortened (form : Form) (of : Entered) (firsts : List Bool) (p : Placed) : Type 0 where
   pub room : whole_size form of ≤ CODE_SIZE
-  pub starts : p.starts ≡ starts_under (profile_for form).units_from (flag p.long) (shorts_of of) (grouped_parts of leads)
+  pub starts : p.starts ≡ starts_under (profile_for form).units_from (flag p.long) (shorts_of of) (grouped_parts of firsts)
   pub only : (k : ℕ) → flag p.long k ≡ false → is_part (shorts_of of) k ≡ true
-  pub least : IsLongSet (profile_for form).units_from (shorts_of of) (grouped_parts of leads) (flag p.long)
+  pub least : IsLongSet (profile_for form).units_from (shorts_of of) (grouped_parts of firsts) (flag p.long)

@@ -4,7 +4,7 @@ ghost use Rattle.std.specs.Prelude.{◌≡◌, ◌<◌, ◌≤◌, ◌+◌, ◌-
 ghost use Rattle.rv_code.specs.Decode.{decoded};
 ghost use Rattle.obj_program.specs.Program.{count, item_of};
 ghost use Rattle.obj_program.specs.Sound.{is_own};
-ghost use Rattle.cfi_map.specs.Groups.{AreDirectTargets, AreLeads, all_from, are_near, base_of, bounds_in, fits_mask, is_direct_target, is_forward, is_short, is_store, joins_in, level_of, may_share, members_after};
+ghost use Rattle.cfi_map.specs.Groups.{AreDirectTargets, AreFirstStores, all_from, are_near, base_of, bounds_in, fits_mask, is_direct_target, is_forward, is_short, is_store, joins_in, level_of, may_share, members_after};
 
 use cfi_leads::{Leads, mark};
 use obj_input::ItemKind;
@@ -94,17 +94,10 @@ fn is_forward(item: &Item) -> bool
 }
 
 /// Whether the mask of a store that begins a group is for offsets alone that are not negative, where there are such masks.
-pub fn is_short(item: &Item) -> bool
+pub(crate) fn is_short(item: &Item) -> bool
     ensures { result ≡ is_short item.now }
 {
     is_own(item.patch) && is_forward(item)
-}
-
-/// Whether a store may go behind the mask of a group's first one.
-fn fits_mask(short_masks: bool, first: &Item, item: &Item) -> bool
-    ensures { result ≡ fits_mask short_masks first.now item.now }
-{
-    !(short_masks && is_short(first)) || is_forward(item)
 }
 
 /// Whether one mask may serve the store at a place and another one.
@@ -221,6 +214,14 @@ impl<'a, 'b, 'c> Grouping<'a, 'b, 'c> {
         self.leads.closed().version() == GraphVersion::CalleeSaves
     }
 
+    /// Whether a store may go behind the mask of a group that begins at a place.
+    fn fits_mask(&self, first: u64, item: &Item) -> bool
+        requires { first < count self.now.program }
+        ensures { result ≡ fits_mask (bounds_in self.now).short_masks (item_of self.now.program first) item.now }
+    {
+        !(self.short_masks() && is_short(&self.leads.item(first))) || is_forward(item)
+    }
+
     /// Whether a store may join a group of so many stores right before it.
     pub fn may_join(&self, k: u64, n: u64) -> bool
         requires place { k < count self.now.program }
@@ -233,7 +234,7 @@ impl<'a, 'b, 'c> Grouping<'a, 'b, 'c> {
             && is_store(item.kind)
             && !self.is_entered(k)
             && is_own(item.patch)
-            && fits_mask(self.short_masks(), &self.leads.item(k - n), &item)
+            && self.fits_mask(k - n, &item)
             && all_share(self.leads.items(), k - n, k, spot_of(decode(item.word)))
     }
 
@@ -252,7 +253,7 @@ impl<'a, 'b, 'c> Grouping<'a, 'b, 'c> {
 
     /// Of each place whether it has its whole size, where each store that may join the group before it does.
     pub fn first_stores(&self, alloc: Global) -> Result<Vec<bool>, NoMemory>
-        ensures { IfOk result (λ v. AreLeads self.now v.items) }
+        ensures { IfOk result (λ v. AreFirstStores self.now v.items) }
     {
         let mut firsts = Vec::new(alloc);
         let mut before = 0;

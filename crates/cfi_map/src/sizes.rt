@@ -3,11 +3,12 @@
 ghost use Rattle.std.specs.Prelude.{◌≡◌, ◌+◌, ◌<◌, ◌≤◌, ◌||◌, not, IfOk};
 ghost use Rattle.obj_program.specs.Program.{count, item_of};
 ghost use Rattle.cfi_leads.specs.Leads.{lead_size};
-ghost use Rattle.cfi_map.specs.Groups.{is_store};
+ghost use Rattle.cfi_map.specs.Groups.{is_short, is_store};
 ghost use Rattle.cfi_map.specs.Placement.{call_size, is_ecall, is_ecall_instr, kind_size, lean_size, size_of, whole_at};
 ghost use Rattle.cfi_map.specs.Sizes.{grouped_parts};
 
 use crate::groups::{is_short, is_store};
+use cfi_closed::Closed;
 use cfi_leads::Leads;
 use obj_input::ItemKind;
 use obj_program::Item;
@@ -44,13 +45,13 @@ fn call_size(calls: Option<Numbers>) -> u32
     }
 }
 
-/// How many bytes the unit of a kind of place has where callers save sites.
-fn kind_size(calls: Option<Numbers>, kind: ItemKind, is_ecall: bool, whole: bool) -> u32
-    ensures value { result ≡ kind_size calls kind is_ecall whole }
+/// How many bytes the unit of a place has where callers save sites.
+fn kind_size(closed: &Closed, item: &Item, whole: bool) -> u32
+    ensures value { result ≡ kind_size closed.now.calls item.now.kind (is_ecall item.now) whole }
     ensures small { result ≤ 80 }
 {
-    match kind {
-        ItemKind::System if is_ecall => call_size(calls),
+    match item.kind {
+        ItemKind::System if is_ecall(item) => call_size(closed.calls()),
         ItemKind::Store if whole => 4 * STORE_WORDS,
         ItemKind::Branch if whole => 4 * BRANCH_WORDS,
         ItemKind::Call => 4 * CALL_WORDS,
@@ -61,24 +62,17 @@ fn kind_size(calls: Option<Numbers>, kind: ItemKind, is_ecall: bool, whole: bool
     }
 }
 
-/// How many bytes it has where callees do, behind a mask of one word if it is a store of its own that has a short one, in a leaf or in none.
-fn lean_size(
-    calls: Option<Numbers>,
-    kind: ItemKind,
-    is_ecall: bool,
-    is_short: bool,
-    in_leaf: bool,
-    whole: bool,
-) -> u32
-    ensures value { result ≡ lean_size calls kind is_ecall is_short in_leaf whole }
+/// How many bytes it has where callees do, in a leaf or in none: a store of its own stands behind a mask of one word if it `is_short`.
+fn lean_size(closed: &Closed, item: &Item, in_leaf: bool, whole: bool) -> u32
+    ensures value { result ≡ lean_size closed.now.calls item.now.kind (is_ecall item.now) (is_short item.now) in_leaf whole }
     ensures small { result ≤ 80 }
 {
-    match kind {
-        ItemKind::Store if whole => { if is_short { 8 } else { 12 } }
+    match item.kind {
+        ItemKind::Store if whole => { if is_short(item) { 8 } else { 12 } }
         ItemKind::Call => 4,
         ItemKind::Return if in_leaf => 4,
         ItemKind::Ijump | ItemKind::Icall => 60,
-        kind => kind_size(calls, kind, is_ecall, whole),
+        _ => kind_size(closed, item, whole),
     }
 }
 
@@ -89,22 +83,11 @@ pub fn unit_size(leads: &Leads, k: u64, item: &Item, whole: bool) -> u32
     ensures value { result ≡ size_of leads.now k item.now whole }
     ensures small { result ≤ 80 }
 {
-    let calls = leads.closed().calls();
     match leads.closed().version() {
         GraphVersion::OneLabel | GraphVersion::TwoLabels => {
-            kind_size(calls, item.kind, is_ecall(item), whole)
+            kind_size(leads.closed(), item, whole)
         }
-        GraphVersion::CalleeSaves => {
-            let in_leaf = leads.in_leaf(k);
-            lean_size(
-                calls,
-                item.kind,
-                is_ecall(item),
-                is_short(item),
-                in_leaf,
-                whole,
-            )
-        }
+        GraphVersion::CalleeSaves => lean_size(leads.closed(), item, leads.in_leaf(k), whole),
     }
 }
 

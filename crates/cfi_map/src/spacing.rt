@@ -6,7 +6,7 @@ ghost use Rattle.rv_word.specs.MemoryMap.{CODE_SIZE};
 ghost use Rattle.obj_program.specs.Program.{count};
 ghost use Rattle.cfi_layout.specs.Starts.{flag};
 ghost use Rattle.cfi_leads.specs.Entered.{entered_at};
-ghost use Rattle.cfi_map.specs.Groups.{AreLeads};
+ghost use Rattle.cfi_map.specs.Groups.{AreFirstStores};
 ghost use Rattle.cfi_map.specs.Placement.{whole_at};
 ghost use Rattle.cfi_map.specs.Placing.{IsPlacementOf, IsShortened, PlaceEnds, joined};
 ghost use Rattle.cfi_map.specs.Sizes.{whole_size};
@@ -72,7 +72,7 @@ fn has_room(alloc: Global, form: Form, leads: &Leads) -> Result<(), End<CodeTooL
 
 /// Which stores begin a group, where each that may join the one before it does.
 fn first_stores(alloc: Global, leads: &Leads) -> Result<Vec<bool>, NoMemory>
-    ensures { IfOk result (λ v. AreLeads leads.now v.items) }
+    ensures { IfOk result (λ v. AreFirstStores leads.now v.items) }
 {
     let grouping = Grouping::of(alloc, leads)?;
     let firsts = grouping.first_stores(alloc)?;
@@ -133,7 +133,7 @@ fn spaced<'a, 'b>(
     placement: &Placement,
 ) -> Result<Spacing<'a, 'b>, NoMemory>
     requires version { leads.closed.version ≡ graph_version form }
-    requires firsts { AreLeads leads firsts.now }
+    requires firsts { AreFirstStores leads firsts.now }
     requires shortened { IsShortened form leads firsts.now placement.now }
     requires entry { leads.entry < count leads.program }
     ensures { IfOk result (λ s. IsPlacementOf form leads.entry.program leads.entry.closed leads.entry.entry s) }

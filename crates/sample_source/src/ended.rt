@@ -169,7 +169,7 @@ fn closed_of(alloc: Global, form: Form, items: &Items, policy: &Policy) -> Optio
     ensures { IfSome result (λ closed. closed.version ≡ graph_version form) }
 {
     match raw_graph(alloc, items, policy) {
-        Ok(raw) => close(alloc, form, &raw).ok(),
+        Ok(raw) => close(alloc, form.graph_version(), &raw).ok(),
         Err(_) => None,
     }
 }

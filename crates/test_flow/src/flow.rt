@@ -15,6 +15,7 @@ fn table(number: u32) -> (&'static [u8], usize) {
         1 => (rows::POLICIES, 31),
         2 => (rows::SECTIONS, 6),
         3 => (rows::ASKED, 17),
+        4 => (rows::LEADS, 18),
         _ => (rows::SPLIT, 9),
     }
 }
@@ -80,6 +81,11 @@ fn tells_the_flow_for_several_harts(rt: HostRuntime) {
 #[test]
 fn tells_calls_and_jumps_apart(rt: HostRuntime) {
     for form in [Form::Split, Form::HartsSplit] {
-        assert_eq!(rt; first_wrong(rt.alloc(), form, 4), "");
+        assert_eq!(rt; first_wrong(rt.alloc(), form, 5), "");
     }
+}
+
+#[test]
+fn tells_leads_and_leaves(rt: HostRuntime) {
+    assert_eq!(rt; first_wrong(rt.alloc(), Form::Split, 4), "");
 }

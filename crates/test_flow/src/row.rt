@@ -9,7 +9,8 @@ pub(crate) struct Row<'a> {
     pub(crate) symbols: &'a str,
     /// The relocations, each as `SECTION,OFFSET,TYPE,SYMBOL,ADDEND`.
     pub(crate) relocations: &'a str,
-    /// What is asked: the flow under `none` or under the lines of a policy, `enter NAME` or `labels`.
+    /// What is asked: the flow under `none` or under the lines of a policy, `enter NAME`, `labels`, or `leads NAME`, which may have
+    /// the lines of a policy behind a `;`.
     pub(crate) asked: &'a str,
     /// What is to be told.
     pub(crate) told: &'a str,

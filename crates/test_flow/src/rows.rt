@@ -254,6 +254,65 @@ pub(crate) static ASKED: &[u8] = b"\
     00008067|t,NOTYPE,1,0,0||labels|labels\n\
 ";
 
+/// Programs whose callees save sites: how many bytes the lead of each place has, and the places of leaves. The words were worked out by hand
+/// beside their code: a lead of 24 bytes saves, one of 32 has the gate of computed calls too, one of 4 is the gate of computed jumps.
+pub(crate) static LEADS: &[u8] = b"\
+    an entry that is a leaf|\
+    00008067|main,FUNC,1,0,4||\
+    leads main|leads 0 0, leaves 0\n\
+    an entry that saves|\
+    FF010113 00113423 00813083 01010113 00008067|main,FUNC,1,0,20||\
+    leads main|leads 24 0 0 0 0 0, leaves\n\
+    a place that goes on into an entry that saves|\
+    FF010113 00113423 010000EF 00813083 01010113 00250513 00150513 00008067|main,FUNC,1,0,32||\
+    leads main|leads 24 0 0 0 0 0 24 0 0, leaves\n\
+    a leaf with a return of its own and a jump back as its last place|\
+    00100513 00050463 00008067 FF9FF06F|main,FUNC,1,0,16||\
+    leads main|leads 0 0 0 0 0, leaves 0 1 2 3\n\
+    a leaf with a loop to its first place and a system call|\
+    FFF50513 FE051EE3 00000073 00008067|main,FUNC,1,0,16||\
+    leads main|leads 0 0 0 0 0, leaves 0 1 2 3\n\
+    no leaf has LUI to x0|\
+    00001037 00008067|main,FUNC,1,0,8||\
+    leads main|leads 24 0 0, leaves\n\
+    nor another write of x1|\
+    00008093 00008067|main,FUNC,1,0,8||\
+    leads main|leads 24 0 0, leaves\n\
+    nor may it go on behind its last place|\
+    00008067 00000013|main,FUNC,1,0,8||\
+    leads main|leads 24 0 0, leaves\n\
+    nor stop there|\
+    00100073|main,FUNC,1,0,4||\
+    leads main|leads 24 0, leaves\n\
+    a leaf that is called|\
+    008000EF 00008067 00000293 00008067|main,FUNC,1,0,16||\
+    leads main|leads 24 0 0 0 0, leaves 2 3\n\
+    a branch over a jump that is an entry|\
+    00050463 0040006F 00008067 FF9FF0EF 00008067|main,FUNC,1,0,20||\
+    leads main|leads 24 24 0 0 0 0, leaves\n\
+    a leaf in another section|\
+    000000EF 00008067/00000513 00008067|main,FUNC,1,0,8 g,FUNC,3,0,8|1,0,JAL,g,0|\
+    leads main|leads 24 0 0 0 0 0, leaves 3 4\n\
+    no leaf is in two sections|\
+    000000EF 00008067 00000513/00008067|main,FUNC,1,0,8 g,FUNC,1,8,4|1,0,JAL,g,0|\
+    leads main|leads 24 0 24 0 0 0, leaves\n\
+    targets of computed calls|\
+    FF010113 00113423 000002B7 0002B283 000280E7 00813083 01010113 00008067 00100513 00008067 00200513 00008067|main,FUNC,1,0,32 f,FUNC,1,32,8 g,FUNC,1,40,8 ptr,OBJECT,2,0,16|1,8,HI20,ptr,0 1,12,LO12_I,ptr,0 2,0,64,f,0 2,8,64,g,0|\
+    leads main|leads 24 0 0 0 0 0 0 0 32 0 32 0 0, leaves\n\
+    targets of calls and jumps|\
+    000002B7 0002B283 00028067 00100513 00008067 00200513 00008067 000280E7 00008067|main,FUNC,1,0,12 f,FUNC,1,12,8 g,FUNC,1,20,8 h,FUNC,1,28,8 ptr,OBJECT,2,0,16|1,0,HI20,ptr,0 1,4,LO12_I,ptr,0 2,0,64,f,0 2,8,64,g,0|\
+    leads main|leads 24 0 0 32 0 32 0 0 0 0, leaves\n\
+    a target of jumps alone beside one of both|\
+    000002B7 0002B283 00028067 00100513 00008067 00200513 00008067 000280E7 00008067|main,FUNC,1,0,12 f,FUNC,1,12,8 g,FUNC,1,20,8 h,FUNC,1,28,8 ptr,OBJECT,2,0,16|1,0,HI20,ptr,0 1,4,LO12_I,ptr,0 2,0,64,f,0 2,8,64,g,0|\
+    leads main;site h+0 g+0|leads 24 0 0 4 0 32 0 0 0 0, leaves\n\
+    targets of jumps alone|\
+    00028067 00000013 00000013 00008067 00000013 00008067|f,FUNC,1,0,16|2,0,64,f,4 2,8,64,f,12 2,16,64,f,16|\
+    leads f|leads 24 4 0 4 0 0 0, leaves\n\
+    what is entered elsewhere|\
+    00028067 00000013 00000013 00008067 00000013 00008067|f,FUNC,1,0,16 g,FUNC,1,16,8|2,0,64,f,4|\
+    leads g|leads 0 4 0 0 0 0 0, leaves 4 5\n\
+";
+
 /// Programs by themselves and under policies, where calls and jumps have classes of their own: those of calls come first.
 pub(crate) static SPLIT: &[u8] = b"\
     a function that is called and jumped to is in a class of each|\

@@ -1,12 +1,18 @@
 //! What is told of a program's flow, as text: the taken places; each site by its kind and place, its targets and its
 //! class; each class by its members; and the list of system calls. Places and classes are told by their indexes.
+//! Of a program whose callees save sites it is told how many bytes the lead of each place has, and which places are in
+//! leaves.
+
+ghost use Rattle.std.specs.Prelude.{◌<◌};
+ghost use Rattle.obj_program.specs.Program.{count};
 
 use cfi_closed::Closed;
 use cfi_flow::{Raw, RawSite, close, entry_place, raw_graph, used_labels};
 use cfi_graph::SiteKind;
+use cfi_leads::Leads;
 use cfi_policy::{Policy, read_policy};
 use obj_program::Items;
-use rv_word::{End, Form};
+use rv_word::{End, Form, GraphVersion};
 use std::alloc::{AllocError, Global};
 use std::fmt::Write;
 
@@ -101,7 +107,7 @@ fn told_of(alloc: Global, raw: &Raw, closed: &Closed) -> Option<String> {
 
 /// What is told of the graph of a program with these sites, for a form.
 fn told_of_raw(alloc: Global, form: Form, raw: &Raw) -> Option<String> {
-    match close(alloc, form, raw) {
+    match close(alloc, form.graph_version(), raw) {
         Ok(closed) => told_of(alloc, raw, &closed),
         Err(_) => None,
     }
@@ -169,10 +175,63 @@ fn told_of_labels(alloc: Global, items: &Items) -> Option<String> {
     Some(text)
 }
 
+/// Adds how many bytes the leads of the places have.
+fn add_leads(text: &mut String, leads: &Leads) -> Result<(), AllocError> {
+    text.push_str("leads")?;
+    for place in 0..leads.count() {
+        let size = leads.size(place);
+        write!(text, " {size}")?;
+    }
+    Ok(())
+}
+
+/// Whether a place is in a leaf.
+fn in_leaf(leads: &Leads, place: u64) -> bool
+    requires { place < count leads.now.program }
+{
+    match leads.closed().version() {
+        GraphVersion::OneLabel | GraphVersion::TwoLabels => false,
+        GraphVersion::CalleeSaves => leads.in_leaf(place),
+    }
+}
+
+/// Adds the places that are in leaves.
+fn add_leaves(text: &mut String, leads: &Leads) -> Result<(), AllocError> {
+    text.push_str(", leaves")?;
+    for place in 0..leads.count() {
+        if in_leaf(leads, place) {
+            write!(text, " {place}")?;
+        }
+    }
+    Ok(())
+}
+
+/// What is told of the leads of a program that is entered at a place, where callees save sites.
+fn told_of_leads(alloc: Global, items: &Items, policy: &Policy, entry: u64) -> Option<String> {
+    let raw = raw_graph(alloc, items, policy).ok()?;
+    let closed = close(alloc, GraphVersion::CalleeSaves, &raw).ok()?;
+    let leads = Leads::of(alloc, items, &closed, entry).ok()?;
+    let mut text = String::new(alloc);
+    add_leads(&mut text, &leads).ok()?;
+    add_leaves(&mut text, &leads).ok()?;
+    Some(text)
+}
+
+/// The same of a program that is entered at the symbol with a name, under the policy with the lines behind a `;`, if there are any.
+fn told_of_entered(alloc: Global, items: &Items, asked: &str) -> Option<String> {
+    let (name, policy) = match asked.split_once(';') {
+        Some((name, lines)) => (name, policy_of(alloc, lines)?),
+        None => (asked, Policy::none(alloc)),
+    };
+    let entry = entry_place(items, name.as_bytes())?;
+    told_of_leads(alloc, items, &policy, entry)
+}
+
 /// What is told of a program, for a form, when this is asked.
 pub(crate) fn told(alloc: Global, form: Form, items: &Items, asked: &str) -> Option<String> {
     match asked.split_once(' ') {
         Some(("enter", name)) => told_of_place(alloc, entry_place(items, name.as_bytes())),
+        Some(("leads", asked)) => told_of_entered(alloc, items, asked),
         Some(_) => told_under_lines(alloc, form, items, asked),
         None if asked == "labels" => told_of_labels(alloc, items),
         None => told_under(alloc, form, items, &Policy::none(alloc)),
