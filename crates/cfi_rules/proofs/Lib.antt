@@ -25,6 +25,7 @@ pub mod Steps
 pub mod Safety
 pub mod Ahead
 pub mod PlacedLines
+pub mod FullKinds
 pub mod PlacedRules
 pub mod PlacedCode
 pub mod PlacedGraph
