@@ -1,6 +1,6 @@
 -- Units of code whose callers save sites are of their kinds where no leaf is given: each start is saved.
-use Rattle.std.proofs.Common.{◌≡◌, ℕ, ◌+◌, ◌*◌, inl, inr, Bool, true, false, List, [], length, refl, sym, ap, subst, ◌∙◌, Option, Some, None}
-use Rattle.std.specs.Prelude.{not, ◌&&◌, ◌||◌, slice_get}
+use Rattle.std.proofs.Common.{◌≡◌, ℕ, ◌+◌, inl, inr, true, false, List, [], refl, sym, ap, subst, ◌∙◌, Option, Some, None}
+use Rattle.std.specs.Prelude.{not, ◌&&◌, slice_get}
 use Rattle.std.proofs.lemmas.Bool.{and_parts, and_right, or_from, or_right}
 use Rattle.rv_word.specs.declared.version.GraphVersion.{GraphVersion}
 use Rattle.rv_word.proofs.Cases.{cases_Option}
@@ -10,7 +10,7 @@ use Rattle.cfi_unit.specs.declared.unit.Unit.TheVariants as V
 use Rattle.cfi_unit.specs.Flow.{flow_of}
 use Rattle.cfi_unit.specs.Templates.{is_full}
 use Rattle.cfi_unit.specs.UnitWords.{after_unit}
-use Rattle.cfi_pending.specs.Kinds.{IsOfItsKind, Leaf, is_enter, is_fresh, is_gate, is_gate_there, is_right_behind, is_right_target, stands_by}
+use Rattle.cfi_pending.specs.Kinds.{IsOfItsKind, Leaf, is_enter, is_fresh, is_gate, is_gate_there, is_right_target, stands_by}
 use Rattle.cfi_pending.specs.StartLaw.{stands_in}
 use Rattle.cfi_rules.specs.Rules.{admits, is_of_version, may_call, test_is_of_version}
 

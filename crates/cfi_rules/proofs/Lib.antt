@@ -33,6 +33,7 @@ pub mod PlacedRows
 pub mod ApartRows
 pub mod CallRows
 pub mod LeanRows
+pub mod LeanPlaced
 pub mod Walks
 pub mod Trails
 pub mod OneHart

@@ -4,7 +4,7 @@
 use Rattle.std.proofs.Common.{◌≡◌, ℕ, zero, suc, ◌+◌, ◌*◌, ◌==◌, inl, inr, Bool, true, false, List, [], ◌∷◌, refl, sym, ap, subst, ◌∙◌, length, lit<, arith}
 use Rattle.std.specs.Prelude.{Option, Some, None, ◌&&◌, ◌||◌, is_some, not, option_and_then, slice_get}
 use Rattle.std.specs.List.{last_or, list_all}
-use Rattle.std.proofs.lemmas.Bool.{and_parts, cases_eq, eqb-true, false≢true, or_cases}
+use Rattle.std.proofs.lemmas.Bool.{and_parts, cases_eq, eqb-true, or_cases}
 use Rattle.std.proofs.lemmas.Option.{same_Some}
 use Rattle.rv_word.specs.declared.version.GraphVersion.{GraphVersion}
 use Rattle.rv_word.specs.declared.version.GraphVersion.TheVariants.{OneLabel}
@@ -249,11 +249,13 @@ ended p us [] k leaf all e = absurd (cc)
 ended p us (x ∷ leaves) zero leaf all e =
     let first = (and_parts (is_ended p us x) (list_all (is_ended p us) leaves) all).0 in
     subst (λ (l : Leaf). StartsIn p us l.from × EndsIn p us l.to) (same_Some x leaf e)
-    (let parts = and_parts (is_some (unit_in us p.units_from x.from)) _ first in
-    (parts.0, elim (or_cases (is_some (unit_in us p.units_from x.to)) (x.to == p.units_from + 4 * length (code_from p.units_from us)) parts.1) [
-      | inl starts ↦ inl starts
-      | inr last ↦ inr (eqb-true x.to (p.units_from + 4 * length (code_from p.units_from us)) last)
-    ]))
+    (let parts = and_parts (is_some (unit_in us p.units_from x.from)) _ first in (
+      parts.0,
+      elim (or_cases (is_some (unit_in us p.units_from x.to)) (x.to == p.units_from + 4 * length (code_from p.units_from us)) parts.1) [
+        | inl starts ↦ inl starts
+        | inr last ↦ inr (eqb-true x.to (p.units_from + 4 * length (code_from p.units_from us)) last)
+      ],
+    ))
 ended p us (x ∷ leaves) (suc k) leaf all e = ended p us leaves k leaf (and_parts (is_ended p us x) (list_all (is_ended p us) leaves) all).1 e
 
 -- each target of a class bears its label
@@ -318,7 +320,7 @@ pub record AreRight (p : Profile) (version : GraphVersion) (entry : ℕ) (us : L
 pub sound_by : (p : Profile) (version : GraphVersion) (entry : ℕ) (us : List U.Unit) (heads : List GraphLine) → AreRight p version entry us heads → IsSound p version entry us heads
 sound_by p version entry us heads are =
     let right_there = λ (a : ℕ) (u : U.Unit) (here : unit_in us p.units_from a ≡ Some u).
-        right_parts version heads (unit_in us p.units_from) a u (each_in (is_right version heads (unit_in us p.units_from)) us p.units_from a u are.each_right here) in
+    right_parts version heads (unit_in us p.units_from) a u (each_in (is_right version heads (unit_in us p.units_from)) us p.units_from a u are.each_right here) in
     record {
       profile = are.profile_is;
       saves = are.saves_so;

@@ -2,19 +2,14 @@
 use Rattle.std.proofs.Common.{◌≡◌, ◌≢◌, ℕ, ◌+◌, ◌*◌, ◌%◌, ◌≤◌, ◌<◌, ◌==◌, inl, inr, Bool, true, false, List, [], ◌∷◌, length, refl, sym, ap, subst, ◌∙◌, Some, None, arith}
 use Rattle.std.specs.Prelude.{Option, slice_get, nat_le, nat_lt, not, ◌&&◌, ◌||◌, is_some, option_and_then, option_map}
 use Rattle.std.specs.List.{last_or, list_any}
-use Rattle.std.specs.Option.{option_or}
 use Rattle.std.proofs.lemmas.Bool.{and_from, and_parts, and_right, and_left, cases_Bool, cases_eq, eq-eqb, le-ltb, lt-leb, ne_eqb, or_from, or_left, or_right}
 use Rattle.std.proofs.lemmas.Option.{same_Some}
 use Rattle.rv_word.specs.declared.version.GraphVersion.{GraphVersion}
-use Rattle.rv_word.specs.declared.version.GraphVersion.TheVariants.{OneLabel, TwoLabels, CalleeSaves}
 use Rattle.rv_word.specs.MemoryMap.{CODE_START, Profile}
 use Rattle.rv_word.proofs.Cases.{cases_Option, guarded}
-use Rattle.rv_word.proofs.Profiles.{full_saves}
 use Rattle.cfi_graph.specs.declared.line.GraphLine.{GraphLine}
 use Rattle.cfi_graph.specs.declared.line.GraphLine.TheVariants.{Call}
 use Rattle.cfi_graph.specs.declared.line.SiteKind.{SiteKind}
-use Rattle.cfi_graph.specs.declared.line.Sort.{Sort}
-use Rattle.cfi_graph.specs.declared.line.Sort.TheVariants.{Both, Calls, Jumps}
 use Rattle.cfi_graph.specs.declared.line.SiteKind.TheVariants as K
 use Rattle.cfi_unit.specs.declared.unit.Unit as U
 use Rattle.cfi_unit.specs.declared.unit.Unit.TheVariants as V
@@ -27,8 +22,7 @@ use Rattle.cfi_unit.specs.Flow as F
 use Rattle.cfi_unit.specs.Flow.{Flow, flow_of}
 use Rattle.cfi_unit.specs.Prologue.{OPENING}
 use Rattle.cfi_unit.specs.Split.{IsSplit}
-use Rattle.cfi_unit.specs.Templates.{is_full}
-use Rattle.cfi_unit.specs.UnitWords.{after_unit, word_count}
+use Rattle.cfi_unit.specs.UnitWords.{word_count}
 use Rattle.cfi_pending.specs.Kinds as kinds
 use Rattle.cfi_pending.specs.Kinds.{IsOfItsKind, goes_on, is_enter, is_fresh, is_right_behind, is_right_target, leaf_of, may_be_called, may_be_reached, stands_by}
 use Rattle.cfi_pending.specs.StartLaw.{stands_in}
@@ -283,11 +277,11 @@ module _ (p : Profile) (words : List ℕ) (version : GraphVersion) (entry : ℕ)
   opening_outside =
       ap (λ (leaves : List kinds.Leaf). leaf_of leaves OPENING) leaves_are
       ∙ no_leaf_before (leaves_in heads) OPENING (λ k leaf get.
-          let (u, e) = some_unit leaf.from (sound.leaves k leaf get).0 in
-          let from = (lies us p.units_from leaf.from u e).from in
-          let closing = placed.closing_after in
-          let units = placed.units_after in
-          omega arith)
+      let (u, e) = some_unit leaf.from (sound.leaves k leaf get).0 in
+      let from = (lies us p.units_from leaf.from u e).from in
+      let closing = placed.closing_after in
+      let units = placed.units_after in
+      omega arith)
     where
       some_unit : (a : ℕ) → StartsIn p us a → (u : U.Unit) × (unit_in us p.units_from a ≡ Some u)
       some_unit a starts =
