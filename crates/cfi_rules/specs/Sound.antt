@@ -25,13 +25,13 @@ use Rattle.cfi_rules.specs.Split.{unit_in}
 abbrev pub StartsIn : Profile → List U.Unit → ℕ → Type 0
 StartsIn p units a = IsTrue (is_some (unit_in units p.units_from a))
 
--- where a direct transfer leads
-abbrev pub target_of : U.Unit → Option ℕ
-target_of unit = option_or (edge_of (body unit)) (call_of (body unit))
-
 -- or the last one ends there
 abbrev pub EndsIn : Profile → List U.Unit → ℕ → Type 0
 EndsIn p units a = StartsIn p units a ⊎ (a ≡ p.units_from + 4 * length (code_from p.units_from units))
+
+-- where a direct transfer leads
+abbrev pub target_of : U.Unit → Option ℕ
+target_of unit = option_or (edge_of (body unit)) (call_of (body unit))
 
 -- the opening calls what saves its site or begins a leaf, and what is saved where it saves its site itself
 abbrev pub may_be_entered : Bool → (ℕ → Option U.Unit) → List Leaf → ℕ → Bool
@@ -62,8 +62,8 @@ pub record IsSound (p : Profile) (version : GraphVersion) (entry : ℕ) (units :
   pub entry_starts : StartsIn p units entry
   pub targets : (a target : ℕ) (unit : U.Unit) → unit_in units p.units_from a ≡ Some unit →
       target_of unit ≡ Some target → StartsIn p units target
-  -- the other lines are of classes and of system calls, and a class with its label serves each computed
-  -- transfer
+  -- the lines without an address are of system calls, leaves and classes, and a class with its label serves
+  -- each computed transfer
   pub heads_are : IsTrue (list_all is_head heads)
   pub labels : (a : ℕ) (unit : U.Unit) (asked : Asks) → unit_in units p.units_from a ≡ Some unit →
       site_of (body unit) ≡ Some asked → IsTrue (is_some (targets_for heads asked.kind asked.which asked.label))
