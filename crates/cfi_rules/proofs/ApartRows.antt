@@ -1,5 +1,5 @@
 -- A worked code under version 2 of graphs, and what each rule finds wrong of small changes of it.
-use Rattle.std.proofs.Common.{◌≡◌, ℕ, ◌*◌, Bool, true, false, List, [], ◌∷◌, length, refl, lit<}
+use Rattle.std.proofs.Common.{◌≡◌, ℕ, ◌*◌, inl, Bool, true, false, List, [], ◌∷◌, length, refl, lit<}
 use Rattle.std.specs.Prelude.{None}
 use Rattle.rv_word.specs.declared.version.GraphVersion.{GraphVersion}
 use Rattle.rv_word.specs.declared.version.GraphVersion.TheVariants.{OneLabel, TwoLabels}
@@ -88,7 +88,22 @@ apart_ahead =
 
 apart_sound : IsSound version_1 TwoLabels 0x40000040 apart_units apart_classes
 unfolding all_from class_with targets_for unit_in leaves_in
-apart_sound = sound_by TwoLabels apart_units apart_classes refl refl apart_fit apart_ahead refl refl refl refl refl refl
+apart_sound = sound_by version_1 TwoLabels 0x40000040 apart_units apart_classes (record {
+  profile_is = inl (inl refl);
+  saves_so = refl;
+  each_fit = apart_fit;
+  each_ahead = apart_ahead;
+  each_admitted = refl;
+  each_right = refl;
+  each_kind = refl;
+  each_ended = refl;
+  reached = refl;
+  called = refl;
+  begun = refl;
+  all_heads = refl;
+  borne = refl;
+  stops = refl;
+})
 
 -- a jump's check of the first word is none of version 2, one of the second none of version 1
 first_under_2 : is_of_version TwoLabels (V.Ijump First 5 0 2) ≡ false

@@ -58,7 +58,22 @@ guarded_ahead = (refl, (refl, (refl, tt)))
 
 guarded_sound : IsSound version_1 OneLabel 0x40000040 guarded listed
 unfolding all_from class_with targets_for unit_in leaves_in
-guarded_sound = sound_by OneLabel guarded listed refl refl guarded_fit guarded_ahead refl refl refl refl refl refl
+guarded_sound = sound_by version_1 OneLabel 0x40000040 guarded listed (record {
+  profile_is = inl (inl refl);
+  saves_so = refl;
+  each_fit = guarded_fit;
+  each_ahead = guarded_ahead;
+  each_admitted = refl;
+  each_right = refl;
+  each_kind = refl;
+  each_ended = refl;
+  reached = refl;
+  called = refl;
+  begun = refl;
+  all_heads = refl;
+  borne = refl;
+  stops = refl;
+})
 
 -- without a list a bare call stands, and with one a guarded one with just its numbers in their order
 bare_alone : admits OneLabel None (V.System S.Ecall) ≡ true

@@ -36,7 +36,7 @@ abbrev pub any_fails : Profile → List ℕ → List GraphLine → List ℕ → 
 any_fails p words lines at = list_any (λ a. list_any (λ rule. fails_by p rule words lines a) rules) at
 
 -- the prologue of a lone hart, with this word as its call
-abbrev opening : ℕ → List ℕ
+abbrev pub opening : ℕ → List ℕ
 opening call = 0x00100073 ∷ 0x00100073 ∷ 0x00100073 ∷ 0x10000137 ∷ 0x10000237 ∷ 0xfff20213 ∷ 0x600001b7 ∷ 0x00818193 ∷ call ∷ 0x05d00893 ∷ 0x00000073 ∷ []
 
 -- the same code with another word at an index
@@ -76,14 +76,14 @@ unfolding decoded code_of read_each recognised words_of starts is_start unit_at 
 other_version = refl
 
 -- an entry that calls a leaf, which writes (h.s)
-abbrev write_code : List ℕ
+abbrev pub write_code : List ℕ
 write_code =
     opening 0x010000ef ++ 0x0180006f ∷ 0x03019f13 ∷ 0x000f1463 ∷ 0xfd1ff06f ∷ 0x0011b023 ∷ 0x00818193 ∷ 0xff010113 ∷ 0x00417fb3 ∷ 0x001fb423 ∷ 0x024000ef ∷ 0x00000513 ∷ 0x00813083 ∷ 0x01010113 ∷ 0xff81bf83 ∷ 0xff818193 ∷ 0x001f8463 ∷ 0xf99ff06f ∷ 0x000f8067 ∷ 0xc0010597 ∷ 0xf8c58593 ∷ 0x00100513 ∷ 0x00300613 ∷ 0x04000893 ∷ 0x00000073 ∷ 0x00008067 ∷ 0xf71ff06f ∷ []
 
-abbrev in_order : List GraphLine
+abbrev pub in_order : List GraphLine
 in_order = Call 0x4000000c 0x40000030 ∷ Edge 0x4000002c 0x40000044 ∷ Call 0x40000050 0x40000074 ∷ []
 
-abbrev write_lines : List GraphLine
+abbrev pub write_lines : List GraphLine
 write_lines = Leaf 0x40000074 0x40000090 ∷ in_order
 
 write_accepted : any_fails lean_version_1 write_code write_lines (0x4000000c ∷ 0x4000002c ∷ 0x40000030 ∷ 0x40000044 ∷ 0x40000048 ∷ 0x40000050 ∷ 0x40000054 ∷ 0x40000058 ∷ 0x4000005c ∷ 0x40000060 ∷ 0x40000074 ∷ 0x40000078 ∷ 0x4000007c ∷ 0x40000080 ∷ 0x40000084 ∷ 0x40000088 ∷ 0x4000008c ∷ 0x40000090 ∷ 0x40000094 ∷ []) ≡ false
@@ -291,14 +291,14 @@ unfolding decoded code_of read_each recognised words_of starts is_start unit_at 
 free_label = refl
 
 -- a computed jump to one of two places, of which one is also called through a pointer (q.s)
-abbrev jump_code : List ℕ
+abbrev pub jump_code : List ℕ
 jump_code =
     opening 0x010000ef ++ 0x0180006f ∷ 0x03019f13 ∷ 0x000f1463 ∷ 0xfd1ff06f ∷ 0x0011b023 ∷ 0x00818193 ∷ 0x000102b7 ∷ 0x0002b283 ∷ 0x00028f93 ∷ 0xffcfff93 ∷ 0x40000f37 ∷ 0x41ef8f33 ∷ 0x014f5f13 ∷ 0x000f0463 ∷ 0xf9dff06f ∷ 0x000faf03 ∷ 0x00002237 ∷ 0x03720213 ∷ 0x004f0463 ∷ 0xf89ff06f ∷ 0x10000237 ∷ 0xfff20213 ∷ 0x000f8067 ∷ 0x00002037 ∷ 0x00100513 ∷ 0xff81bf83 ∷ 0xff818193 ∷ 0x001f8463 ∷ 0xf69ff06f ∷ 0x000f8067 ∷ 0x00002037 ∷ 0x01c0006f ∷ 0x00001037 ∷ 0x03019f13 ∷ 0x000f1463 ∷ 0xf51ff06f ∷ 0x0011b023 ∷ 0x00818193 ∷ 0x00200513 ∷ 0xff81bf83 ∷ 0xff818193 ∷ 0x001f8463 ∷ 0xf31ff06f ∷ 0x000f8067 ∷ 0x00028f93 ∷ 0xffcfff93 ∷ 0x40000f37 ∷ 0x41ef8f33 ∷ 0x014f5f13 ∷ 0x000f0463 ∷ 0xf0dff06f ∷ 0x008faf03 ∷ 0x00001237 ∷ 0x03720213 ∷ 0x004f0463 ∷ 0xef9ff06f ∷ 0x10000237 ∷ 0xfff20213 ∷ 0x008f80e7 ∷ 0xff81bf83 ∷ 0xff818193 ∷ 0x001f8463 ∷ 0xee1ff06f ∷ 0x000f8067 ∷ 0xed5ff06f ∷ []
 
-abbrev jump_lines : List ℕ → List ℕ → List GraphLine
+abbrev pub jump_lines : List ℕ → List ℕ → List GraphLine
 jump_lines calls jumps = Class sorts.Calls 1 calls ∷ Class sorts.Jumps 2 jumps ∷ Call 0x4000000c 0x40000030 ∷ Edge 0x4000002c 0x40000044 ∷ Site 0x4000004c kinds.Jump 2 ∷ Edge 0x400000a8 0x400000c4 ∷ Site 0x400000dc kinds.Call 1 ∷ []
 
-abbrev jumped : List GraphLine
+abbrev pub jumped : List GraphLine
 jumped = jump_lines (0x400000a4 ∷ []) (0x40000088 ∷ 0x400000a4 ∷ [])
 
 jump_accepted : any_fails lean_version_1 jump_code jumped (0x4000000c ∷ 0x4000002c ∷ 0x40000030 ∷ 0x40000044 ∷ 0x40000048 ∷ 0x4000004c ∷ 0x40000088 ∷ 0x4000008c ∷ 0x40000090 ∷ 0x400000a4 ∷ 0x400000a8 ∷ 0x400000ac ∷ 0x400000b0 ∷ 0x400000c4 ∷ 0x400000c8 ∷ 0x400000dc ∷ 0x40000118 ∷ 0x4000012c ∷ 0x40000130 ∷ []) ≡ false

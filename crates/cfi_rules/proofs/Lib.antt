@@ -25,6 +25,7 @@ pub mod Steps
 pub mod Safety
 pub mod Ahead
 pub mod PlacedLines
+pub mod FullKinds
 pub mod PlacedRules
 pub mod PlacedCode
 pub mod PlacedGraph
@@ -32,6 +33,7 @@ pub mod PlacedRows
 pub mod ApartRows
 pub mod CallRows
 pub mod LeanRows
+pub mod LeanPlaced
 pub mod Walks
 pub mod Trails
 pub mod OneHart

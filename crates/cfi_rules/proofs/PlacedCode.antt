@@ -7,7 +7,7 @@ use Rattle.std.proofs.lemmas.List.{drop_at}
 use Rattle.std.proofs.lemmas.Option.{same_Some, slice_get-map, slice_get-get_or}
 use Rattle.rv_word.specs.declared.version.GraphVersion.{GraphVersion}
 use Rattle.rv_word.specs.MemoryMap.{CODE_START, IsProfile, Profile, lies_within}
-use Rattle.rv_word.proofs.Profiles.{full_saves, laid_out}
+use Rattle.rv_word.proofs.Profiles.{laid_out}
 use Rattle.rv_instr.specs.declared.instr.Instr.{Instr}
 use Rattle.rv_instr.specs.declared.instr.Instr.TheVariants.{Jal}
 use Rattle.rv_code.specs.Decode.{decoded}
@@ -138,11 +138,11 @@ pub placed_entry : PlacedEntry
 placed_entry p entry us profile = entry_there p profile entry us
 
 pub placed_well_formed : PlacedIsWellFormed
-placed_well_formed p entry us heads image graph profile sound words lines same_length = record {
-  saves = full_saves p sound.full ∙ sym sound.version_full;
+placed_well_formed p entry us heads image graph sound words lines same_length = record {
+  saves = sound.saves;
   same_length = same_length;
   rules = λ rule.
-      let holds = rules_hold p (placed_code p entry us) graph.version entry us heads graph.code (is_placed p profile entry us graph.version heads sound) sound rule in
+      let holds = rules_hold p (placed_code p entry us) graph.version entry us heads graph.code (is_placed p sound.profile entry us graph.version heads sound) sound rule in
       let with_lines = subst (λ (ls : List GraphLine). Holds p (placed_code p entry us) (record { version = graph.version; code = graph.code; lines = ls }) rule) (sym lines) holds in
       subst (λ (ws : List ℕ). Holds p ws graph rule) (sym words) with_lines;
 }

@@ -7,7 +7,7 @@ use Rattle.std.proofs.lemmas.Bool.{and_from, and_parts, cases_Bool, eq-eqb, eqb-
 use Rattle.std.proofs.lemmas.List.Folds.{list_all-append}
 use Rattle.std.proofs.lemmas.Option.{same_Some}
 use Rattle.rv_word.specs.declared.version.GraphVersion.{GraphVersion}
-use Rattle.rv_word.specs.MemoryMap.{CODE_START, IsProfile, Profile}
+use Rattle.rv_word.specs.MemoryMap.{CODE_START, Profile}
 use Rattle.rv_word.proofs.Cases.{cases_Option}
 use Rattle.rv_word.proofs.Profiles.{LaidOut, laid_out}
 use Rattle.cfi_graph.specs.declared.line.GraphLine.{GraphLine}
@@ -133,9 +133,9 @@ unit_range len a None None (Some asked) line here leads known e =
     given (line_in_range len) (Site a asked.kind asked.label) line e (and_from (is_code_address len a) (is_label asked.label) here (known asked refl))
 unit_range len a None None None line here leads known e = absurd (cc)
 
-module _ (p : Profile) (profile : IsProfile p) (version : GraphVersion) (entry : ℕ) (us : List U.Unit) (heads : List GraphLine) (sound : IsSound p version entry us heads) where
+module _ (p : Profile) (version : GraphVersion) (entry : ℕ) (us : List U.Unit) (heads : List GraphLine) (sound : IsSound p version entry us heads) where
   laid : LaidOut p
-  laid = laid_out p profile
+  laid = laid_out p sound.profile
 
   abbrev size : ℕ
   size = 4 * length (placed_code p entry us)
@@ -148,7 +148,7 @@ module _ (p : Profile) (profile : IsProfile p) (version : GraphVersion) (entry :
   start_address : (a : ℕ) (u : U.Unit) → unit_in us p.units_from a ≡ Some u → is_code_address size a ≡ true
   start_address a u e =
       let some = some_word u in
-      let words = length-placed_code p profile entry us in
+      let words = length-placed_code p sound.profile entry us in
       let front = laid.low in
       let even = laid.round in
       let from = (lies us p.units_from a u e).from in
@@ -164,7 +164,7 @@ module _ (p : Profile) (profile : IsProfile p) (version : GraphVersion) (entry :
       ]
 
   opening_address : is_code_address size OPENING ≡ true
-  opening_address = let words = length-placed_code p profile entry us in let front = laid.low in code_address OPENING (omega arith) (omega arith) refl
+  opening_address = let words = length-placed_code p sound.profile entry us in let front = laid.low in code_address OPENING (omega arith) (omega arith) refl
 
   pub placed_graph : IsGraph (record { version = version; code = size; lines = heads }) → IsGraph (record { version = version; code = size; lines = placed_lines p entry us heads })
   placed_graph graph =
@@ -191,4 +191,4 @@ module _ (p : Profile) (profile : IsProfile p) (version : GraphVersion) (entry :
       }
 
 pub placed_is_graph : PlacedIsGraph
-placed_is_graph p version entry us heads profile sound = placed_graph p profile version entry us heads sound
+placed_is_graph = placed_graph

@@ -1,22 +1,24 @@
 -- The lines of placed units: which stands at an address, and that none of them is a class's or the list of
 -- system calls.
-use Rattle.std.proofs.Common.{◌≡◌, ℕ, suc, ◌+◌, ◌*◌, ◌==◌, inl, inr, true, false, List, [], ◌∷◌, ◌++◌, refl, sym, ap, subst, ◌∙◌, Some, None, arith}
-use Rattle.std.specs.Prelude.{Option, IsTrue, ◌&&◌, option_and_then, slice_get, not, if◌then◌else◌}
+use Rattle.std.proofs.Common.{◌≡◌, ℕ, suc, ◌+◌, ◌*◌, ◌<◌, ◌==◌, length, inl, inr, true, false, List, [], ◌∷◌, ◌++◌, refl, sym, ap, subst, ◌∙◌, Some, None, arith}
+use Rattle.std.specs.Prelude.{Option, IsTrue, nat_le, nat_lt, ◌&&◌, ◌||◌, option_and_then, slice_get, not, if◌then◌else◌}
 use Rattle.std.specs.List.{list_all, list_any}
-use Rattle.std.proofs.lemmas.Bool.{and_parts, cases_Bool, cases_eq, eq-eqb, ne_eqb, or_from}
+use Rattle.std.proofs.lemmas.Bool.{and_left, and_parts, and_right, cases_Bool, cases_eq, eq-eqb, lt-leb, ne_eqb, or_from}
 use Rattle.rv_word.specs.declared.version.GraphVersion.{GraphVersion}
-use Rattle.rv_word.specs.MemoryMap.{Profile}
+use Rattle.rv_word.specs.MemoryMap.{CODE_START, Profile}
 use Rattle.cfi_graph.specs.declared.line.GraphLine.{GraphLine}
 use Rattle.cfi_graph.specs.declared.line.GraphLine.TheVariants.{Calls, Leaf, Class, Site, Edge, Call}
 use Rattle.cfi_graph.specs.Graph.{ClassLine, calls_in, class_in}
 use Rattle.cfi_unit.specs.declared.unit.Unit as U
 use Rattle.cfi_unit.specs.declared.place.Place.TheVariants.{Body as body}
 use Rattle.cfi_unit.specs.UnitWords.{word_count}
+use Rattle.cfi_pending.specs.Kinds as kinds
+use Rattle.cfi_pending.specs.Kinds.{in_leaf, leaf_of}
 use Rattle.cfi_rules.specs.Lines.{class_with, holds_of, is_among, leaves_in, line_at, or_class, read_of, stands_at}
 use Rattle.cfi_rules.specs.Placed.{is_head, line_by, line_of, lines_from, with_line}
 use Rattle.cfi_rules.specs.Rules.{Signs, call_of, edge_of, is_borne, lacks_end, lacks_gate, site_of}
 use Rattle.cfi_rules.specs.declared.asks.Asks.{Asks}
-use Rattle.cfi_rules.specs.Split.{unit_in}
+use Rattle.cfi_rules.specs.Split.{is_start, unit_in}
 use Rattle.cfi_unit.proofs.Counts.{some_word}
 use Rattle.cfi_rules.proofs.UnitIn.{in_here, in_later, in_none}
 
@@ -117,15 +119,15 @@ no_leaves [] at = refl
 no_leaves (u ∷ us) at =
     no_leaves_with at (edge_of (body u)) (call_of (body u)) (site_of (body u)) (lines_from (at + 4 * word_count u) us) ∙ no_leaves us (at + 4 * word_count u)
 
-pub leaves_before : (heads rest : List GraphLine) → leaves_in heads ≡ [] → leaves_in rest ≡ [] → leaves_in (heads ++ rest) ≡ []
+pub leaves_before : (heads rest : List GraphLine) → leaves_in rest ≡ [] → leaves_in (heads ++ rest) ≡ leaves_in heads
 unfolding leaves_in
-leaves_before [] rest none later = later
-leaves_before (Leaf from to ∷ heads) rest none later = absurd (cc)
-leaves_before (Calls numbers ∷ heads) rest none later = leaves_before heads rest none later
-leaves_before (Class sort label targets ∷ heads) rest none later = leaves_before heads rest none later
-leaves_before (Site address kind label ∷ heads) rest none later = leaves_before heads rest none later
-leaves_before (Edge from to ∷ heads) rest none later = leaves_before heads rest none later
-leaves_before (Call from to ∷ heads) rest none later = leaves_before heads rest none later
+leaves_before [] rest none = none
+leaves_before (Leaf from to ∷ heads) rest none = ap (λ (leaves : List kinds.Leaf). record { from = from; to = to } ∷ leaves) (leaves_before heads rest none)
+leaves_before (Calls numbers ∷ heads) rest none = leaves_before heads rest none
+leaves_before (Class sort label targets ∷ heads) rest none = leaves_before heads rest none
+leaves_before (Site address kind label ∷ heads) rest none = leaves_before heads rest none
+leaves_before (Edge from to ∷ heads) rest none = leaves_before heads rest none
+leaves_before (Call from to ∷ heads) rest none = leaves_before heads rest none
 
 -- where there are no leaves none lacks an end
 pub ends_stand : (p : Profile) (words : List ℕ) (a : ℕ) (lines : List GraphLine) → leaves_in lines ≡ [] → list_any (lacks_end p words a) lines ≡ false
@@ -137,6 +139,33 @@ ends_stand p words a (Class sort label targets ∷ lines) none = ends_stand p wo
 ends_stand p words a (Site address kind label ∷ lines) none = ends_stand p words a lines none
 ends_stand p words a (Edge from to ∷ lines) none = ends_stand p words a lines none
 ends_stand p words a (Call from to ∷ lines) none = ends_stand p words a lines none
+
+-- nor do leaves that begin and end where units do
+abbrev pub EndsRight : Profile → List ℕ → kinds.Leaf → Type 0
+EndsRight p words leaf = is_start p words leaf.from && (is_start p words leaf.to || (leaf.to == CODE_START + 4 * length words)) ≡ true
+
+pub ends_right : (p : Profile) (words : List ℕ) (a : ℕ) (heads rest : List GraphLine) →
+    ((k : ℕ) (leaf : kinds.Leaf) → slice_get (leaves_in heads) k ≡ Some leaf → EndsRight p words leaf) →
+    list_any (lacks_end p words a) rest ≡ false → list_any (lacks_end p words a) (heads ++ rest) ≡ false
+unfolding leaves_in
+ends_right p words a [] rest right none = none
+ends_right p words a (Leaf from to ∷ heads) rest right none =
+    or_from (lacks_end p words a (Leaf from to)) (list_any (lacks_end p words a) (heads ++ rest))
+    (and_right (from == a) (not (is_start p words from && (is_start p words to || (to == CODE_START + 4 * length words))))
+    (ap not (right 0 (record { from = from; to = to }) refl)))
+    (ends_right p words a heads rest (λ k. right (suc k)) none)
+ends_right p words a (Calls numbers ∷ heads) rest right none = ends_right p words a heads rest right none
+ends_right p words a (Class sort label targets ∷ heads) rest right none = ends_right p words a heads rest right none
+ends_right p words a (Site address kind label ∷ heads) rest right none = ends_right p words a heads rest right none
+ends_right p words a (Edge from to ∷ heads) rest right none = ends_right p words a heads rest right none
+ends_right p words a (Call from to ∷ heads) rest right none = ends_right p words a heads rest right none
+
+-- an address before all leaves is in none
+pub no_leaf_before : (leaves : List kinds.Leaf) (a : ℕ) → ((k : ℕ) (leaf : kinds.Leaf) → slice_get leaves k ≡ Some leaf → a < leaf.from) → leaf_of leaves a ≡ None
+no_leaf_before [] a before = refl
+no_leaf_before (leaf ∷ leaves) a before =
+    let outside : in_leaf a leaf ≡ false = and_left (nat_le leaf.from a) (nat_lt a leaf.to) (lt-leb leaf.from a (before 0 leaf refl)) in
+    ap (λ b. if b then Some leaf else leaf_of leaves a) outside ∙ no_leaf_before leaves a (λ k. before (suc k))
 
 module _ (version : GraphVersion) (signs : Signs) where
   lacks_with : (at a : ℕ) (edge call : Option ℕ) (site : Option Asks) (rest : List GraphLine) →

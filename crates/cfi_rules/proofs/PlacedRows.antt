@@ -1,14 +1,14 @@
 -- Worked codes of placed units: their words are what binutils make of the sources in tests/units, their
 -- lines those of the programs' graphs; when tests of units and classes show that they are sound; and of one
 -- of the codes they do.
-use Rattle.std.proofs.Common.{◌≡◌, ℕ, zero, suc, ◌+◌, ◌==◌, inl, inr, Bool, true, false, List, [], ◌∷◌, refl, sym, ap, subst, ◌∙◌, length, lit<, arith}
-use Rattle.std.specs.Prelude.{Option, Some, None, ◌&&◌, is_some, not, option_and_then, slice_get}
+use Rattle.std.proofs.Common.{◌≡◌, ℕ, zero, suc, ◌+◌, ◌*◌, ◌==◌, inl, inr, Bool, true, false, List, [], ◌∷◌, refl, sym, ap, subst, ◌∙◌, length, lit<, arith}
+use Rattle.std.specs.Prelude.{Option, Some, None, ◌&&◌, ◌||◌, is_some, not, option_and_then, slice_get}
 use Rattle.std.specs.List.{last_or, list_all}
-use Rattle.std.proofs.lemmas.Bool.{and_parts, cases_eq, eqb-true, false≢true, or_cases}
+use Rattle.std.proofs.lemmas.Bool.{and_parts, cases_eq, eqb-true, or_cases}
 use Rattle.std.proofs.lemmas.Option.{same_Some}
 use Rattle.rv_word.specs.declared.version.GraphVersion.{GraphVersion}
 use Rattle.rv_word.specs.declared.version.GraphVersion.TheVariants.{OneLabel}
-use Rattle.rv_word.specs.MemoryMap.{version_1}
+use Rattle.rv_word.specs.MemoryMap.{IsProfile, Profile, version_1}
 use Rattle.rv_instr.specs.declared.instr.Instr.TheVariants.{Upper, Load, Immediate}
 use Rattle.rv_instr.specs.declared.instr.BranchOp.TheVariants.{Beq, Bne}
 use Rattle.rv_instr.specs.declared.instr.ImmediateOp.TheVariants.{Addi}
@@ -31,12 +31,14 @@ use Rattle.cfi_unit.specs.declared.target_word.TargetWord.{TargetWord}
 use Rattle.cfi_unit.specs.declared.target_word.TargetWord.TheVariants.{First, Second, Third}
 use Rattle.cfi_unit.specs.Members.{AreMembers, IsMember}
 use Rattle.cfi_unit.specs.declared.members.Member.{Member}
-use Rattle.cfi_unit.specs.UnitWords.{after_unit, words_of}
+use Rattle.cfi_unit.specs.Flow.{flow_of}
+use Rattle.cfi_unit.specs.UnitWords.{Reaches, after_unit, words_of}
+use Rattle.cfi_pending.specs.Kinds.{IsOfItsKind, Leaf, goes_on, is_enter, is_fresh, is_right_behind, is_right_target, leaf_of, stands_by}
 use Rattle.cfi_rules.specs.declared.asks.Asks.{Asks}
 use Rattle.cfi_rules.specs.Lines.{class_with, holds_of, is_among, is_beside, is_word_of, leaves_in, read_of, targets_for}
 use Rattle.cfi_rules.specs.Placed.{AllAhead, AllFit, code_from, is_head, lines_from, placed_code, placed_lines}
 use Rattle.cfi_rules.specs.Rules.{Signs, admits, gate_of, is_astray, is_borne, is_label, site_of}
-use Rattle.cfi_rules.specs.Sound.{Bears, IsSound, StartsIn, target_of}
+use Rattle.cfi_rules.specs.Sound.{Bears, EndsIn, IsSound, StartsIn, may_be_entered, target_of}
 use Rattle.cfi_rules.specs.Split.{unit_in}
 use Rattle.cfi_rules.proofs.RuleFacts.{gate_is, not_false}
 use Rattle.cfi_rules.proofs.UnitIn.{in_here, in_later}
@@ -183,22 +185,26 @@ each_in test (v ∷ us) at a u all e =
     ]
 
 -- each gate with a class's label is at such a word of a target, each computed transfer has a class, and
--- none is a direct transfer
+-- each direct one leads to a unit
 abbrev pub is_served : List GraphLine → Option Asks → Bool
 is_served classes None = true
 is_served classes (Some asked) = is_some (targets_for classes asked.kind asked.which asked.label)
 
+abbrev pub leads : (ℕ → Option U.Unit) → Option ℕ → Bool
+leads units None = true
+leads units (Some t) = is_some (units t)
+
 abbrev heads_of : GraphVersion → List GraphLine → GraphParts
 heads_of version heads = record { version = version; code = 0; lines = heads }
 
-abbrev pub is_right : GraphVersion → List GraphLine → ℕ → U.Unit → Bool
-is_right version heads a u = not (is_astray (heads_of version heads) a u) && (is_served heads (site_of (body u)) && not (is_some (target_of u)))
+abbrev pub is_right : GraphVersion → List GraphLine → (ℕ → Option U.Unit) → ℕ → U.Unit → Bool
+is_right version heads units a u = not (is_astray (heads_of version heads) a u) && (is_served heads (site_of (body u)) && leads units (target_of u))
 
-right_parts : (version : GraphVersion) (heads : List GraphLine) (a : ℕ) (u : U.Unit) → is_right version heads a u ≡ true →
-    (not (is_astray (heads_of version heads) a u) ≡ true) × (is_served heads (site_of (body u)) ≡ true) × (not (is_some (target_of u)) ≡ true)
-right_parts version heads a u right =
-    let parts = and_parts (not (is_astray (heads_of version heads) a u)) (is_served heads (site_of (body u)) && not (is_some (target_of u))) right in
-    let others = and_parts (is_served heads (site_of (body u))) (not (is_some (target_of u))) parts.1 in
+right_parts : (version : GraphVersion) (heads : List GraphLine) (units : ℕ → Option U.Unit) (a : ℕ) (u : U.Unit) → is_right version heads units a u ≡ true →
+    (not (is_astray (heads_of version heads) a u) ≡ true) × (is_served heads (site_of (body u)) ≡ true) × (leads units (target_of u) ≡ true)
+right_parts version heads units a u right =
+    let parts = and_parts (not (is_astray (heads_of version heads) a u)) (is_served heads (site_of (body u)) && leads units (target_of u)) right in
+    let others = and_parts (is_served heads (site_of (body u))) (leads units (target_of u)) parts.1 in
     (parts.0, others.0, others.1)
 
 listed : (version : GraphVersion) (heads : List GraphLine) (l a : ℕ) (class : ClassLine) → not (is_astray (heads_of version heads) a (V.Gate l)) ≡ true →
@@ -211,21 +217,59 @@ listed version heads l a class right e =
     not_true true same = absurd (cc)
     not_true false same = refl
 
--- each target of a class bears its label, and a unit starts there
-abbrev signs_of : List U.Unit → Signs
-signs_of us = record {
-  starts = λ b. is_some (unit_in us 0x40000040 b);
-  gate = λ b. option_and_then gate_of (unit_in us 0x40000040 b);
-  fresh = λ b. false;
-  enters = λ b. false;
+-- each is of its kind
+abbrev pub is_of_its_kind : (ℕ → Option U.Unit) → List Leaf → ℕ → U.Unit → Bool
+is_of_its_kind units leaves a u =
+    stands_by (leaf_of leaves a) u
+    && ((not (goes_on u) || is_right_behind units leaves (leaf_of leaves a) a u) && is_right_target units leaves a (flow_of u).sites (flow_of u).exit)
+
+of_its_kind : (units : ℕ → Option U.Unit) (leaves : List Leaf) (a : ℕ) (u : U.Unit) → is_of_its_kind units leaves a u ≡ true → IsOfItsKind units leaves a u
+of_its_kind units leaves a u right =
+    let parts = and_parts (stands_by (leaf_of leaves a) u) _ right in
+    let others = and_parts (not (goes_on u) || is_right_behind units leaves (leaf_of leaves a) a u) _ parts.1 in
+    record {
+      stands = parts.0;
+      behind = λ on. goes (goes_on u) (is_right_behind units leaves (leaf_of leaves a) a u) on others.0;
+      target = others.1;
+    }
+  where
+    goes : (on right : Bool) → on ≡ true → not on || right ≡ true → right ≡ true
+    goes true right on either = either
+    goes false right on either = absurd (cc)
+
+-- each leaf begins at a unit, and ends at one or where the last does
+abbrev pub is_ended : Profile → List U.Unit → Leaf → Bool
+is_ended p us leaf =
+    is_some (unit_in us p.units_from leaf.from)
+    && (is_some (unit_in us p.units_from leaf.to) || (leaf.to == p.units_from + 4 * length (code_from p.units_from us)))
+
+ended : (p : Profile) (us : List U.Unit) (leaves : List Leaf) (k : ℕ) (leaf : Leaf) → list_all (is_ended p us) leaves ≡ true → slice_get leaves k ≡ Some leaf →
+    StartsIn p us leaf.from × EndsIn p us leaf.to
+ended p us [] k leaf all e = absurd (cc)
+ended p us (x ∷ leaves) zero leaf all e =
+    let first = (and_parts (is_ended p us x) (list_all (is_ended p us) leaves) all).0 in
+    subst (λ (l : Leaf). StartsIn p us l.from × EndsIn p us l.to) (same_Some x leaf e)
+    (let parts = and_parts (is_some (unit_in us p.units_from x.from)) _ first in (
+      parts.0,
+      elim (or_cases (is_some (unit_in us p.units_from x.to)) (x.to == p.units_from + 4 * length (code_from p.units_from us)) parts.1) [
+        | inl starts ↦ inl starts
+        | inr last ↦ inr (eqb-true x.to (p.units_from + 4 * length (code_from p.units_from us)) last)
+      ],
+    ))
+ended p us (x ∷ leaves) (suc k) leaf all e = ended p us leaves k leaf (and_parts (is_ended p us x) (list_all (is_ended p us) leaves) all).1 e
+
+-- each target of a class bears its label
+abbrev signs_of : (ℕ → Option U.Unit) → List Leaf → Signs
+signs_of units leaves = record {
+  starts = λ b. is_some (units b);
+  gate = λ b. option_and_then gate_of (units b);
+  fresh = is_fresh units leaves;
+  enters = λ b. is_enter (units b);
 }
 
-abbrev pub borne_in : List U.Unit → TargetWord → ℕ → ℕ → Bool
-borne_in us which a label = is_borne (signs_of us) which a label
-
-abbrev pub all_borne : GraphVersion → List U.Unit → Option ClassLine → Bool
-all_borne version us None = true
-all_borne version us (Some class) = list_all (λ a. borne_in us (read_of version class.sort) a class.label) class.targets
+abbrev pub all_borne : GraphVersion → (ℕ → Option U.Unit) → List Leaf → Option ClassLine → Bool
+all_borne version units leaves None = true
+all_borne version units leaves (Some class) = list_all (λ a. is_borne (signs_of units leaves) (read_of version class.sort) a class.label) class.targets
 
 each_among : (test : ℕ → Bool) (ts : List ℕ) (a : ℕ) → list_all test ts ≡ true → is_among a ts ≡ true → test a ≡ true
 each_among test [] a all among = absurd (cc)
@@ -236,48 +280,85 @@ each_among test (t ∷ ts) a all among =
       | inr later ↦ each_among test ts a parts.1 later
     ]
 
-each_class : (version : GraphVersion) (us : List U.Unit) (classes : List GraphLine) (k : ℕ) (class : ClassLine) → list_all (λ line. all_borne version us (class_in line)) classes ≡ true →
-    option_and_then class_in (slice_get classes k) ≡ Some class → all_borne version us (Some class) ≡ true
-each_class version us [] k class all e = absurd (cc)
-each_class version us (line ∷ classes) zero class all e =
-    ap (all_borne version us) (sym e) ∙ (and_parts (all_borne version us (class_in line)) (list_all (λ other. all_borne version us (class_in other)) classes) all).0
-each_class version us (line ∷ classes) (suc k) class all e =
-    each_class version us classes k class (and_parts (all_borne version us (class_in line)) (list_all (λ other. all_borne version us (class_in other)) classes) all).1 e
+each_class : (test : Option ClassLine → Bool) (classes : List GraphLine) (k : ℕ) (class : ClassLine) → list_all (λ line. test (class_in line)) classes ≡ true →
+    option_and_then class_in (slice_get classes k) ≡ Some class → test (Some class) ≡ true
+each_class test [] k class all e = absurd (cc)
+each_class test (line ∷ classes) zero class all e =
+    ap test (sym e) ∙ (and_parts (test (class_in line)) (list_all (λ other. test (class_in other)) classes) all).0
+each_class test (line ∷ classes) (suc k) class all e =
+    each_class test classes k class (and_parts (test (class_in line)) (list_all (λ other. test (class_in other)) classes) all).1 e
 
-bears : (us : List U.Unit) (which : TargetWord) (a label : ℕ) → borne_in us which a label ≡ true → Bears version_1 us which a label
-bears us First a label borne =
-    gate_is (unit_in us 0x40000040 a) label (and_parts (is_label (option_and_then gate_of (unit_in us 0x40000040 a)) label) true borne).0
-bears us Second a label borne =
-    let parts = and_parts (is_some (unit_in us 0x40000040 a)) (is_label (option_and_then gate_of (unit_in us 0x40000040 (a + 4))) label) borne in
-    (parts.0, gate_is (unit_in us 0x40000040 (a + 4)) label parts.1)
-bears us Third a label borne =
-    absurd (false≢true (and_parts (is_label (option_and_then gate_of (unit_in us 0x40000040 (a + 8))) label) false borne).1)
+bears : (p : Profile) (us : List U.Unit) (leaves : List Leaf) (which : TargetWord) (a label : ℕ) → is_borne (signs_of (unit_in us p.units_from) leaves) which a label ≡ true →
+    Bears p us leaves which a label
+bears p us leaves First a label borne =
+    let parts = and_parts (is_label (option_and_then gate_of (unit_in us p.units_from a)) label) _ borne in
+    (gate_is (unit_in us p.units_from a) label parts.0, parts.1)
+bears p us leaves Second a label borne =
+    let parts = and_parts (is_some (unit_in us p.units_from a)) (is_label (option_and_then gate_of (unit_in us p.units_from (a + 4))) label) borne in
+    (parts.0, gate_is (unit_in us p.units_from (a + 4)) label parts.1)
+bears p us leaves Third a label borne =
+    let parts = and_parts (is_label (option_and_then gate_of (unit_in us p.units_from (a + 8))) label) _ borne in
+    (gate_is (unit_in us p.units_from (a + 8)) label parts.0, parts.1)
 
 -- so units of which these tests hold are sound
-pub sound_by : (version : GraphVersion) (us : List U.Unit) (heads : List GraphLine) → has_leaves version ≡ false → leaves_in heads ≡ [] →
-    AllFit 0x40000040 us → AllAhead 0x40000040 us → StartsIn version_1 us 0x40000040 →
-    all_from (λ a. admits version (calls_in heads)) 0x40000040 us ≡ true → all_from (is_right version heads) 0x40000040 us ≡ true → list_all is_head heads ≡ true →
-    list_all (λ line. all_borne version us (class_in line)) heads ≡ true → last_or None us ≡ Some V.Stop → IsSound version_1 version 0x40000040 us heads
-sound_by version us heads full none fit ahead begun admitted right are_heads borne ends =
-    let right_there = λ (a : ℕ) (u : U.Unit) (here : unit_in us 0x40000040 a ≡ Some u). right_parts version heads a u (each_in (is_right version heads) us 0x40000040 a u right here) in
+pub record AreRight (p : Profile) (version : GraphVersion) (entry : ℕ) (us : List U.Unit) (heads : List GraphLine) : Type 0 where
+  pub profile_is : IsProfile p
+  pub saves_so : p.callee_saves ≡ has_leaves version
+  pub each_fit : AllFit p.units_from us
+  pub each_ahead : AllAhead p.units_from us
+  pub each_admitted : all_from (λ a. admits version (calls_in heads)) p.units_from us ≡ true
+  pub each_right : all_from (is_right version heads (unit_in us p.units_from)) p.units_from us ≡ true
+  pub each_kind : all_from (is_of_its_kind (unit_in us p.units_from) (leaves_in heads)) p.units_from us ≡ true
+  pub each_ended : list_all (is_ended p us) (leaves_in heads) ≡ true
+  pub reached : Reaches p.opening_call entry
+  pub called : may_be_entered p.callee_saves (unit_in us p.units_from) (leaves_in heads) entry ≡ true
+  pub begun : StartsIn p us entry
+  pub all_heads : list_all is_head heads ≡ true
+  pub borne : list_all (λ line. all_borne version (unit_in us p.units_from) (leaves_in heads) (class_in line)) heads ≡ true
+  pub stops : last_or None us ≡ Some V.Stop
+
+pub sound_by : (p : Profile) (version : GraphVersion) (entry : ℕ) (us : List U.Unit) (heads : List GraphLine) → AreRight p version entry us heads → IsSound p version entry us heads
+sound_by p version entry us heads are =
+    let right_there = λ (a : ℕ) (u : U.Unit) (here : unit_in us p.units_from a ≡ Some u).
+    right_parts version heads (unit_in us p.units_from) a u (each_in (is_right version heads (unit_in us p.units_from)) us p.units_from a u are.each_right here) in
     record {
-      full = inl refl;
-      version_full = full;
-      no_leaves = none;
-      fit = fit;
-      ahead = ahead;
-      admitted = λ a u here. each_in (λ b. admits version (calls_in heads)) us 0x40000040 a u admitted here;
-      entry_reached = refl;
-      entry_starts = begun;
-      targets = λ a t u here leads. absurd (false≢true (ap (λ o. not (is_some o)) (sym leads) ∙ (right_there a u here).2));
-      heads_are = are_heads;
+      profile = are.profile_is;
+      saves = are.saves_so;
+      fit = are.each_fit;
+      ahead = are.each_ahead;
+      admitted = λ a u here. each_in (λ b. admits version (calls_in heads)) us p.units_from a u are.each_admitted here;
+      kinds = λ a u here.
+          of_its_kind (unit_in us p.units_from) (leaves_in heads) a u
+          (each_in (is_of_its_kind (unit_in us p.units_from) (leaves_in heads)) us p.units_from a u are.each_kind here);
+      leaves = λ k leaf get. ended p us (leaves_in heads) k leaf are.each_ended get;
+      entry_reached = are.reached;
+      entry_called = are.called;
+      entry_starts = are.begun;
+      targets = λ a t u here to. ap (leads (unit_in us p.units_from)) (sym to) ∙ (right_there a u here).2;
+      heads_are = are.all_heads;
       labels = λ a u asked here is. ap (is_served heads) (sym is) ∙ (right_there a u here).1;
-      gates = λ k a class is among. bears us (read_of version class.sort) a class.label
-          (each_among (λ b. borne_in us (read_of version class.sort) b class.label) class.targets a (each_class version us heads k class borne is) among);
+      gates = λ k a class is among. bears p us (leaves_in heads) (read_of version class.sort) a class.label
+          (each_among (λ b. is_borne (signs_of (unit_in us p.units_from) (leaves_in heads)) (read_of version class.sort) b class.label) class.targets a
+          (each_class (all_borne version (unit_in us p.units_from) (leaves_in heads)) heads k class are.borne is) among);
       astray = λ l a class here is. listed version heads l a class (right_there a (V.Gate l) here).0 is;
-      ends = ends;
+      ends = are.stops;
     }
 
 p_sound : IsSound version_1 OneLabel 0x40000040 p_units p_classes
 unfolding all_from class_with targets_for unit_in leaves_in
-p_sound = sound_by OneLabel p_units p_classes refl refl p_fit p_ahead refl refl refl refl refl refl
+p_sound = sound_by version_1 OneLabel 0x40000040 p_units p_classes (record {
+  profile_is = inl (inl refl);
+  saves_so = refl;
+  each_fit = p_fit;
+  each_ahead = p_ahead;
+  each_admitted = refl;
+  each_right = refl;
+  each_kind = refl;
+  each_ended = refl;
+  reached = refl;
+  called = refl;
+  begun = refl;
+  all_heads = refl;
+  borne = refl;
+  stops = refl;
+})

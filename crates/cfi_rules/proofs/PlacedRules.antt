@@ -1,20 +1,15 @@
 -- A code of placed units that are sound, with their lines, meets each rule.
 use Rattle.std.proofs.Common.{◌≡◌, ◌≢◌, ℕ, ◌+◌, ◌*◌, ◌%◌, ◌≤◌, ◌<◌, ◌==◌, inl, inr, Bool, true, false, List, [], ◌∷◌, length, refl, sym, ap, subst, ◌∙◌, Some, None, arith}
-use Rattle.std.specs.Prelude.{Option, nat_le, nat_lt, not, ◌&&◌, ◌||◌, is_some, option_and_then, option_map}
+use Rattle.std.specs.Prelude.{Option, slice_get, nat_le, nat_lt, not, ◌&&◌, ◌||◌, is_some, option_and_then, option_map}
 use Rattle.std.specs.List.{last_or, list_any}
-use Rattle.std.specs.Option.{option_or}
-use Rattle.std.proofs.lemmas.Bool.{and_from, and_parts, and_right, and_left, cases_Bool, cases_eq, eq-eqb, le-ltb, lt-leb, ne_eqb, or_from, or_right}
+use Rattle.std.proofs.lemmas.Bool.{and_from, and_parts, and_right, and_left, cases_Bool, cases_eq, eq-eqb, le-ltb, lt-leb, ne_eqb, or_from, or_left, or_right}
 use Rattle.std.proofs.lemmas.Option.{same_Some}
 use Rattle.rv_word.specs.declared.version.GraphVersion.{GraphVersion}
-use Rattle.rv_word.specs.declared.version.GraphVersion.TheVariants.{OneLabel, TwoLabels, CalleeSaves}
 use Rattle.rv_word.specs.MemoryMap.{CODE_START, Profile}
 use Rattle.rv_word.proofs.Cases.{cases_Option, guarded}
-use Rattle.rv_word.proofs.Profiles.{full_saves}
 use Rattle.cfi_graph.specs.declared.line.GraphLine.{GraphLine}
 use Rattle.cfi_graph.specs.declared.line.GraphLine.TheVariants.{Call}
 use Rattle.cfi_graph.specs.declared.line.SiteKind.{SiteKind}
-use Rattle.cfi_graph.specs.declared.line.Sort.{Sort}
-use Rattle.cfi_graph.specs.declared.line.Sort.TheVariants.{Both, Calls, Jumps}
 use Rattle.cfi_graph.specs.declared.line.SiteKind.TheVariants as K
 use Rattle.cfi_unit.specs.declared.unit.Unit as U
 use Rattle.cfi_unit.specs.declared.unit.Unit.TheVariants as V
@@ -27,39 +22,26 @@ use Rattle.cfi_unit.specs.Flow as F
 use Rattle.cfi_unit.specs.Flow.{Flow, flow_of}
 use Rattle.cfi_unit.specs.Prologue.{OPENING}
 use Rattle.cfi_unit.specs.Split.{IsSplit}
-use Rattle.cfi_unit.specs.Templates.{is_full}
-use Rattle.cfi_unit.specs.UnitWords.{after_unit, word_count}
+use Rattle.cfi_unit.specs.UnitWords.{word_count}
 use Rattle.cfi_pending.specs.Kinds as kinds
-use Rattle.cfi_pending.specs.Kinds.{goes_on, is_enter, is_fresh, is_gate, is_gate_there, is_right_behind, leaf_of, stands_by}
+use Rattle.cfi_pending.specs.Kinds.{IsOfItsKind, goes_on, is_enter, is_fresh, is_right_behind, is_right_target, leaf_of, may_be_called, may_be_reached, stands_by}
 use Rattle.cfi_pending.specs.StartLaw.{stands_in}
 use Rattle.cfi_rules.specs.Lines.{class_with, holds_of, if_serves, is_beside, is_word_of, leaves_in, line_at, read_of, targets_for}
 use Rattle.cfi_rules.specs.Placed.{code_from, line_by, line_of, lines_from, placed_lines}
 use Rattle.cfi_rules.specs.Rules.{Holds, Signs, admits, admitted_in, asked_by, asks, call_by, call_of, edge_by, edge_of, fails_prologue, gate_of, goes_wrong, is_astray, is_bad_end, is_borne, is_call_to, is_edge_to, is_label, is_lone_site, is_of_version, is_site_with, is_stop, is_unused, lacks_end, may_call, may_call_to, may_go, may_stand_at, signs_in, site_of, test_is_of_version}
-use Rattle.cfi_rules.specs.Sound.{Bears, IsSound, StartsIn}
+use Rattle.cfi_rules.specs.Sound.{Bears, IsSound, StartsIn, may_be_entered, target_of}
 use Rattle.cfi_rules.specs.Split.{entry_of, is_handler, is_start, place_at, unit_at, unit_in, unit_starts, unit_words}
 use Rattle.cfi_rules.specs.declared.asks.Asks.{Asks}
 use Rattle.cfi_rules.specs.declared.reject.Rule.{Rule}
 use Rattle.cfi_rules.specs.declared.reject.Rule.TheVariants as R
 use Rattle.cfi_unit.proofs.Counts.{some_word}
 use Rattle.cfi_unit.proofs.Flows.{Suits, suits, untested, direct_call, computed_jump, computed_call, linking_call, linking_computed_call}
-use Rattle.cfi_rules.proofs.PlacedLines.{calls_before, class_before, ends_stand, gates_stand, leaves_before, line_in, line_past, no_class, no_leaves, none_lacks}
+use Rattle.cfi_rules.proofs.PlacedLines.{EndsRight, calls_before, class_before, ends_right, ends_stand, gates_stand, leaves_before, line_in, line_past, no_class, no_leaf_before, no_leaves, none_lacks}
 use Rattle.cfi_rules.proofs.Places.{not_handler}
 use Rattle.cfi_rules.proofs.PlacedSplit.{reaches_end, start_is, unit_is}
 use Rattle.cfi_rules.proofs.UnitIn.{in_here, in_later, length-code_from, lies}
 
-abbrev is_third : TargetWord → Bool
-is_third Third = true
-is_third other = false
-
 -- the rules at a unit, by its flow
-target_flow : (f : Flow) → Suits f → (goes calls : ℕ → Bool) → ((t : ℕ) → option_or (edge_by f.sites f.exit) (call_by f.sites f.exit) ≡ Some t → (goes t ≡ true) × (calls t ≡ true)) →
-    holds_of (edge_by f.sites f.exit) (λ t. not (goes t)) || holds_of (call_by f.sites f.exit) (λ t. not (calls t)) ≡ false
-target_flow f (untested (F.either op rs1 rs2 met target) act is) goes calls starts = rw ((starts target refl).0) refl
-target_flow f (untested (F.to target) act is) goes calls starts = rw ((starts target refl).0) refl
-target_flow f (direct_call target) goes calls starts = rw ((starts target refl).1) refl
-target_flow f (linking_call target) goes calls starts = rw ((starts target refl).1) refl
-target_flow f other goes calls starts = refl
-
 abbrev line_with : Flow → ℕ → Option GraphLine
 line_with f a = line_by a (edge_by f.sites f.exit) (call_by f.sites f.exit) (asked_by f.test f.sites)
 
@@ -99,25 +81,33 @@ astray_unit (V.Gate label) a graph listed =
     ]
 astray_unit other a graph listed = refl
 
--- where callers save sites each unit stands at a saved start, and saves no site of its own
-full_stands : (u : U.Unit) → is_full u ≡ true → stands_by None u ≡ true
-full_stands V.Enter full = absurd (cc)
-full_stands V.LeafReturn full = absurd (cc)
-full_stands other full = refl
+-- a transfer to a start of its kind goes where it may
+module _ (p : Profile) (words : List ℕ) (leaves : List kinds.Leaf) (a : ℕ) where
+  reached : (t : ℕ) → is_start p words t ≡ true → may_be_reached (unit_at p words) leaves (leaf_of leaves a) t ≡ true → not (may_go p words leaves a t) ≡ false
+  reached t starts right = ap not (and_from (is_start p words t) (may_be_reached (unit_at p words) leaves (leaf_of leaves a) t) starts right)
 
-full_enters : (u : U.Unit) → is_full u ≡ true → is_enter (Some u) ≡ false
-full_enters V.Enter full = absurd (cc)
-full_enters other full = refl
+  called : (t : ℕ) → is_start p words t ≡ true → may_be_called (unit_at p words) leaves t ≡ true → not (may_call_to true p words leaves a t) ≡ false
+  called t starts right = ap not (and_from (is_start p words t) (may_be_called (unit_at p words) leaves t) starts right)
 
--- and a gate of a class is no third word of a target
-borne_first : (version : GraphVersion) → has_leaves version ≡ false → (sort : Sort) → is_third (read_of version sort) ≡ false
-borne_first OneLabel none Both = refl
-borne_first OneLabel none Calls = refl
-borne_first OneLabel none Jumps = refl
-borne_first TwoLabels none Both = refl
-borne_first TwoLabels none Calls = refl
-borne_first TwoLabels none Jumps = refl
-borne_first CalleeSaves none sort = absurd (cc)
+  target_unit : (callee : Bool) (u : U.Unit) → stands_in callee u ≡ true → is_right_target (unit_at p words) leaves a (flow_of u).sites (flow_of u).exit ≡ true →
+      ((t : ℕ) → target_of u ≡ Some t → is_start p words t ≡ true) →
+      holds_of (edge_of (body u)) (λ t. not (may_go p words leaves a t)) || holds_of (call_of (body u)) (λ t. not (may_call_to callee p words leaves a t)) ≡ false
+  target_unit callee (V.Branch op rs1 rs2 t) stands right starts = or_from _ false (reached t (starts t refl) right) refl
+  target_unit callee (V.Near op rs1 rs2 t) stands right starts = or_from _ false (reached t (starts t refl) right) refl
+  target_unit callee (V.Jump t) stands right starts = or_from _ false (reached t (starts t refl) right) refl
+  target_unit false (V.Call t) stands right starts = reached t (starts t refl) right
+  target_unit true (V.Call t) stands right starts = absurd (cc)
+  target_unit false (V.LinkCall t) stands right starts = absurd (cc)
+  target_unit true (V.LinkCall t) stands right starts = called t (starts t refl) right
+  target_unit callee other stands right starts = refl
+
+  -- and so does the opening
+  opening_goes : (callee : Bool) (entry : ℕ) → leaf_of leaves a ≡ None → is_start p words entry ≡ true → may_be_entered callee (unit_at p words) leaves entry ≡ true →
+      may_call_to callee p words leaves a entry ≡ true
+  opening_goes true entry outside starts right = and_from (is_start p words entry) (may_be_called (unit_at p words) leaves entry) starts right
+  opening_goes false entry outside starts right =
+      and_from (is_start p words entry) (may_be_reached (unit_at p words) leaves (leaf_of leaves a) entry) starts
+      (ap (λ o. may_be_reached (unit_at p words) leaves o entry) outside ∙ right)
 
 -- the unit that ends the words is the last
 last_ends : (us : List U.Unit) (at a : ℕ) (u : U.Unit) → unit_in us at a ≡ Some u → a + 4 * word_count u ≡ at + 4 * length (code_from at us) → last_or None us ≡ Some u
@@ -211,7 +201,7 @@ module _ (p : Profile) (words : List ℕ) (version : GraphVersion) (entry : ℕ)
 
   -- what stands at an address, and its line
   data Spot (a : ℕ) : Type 0 where
-    opens : place_at p words a ≡ Some (opening entry) → line_at the_lines a ≡ Some (Call OPENING entry) → Spot a
+    opens : a ≡ OPENING → place_at p words a ≡ Some (opening entry) → line_at the_lines a ≡ Some (Call OPENING entry) → Spot a
     stands : (u : U.Unit) → unit_in us p.units_from a ≡ Some u → place_at p words a ≡ Some (body u) → line_at the_lines a ≡ line_of a u → Spot a
     quiet : option_and_then edge_of (place_at p words a) ≡ None → option_and_then call_of (place_at p words a) ≡ None →
         option_and_then site_of (place_at p words a) ≡ None → line_at the_lines a ≡ None → Spot a
@@ -220,7 +210,7 @@ module _ (p : Profile) (words : List ℕ) (version : GraphVersion) (entry : ℕ)
   spot a =
       elim (cases_Option (unit_in us p.units_from a)) [
         | inl none ↦ elim (cases_eq a OPENING) [
-          | inl here ↦ subst Spot (sym here) (opens opening_at line_opening)
+          | inl here ↦ subst Spot (sym here) (opens refl opening_at line_opening)
           | inr other ↦ quiet (calm edge_of a refl refl other none) (calm call_of a refl refl other none) (calm site_of a refl refl other none)
               (line_there a other ∙ ap (option_and_then (line_of a)) none)
         ]
@@ -234,64 +224,97 @@ module _ (p : Profile) (words : List ℕ) (version : GraphVersion) (entry : ℕ)
   begun : (a : ℕ) → StartsIn p us a → is_start p words a ≡ true
   begun a some = start a ∙ some
 
-  -- each unit is one of code whose callers save sites
-  full : (a : ℕ) (u : U.Unit) → unit_in us p.units_from a ≡ Some u → is_full u ≡ true
-  full a u e =
-      let admits_it = and_parts (is_of_version version u) (may_call (calls_in heads) u) (sound.admitted a u e) in
-      let stands = and_parts (stands_in (has_leaves version) u) (test_is_of_version version (flow_of u).test (flow_of u).sites) admits_it.0 in
-      sym (ap (λ leaves. stands_in leaves u) sound.version_full) ∙ stands.0
+  abbrev the_leaves : List kinds.Leaf
+  the_leaves = leaves_in the_lines
 
-  -- so no start is fresh
-  never_enters : (a : ℕ) → is_enter (unit_at p words a) ≡ false
-  never_enters a =
-      elim (cases_Option (unit_in us p.units_from a)) [
-        | inl none ↦ ap is_enter (unit a ∙ none)
-        | inr (u, e) ↦ ap is_enter (unit a ∙ e) ∙ full_enters u (full a u e)
-      ]
-
-  leaves_are : leaves_in the_lines ≡ []
+  leaves_are : the_leaves ≡ leaves_in heads
   unfolding leaves_in
-  leaves_are = leaves_before heads (Call OPENING entry ∷ lines_from p.units_from us) sound.no_leaves (no_leaves us p.units_from)
+  leaves_are = leaves_before heads (Call OPENING entry ∷ lines_from p.units_from us) (no_leaves us p.units_from)
 
-  never_fresh : (a : ℕ) → is_fresh (unit_at p words) [] a ≡ false
-  never_fresh a = rw (never_enters a, never_enters (a + 4)) (and_right (is_gate_there (unit_at p words a)) false refl)
+  -- each unit is of its kind in the code
+  units_are : unit_in us p.units_from ≡ unit_at p words
+  units_are = λ i a. sym (unit a) i
 
-  reached : (a t : ℕ) → StartsIn p us t → may_go p words (leaves_in the_lines) a t ≡ true
-  reached a t some =
-      subst (λ (leaves : List kinds.Leaf). may_go p words leaves a t ≡ true) (sym leaves_are)
-      (and_from (is_start p words t) (not (is_fresh (unit_at p words) [] t)) (begun t some) (ap not (never_fresh t)))
+  in_code : (P : (ℕ → Option U.Unit) → List kinds.Leaf → Type 0) → P (unit_in us p.units_from) (leaves_in heads) → P (unit_at p words) the_leaves
+  in_code P is =
+      subst (λ (leaves : List kinds.Leaf). P (unit_at p words) leaves) (sym leaves_are)
+      (subst (λ (units : ℕ → Option U.Unit). P units (leaves_in heads)) units_are is)
 
-  called : (a t : ℕ) → StartsIn p us t → may_call_to p.callee_saves p words (leaves_in the_lines) a t ≡ true
-  called a t some = ap (λ callee. may_call_to callee p words (leaves_in the_lines) a t) (full_saves p sound.full) ∙ reached a t some
+  of_its_kind : (a : ℕ) (u : U.Unit) → unit_in us p.units_from a ≡ Some u → IsOfItsKind (unit_at p words) the_leaves a u
+  of_its_kind a u e = in_code (λ units leaves. IsOfItsKind units leaves a u) (sound.kinds a u e)
+
+  -- leaves begin and end where units do
+  ends_there : (k : ℕ) (leaf : kinds.Leaf) → slice_get (leaves_in heads) k ≡ Some leaf → EndsRight p words leaf
+  ends_there k leaf get =
+      let ends = sound.leaves k leaf get in
+      and_from (is_start p words leaf.from) (is_start p words leaf.to || (leaf.to == CODE_START + 4 * length words)) (begun leaf.from ends.0)
+      (elim ends.1 [
+        | inl starts ↦ or_left (is_start p words leaf.to) _ (begun leaf.to starts)
+        | inr last ↦ or_right (is_start p words leaf.to) (leaf.to == CODE_START + 4 * length words)
+            (eq-eqb leaf.to (CODE_START + 4 * length words) (last ∙ sym placed.size))
+      ])
 
   leaf_holds : Holds p words the_graph R.Leaf
+  unfolding leaves_in
   leaf_holds a =
-      or_from (list_any (lacks_end p words a) the_lines) (holds_of (unit_at p words a) (goes_wrong p words (leaves_in the_lines) a))
-      (ends_stand p words a the_lines leaves_are)
+      or_from (list_any (lacks_end p words a) the_lines) (holds_of (unit_at p words a) (goes_wrong p words the_leaves a))
+      (ends_right p words a heads (Call OPENING entry ∷ lines_from p.units_from us) ends_there
+      (ends_stand p words a (Call OPENING entry ∷ lines_from p.units_from us) (no_leaves us p.units_from)))
       (elim (cases_Option (unit_in us p.units_from a)) [
         | inl none ↦ rw (unit a ∙ none) refl
-        | inr (u, e) ↦ rw (unit a ∙ e) (subst (λ (leaves : List kinds.Leaf). goes_wrong p words leaves a u ≡ false) (sym leaves_are) (goes_right a u))
+        | inr (u, e) ↦ rw (unit a ∙ e) (goes_right a u e)
       ])
     where
-      goes_right : (a : ℕ) (u : U.Unit) → goes_wrong p words [] a u ≡ false
-      goes_right a u =
-          and_right (goes_on u) (not (is_right_behind (unit_at p words) [] None a u))
-          (ap not (or_right (is_gate u && is_enter (unit_at p words (a + 4))) (not (is_fresh (unit_at p words) [] (after_unit u a))) (ap not (never_fresh (after_unit u a)))))
+      goes_right : (a : ℕ) (u : U.Unit) → unit_in us p.units_from a ≡ Some u → goes_wrong p words the_leaves a u ≡ false
+      goes_right a u e =
+          elim (cases_Bool (goes_on u)) [
+            | inl on ↦ and_right (goes_on u) (not (is_right_behind (unit_at p words) the_leaves (leaf_of the_leaves a) a u)) (ap not ((of_its_kind a u e).behind on))
+            | inr ends ↦ and_left (goes_on u) (not (is_right_behind (unit_at p words) the_leaves (leaf_of the_leaves a) a u)) ends
+          ]
+
+  -- the opening stands before all leaves
+  opening_outside : leaf_of the_leaves OPENING ≡ None
+  opening_outside =
+      ap (λ (leaves : List kinds.Leaf). leaf_of leaves OPENING) leaves_are
+      ∙ no_leaf_before (leaves_in heads) OPENING (λ k leaf get.
+      let (u, e) = some_unit leaf.from (sound.leaves k leaf get).0 in
+      let from = (lies us p.units_from leaf.from u e).from in
+      let closing = placed.closing_after in
+      let units = placed.units_after in
+      omega arith)
+    where
+      some_unit : (a : ℕ) → StartsIn p us a → (u : U.Unit) × (unit_in us p.units_from a ≡ Some u)
+      some_unit a starts =
+          elim (cases_Option (unit_in us p.units_from a)) [
+            | inl none ↦ let no : false ≡ true = ap is_some (sym none) ∙ starts in absurd (cc)
+            | inr found ↦ found
+          ]
+
+  opening_right : may_call_to p.callee_saves p words the_leaves OPENING entry ≡ true
+  opening_right =
+      opening_goes p words the_leaves OPENING p.callee_saves entry opening_outside (begun entry sound.entry_starts)
+      (in_code (λ units leaves. may_be_entered p.callee_saves units leaves entry ≡ true) sound.entry_called)
+
+  -- each unit is one of code whose callees, or whose callers, save sites
+  stands_here : (a : ℕ) (u : U.Unit) → unit_in us p.units_from a ≡ Some u → stands_in p.callee_saves u ≡ true
+  stands_here a u e =
+      let admits_it = and_parts (is_of_version version u) (may_call (calls_in heads) u) (sound.admitted a u e) in
+      ap (λ callee. stands_in callee u) sound.saves
+      ∙ (and_parts (stands_in (has_leaves version) u) (test_is_of_version version (flow_of u).test (flow_of u).sites) admits_it.0).0
 
   target_holds : Holds p words the_graph R.Target
   target_holds a =
       elim (spot a) [
-        | opens place line ↦ rw (place, called a entry sound.entry_starts) refl
+        | opens here place line ↦ rw (place, ap (λ b. may_call_to p.callee_saves p words the_leaves b entry) here ∙ opening_right) refl
         | stands u here place line ↦ rw place
-            (target_flow (flow_of u) (suits u) (may_go p words (leaves_in the_lines) a) (may_call_to p.callee_saves p words (leaves_in the_lines) a)
-            (λ t leads. let starts = sound.targets a t u here leads in (reached a t starts, called a t starts)))
+            (target_unit p words the_leaves a p.callee_saves u (stands_here a u here) (of_its_kind a u here).target (λ t leads. begun t (sound.targets a t u here leads)))
         | quiet edge call site line ↦ rw (edge, call) refl
       ]
 
   unlisted_holds : Holds p words the_graph R.Unlisted
   unlisted_holds a =
       elim (spot a) [
-        | opens place line ↦ rw (place, line, eq-eqb entry entry refl) refl
+        | opens here place line ↦ rw (place, line, eq-eqb entry entry refl) refl
         | stands u here place line ↦ rw (place, line) (unlisted_flow (flow_of u) (suits u) a)
         | quiet edge call site line ↦ rw (edge, call) refl
       ]
@@ -299,7 +322,7 @@ module _ (p : Profile) (words : List ℕ) (version : GraphVersion) (entry : ℕ)
   unused_holds : Holds p words the_graph R.Unused
   unused_holds a =
       elim (spot a) [
-        | opens place line ↦ rw (line, place) refl
+        | opens here place line ↦ rw (line, place) refl
         | stands u here place line ↦ rw (line, place) (unused_flow (flow_of u) (suits u) (body u) a refl refl)
         | quiet edge call site line ↦ rw line refl
       ]
@@ -307,30 +330,31 @@ module _ (p : Profile) (words : List ℕ) (version : GraphVersion) (entry : ℕ)
   site_holds : Holds p words the_graph R.Site
   site_holds a =
       elim (spot a) [
-        | opens place line ↦ rw (place, line) refl
+        | opens here place line ↦ rw (place, line) refl
         | stands u here place line ↦ rw (place, line)
             (site_flow (flow_of u) (suits u) (body u) a the_lines refl (λ asked is. ap is_some (targets_are asked.kind asked.which asked.label) ∙ sound.labels a u asked here is))
         | quiet edge call site line ↦ rw (site, line) refl
       ]
 
   abbrev the_signs : Signs
-  the_signs = signs_in p words (leaves_in the_lines)
+  the_signs = signs_in p words the_leaves
 
   gate_there : (a label : ℕ) → unit_in us p.units_from a ≡ Some (V.Gate label) → is_label (the_signs.gate a) label ≡ true
   gate_there a label here = ap (λ o. is_label (option_and_then gate_of o) label) (unit a ∙ here) ∙ eq-eqb label label refl
 
-  borne : (which : TargetWord) (a label : ℕ) → is_third which ≡ false → Bears p us which a label → is_borne the_signs which a label ≡ true
-  borne First a label first bears =
-      and_from (is_label (the_signs.gate a) label) (not (the_signs.fresh a)) (gate_there a label bears)
-      (ap not (ap (λ (leaves : List kinds.Leaf). is_fresh (unit_at p words) leaves a) leaves_are ∙ never_fresh a))
-  borne Second a label second bears =
+  borne : (which : TargetWord) (a label : ℕ) → Bears p us (leaves_in heads) which a label → is_borne the_signs which a label ≡ true
+  borne First a label bears =
+      and_from (is_label (the_signs.gate a) label) (not (the_signs.fresh a)) (gate_there a label bears.0)
+      (in_code (λ units leaves. not (is_fresh units leaves a) ≡ true) bears.1)
+  borne Second a label bears =
       and_from (the_signs.starts a) (is_label (the_signs.gate (a + 4)) label) (ap is_some (unit a) ∙ bears.0) (gate_there (a + 4) label bears.1)
-  borne Third a label third bears = absurd (cc)
+  borne Third a label bears =
+      and_from (is_label (the_signs.gate (a + 8)) label) (the_signs.enters (a + 12)) (gate_there (a + 8) label bears.0) (ap is_enter (unit (a + 12)) ∙ bears.1)
 
   gate_holds : Holds p words the_graph R.Gate
   gate_holds a =
       gates_stand version the_signs heads (Call OPENING entry ∷ lines_from p.units_from us) a
-      (λ k class is among. borne (read_of version class.sort) a class.label (borne_first version sound.version_full class.sort) (sound.gates k a class is among))
+      (λ k class is among. borne (read_of version class.sort) a class.label (sound.gates k a class is among))
       (none_lacks version the_signs us p.units_from a)
 
   astray_holds : Holds p words the_graph R.Astray
@@ -345,7 +369,7 @@ module _ (p : Profile) (words : List ℕ) (version : GraphVersion) (entry : ℕ)
   stands_there a u e =
       and_from (admitted_in the_graph u) (stands_by (leaf_of (leaves_in the_lines) a) u)
       (ap (λ calls. admits version calls u) calls_are ∙ sound.admitted a u e)
-      (ap (λ (leaves : List kinds.Leaf). stands_by (leaf_of leaves a) u) leaves_are ∙ full_stands u (full a u e))
+      (of_its_kind a u e).stands
 
   unit_holds : Holds p words the_graph R.Unit
   unit_holds a =

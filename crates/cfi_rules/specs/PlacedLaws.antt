@@ -41,7 +41,7 @@ PlacedEntry =
 -- the lines of sound units and heads are a graph's of this code, where the heads alone are
 abbrev pub PlacedIsGraph : Type 0
 PlacedIsGraph =
-    (p : Profile) (version : GraphVersion) (entry : ℕ) (units : List U.Unit) (heads : List GraphLine) → IsProfile p → IsSound p version entry units heads →
+    (p : Profile) (version : GraphVersion) (entry : ℕ) (units : List U.Unit) (heads : List GraphLine) → IsSound p version entry units heads →
     IsGraph (record { version = version; code = 4 * length (placed_code p entry units); lines = heads }) →
     IsGraph (record { version = version; code = 4 * length (placed_code p entry units); lines = placed_lines p entry units heads })
 
@@ -49,6 +49,6 @@ PlacedIsGraph =
 abbrev pub PlacedIsWellFormed : Type 0
 PlacedIsWellFormed =
     (p : Profile) (entry : ℕ) (units : List U.Unit) (heads : List GraphLine) (image : Contents) (graph : GraphParts) →
-    IsProfile p → IsSound p graph.version entry units heads → code_words image.code ≡ placed_code p entry units →
+    IsSound p graph.version entry units heads → code_words image.code ≡ placed_code p entry units →
     graph.lines ≡ placed_lines p entry units heads → graph.code ≡ length image.code →
     IsWellFormed p image graph

@@ -1,11 +1,13 @@
 -- The units and classes that are written are sound.
 use Rattle.std.proofs.Common.{◌≡◌, ℕ, zero, suc, ◌+◌, ◌-◌, ◌*◌, ◌%◌, ◌/◌, ◌^◌, ◌≤◌, ◌<◌, ◌==◌, inl, inr, Bool, true, false, List, [], ◌∷◌, ◌++◌, Option, Some, None, refl, sym, ap, subst, ◌∙◌, arith, Contains}
-use Rattle.std.specs.Prelude.{IsTrue, nat_le, is_some, option_and_then, slice_get, slice_index}
+use Rattle.std.specs.Prelude.{IsTrue, nat_le, not, is_some, option_and_then, slice_get, slice_index}
 use Rattle.std.specs.List.{last_or, list_any}
 use Rattle.std.proofs.lemmas.Bool.{and_from, cases_Bool, eq-eqb, le-leb, or_left, or_right}
 use Rattle.std.proofs.lemmas.Option.{get_or_from_slice_get, same_Some, slice_get_within, slice_get-get_or}
 use Rattle.rv_word.specs.declared.version.GraphVersion.{GraphVersion}
+use Rattle.rv_word.specs.declared.version.GraphVersion.TheVariants.{OneLabel, TwoLabels, CalleeSaves}
 use Rattle.rv_word.specs.MemoryMap.{CODE_SIZE, CODE_START, Profile}
+use Rattle.rv_word.proofs.Profiles.{full_saves}
 use Rattle.rv_instr.specs.declared.instr.Instr.{Instr}
 use Rattle.obj_input.specs.declared.item_kind.ItemKind.{ItemKind}
 use Rattle.obj_input.specs.declared.item_kind.ItemKind.TheVariants as is
@@ -15,6 +17,8 @@ use Rattle.rv_code.specs.Decode.{decoded}
 use Rattle.obj_program.specs.Program.{count, is_end, item_of, no_item}
 use Rattle.obj_program.proofs.Read.{read_there}
 use Rattle.cfi_graph.specs.declared.line.SiteKind.{SiteKind}
+use Rattle.cfi_graph.specs.declared.line.Sort.{Sort}
+use Rattle.cfi_graph.specs.declared.line.Sort.TheVariants as sorts
 use Rattle.cfi_graph.specs.Graph.{ClassLine, class_in, has_leaves}
 use Rattle.cfi_class.specs.Classes.{has}
 use Rattle.cfi_closed.specs.Closed.{is_target_of}
@@ -29,9 +33,12 @@ use Rattle.cfi_unit.specs.declared.unit.Unit.TheVariants as V
 use Rattle.cfi_unit.specs.declared.target_word.TargetWord.{TargetWord}
 use Rattle.cfi_unit.specs.declared.target_word.TargetWord.TheVariants.{First, Second, Third}
 use Rattle.cfi_unit.specs.UnitWords.{Reaches, past}
-use Rattle.cfi_rules.specs.Lines.{class_with, is_among, is_word_of, jump_word, read_of, targets_for}
+use Rattle.cfi_unit.specs.Templates.{is_full}
+use Rattle.cfi_pending.specs.Kinds.{Leaf, is_fresh}
+use Rattle.cfi_rules.proofs.FullKinds.{admits_full, kinds_if_full, no_leaf_of, saved_if_full}
+use Rattle.cfi_rules.specs.Lines.{class_with, is_among, is_word_of, jump_word, leaves_in, read_of, targets_for}
 use Rattle.cfi_rules.specs.Rules.{admits, site_of}
-use Rattle.cfi_rules.specs.Sound.{Bears, IsSound, StartsIn, target_of}
+use Rattle.cfi_rules.specs.Sound.{Bears, IsSound, StartsIn, may_be_entered, target_of}
 use Rattle.cfi_rules.specs.Split.{unit_in}
 use Rattle.cfi_rules.specs.declared.asks.Asks.{Asks}
 use Rattle.cfi_writer.specs.Accepted.{IsAccepted}
@@ -131,12 +138,27 @@ unfolding gate_of
 lead_label None label e = ap gate_of e
 lead_label (Some l) label e = ap gate_of e
 
+-- a third word is read of no class of a version whose callers save sites
+abbrev is_third : TargetWord → Bool
+is_third Third = true
+is_third other = false
+
+no_third : (version : GraphVersion) (sort : Sort) → has_leaves version ≡ false → is_third (read_of version sort) ≡ false
+no_third OneLabel sorts.Both full = refl
+no_third OneLabel sorts.Calls full = refl
+no_third OneLabel sorts.Jumps full = refl
+no_third TwoLabels sorts.Both full = refl
+no_third TwoLabels sorts.Calls full = refl
+no_third TwoLabels sorts.Jumps full = refl
+no_third CalleeSaves sort full = absurd (cc)
+
 -- what is at the word that a check reads
-bears : (p : Profile) (us : List U.Unit) (which : TargetWord) (a label : ℕ) → StartsIn p us a → unit_in us p.units_from (a + past which) ≡ Some (V.Gate label) →
-    Bears p us which a label
-bears p us First a label starts e = let same : a ≡ a + 0 = omega arith in ap (unit_in us p.units_from) same ∙ e
-bears p us Second a label starts e = (starts, e)
-bears p us Third a label starts e = (starts, e)
+bears : (p : Profile) (us : List U.Unit) (leaves : List Leaf) (which : TargetWord) (a label : ℕ) → is_third which ≡ false →
+    not (is_fresh (unit_in us p.units_from) leaves a) ≡ true → StartsIn p us a → unit_in us p.units_from (a + past which) ≡ Some (V.Gate label) →
+    Bears p us leaves which a label
+bears p us leaves First a label first saved starts e = let same : a ≡ a + 0 = omega arith in (ap (unit_in us p.units_from) same ∙ e, saved)
+bears p us leaves Second a label second saved starts e = (starts, e)
+bears p us leaves Third a label third saved starts e = absurd (cc)
 
 word_listed : (which : TargetWord) (a : ℕ) (targets : List ℕ) → is_among a targets ≡ true → is_word_of which (a + past which) targets ≡ true
 word_listed First a targets among = let same : a + 0 ≡ a = omega arith in ap (λ (b : ℕ). is_among b targets) same ∙ among
@@ -214,15 +236,35 @@ module _ (m : Choice) (ok : IsAccepted m) where
       let target = any_get (is_target_of k) m.layout.closed.sides of.index of.side of.there (any_get (has k) of.side.classes of.number t.class class_there there) in
       (member_there j k t get there, entered_first m ok.groups k (target_entered m k target))
 
+  -- each unit is admitted in the graph
+  admitted : (k a : ℕ) (u : U.Unit) → k < count m.layout.program → IsUnit m k a u → IsTrue (admits m.layout.closed.version m.layout.closed.calls u)
+  admitted k a u below (lead_word j get here) =
+      let (o, at, same) = from_lead m k j u get in
+      subst (λ (v : U.Unit). admits m.layout.closed.version m.layout.closed.calls v ≡ true) same (lead_admitted m.layout.closed.version m.layout.closed.calls o ok.version)
+  admitted k a u below (own here unit_is) =
+      subst (λ (v : U.Unit). admits m.layout.closed.version m.layout.closed.calls v ≡ true) (sym unit_is)
+      (unit_admitted m.layout.closed.version m.layout.closed.calls (item_of m.layout.program k).kind (instr_of m k) (whole_at m.whole k) (gate_to m.layout (item_of m.layout.program k).target)
+      (site_label m.labels m.layout.closed.sides k) (group_at m k) (right m ok k below) ok.version)
+
+  -- it is one of code whose callers save sites, and so of its kind, and no start is fresh
+  full : (a : ℕ) (u : U.Unit) → unit_in (units m) m.layout.profile.units_from a ≡ Some u → is_full u ≡ true
+  full a u e =
+      let at = found m ok a u e in
+      admits_full m.layout.closed.version m.layout.closed.calls u ok.version (admitted at.index a u at.below at.unit)
+
+  saved : (a : ℕ) → not (is_fresh (unit_in (units m) m.layout.profile.units_from) (leaves_in (written_heads m)) a) ≡ true
+  saved = saved_if_full (unit_in (units m) m.layout.profile.units_from) full (leaves_in (written_heads m)) (heads_no_leaves m)
+
   -- each target of a class bears its label
   gated : (j a : ℕ) (class : ClassLine) → option_and_then class_in (slice_get (written_classes m) j) ≡ Some class → IsTrue (is_among a class.targets) →
-      Bears m.layout.profile (units m) (read_of m.layout.closed.version class.sort) a class.label
+      Bears m.layout.profile (units m) (leaves_in (written_heads m)) (read_of m.layout.closed.version class.sort) a class.label
   gated j a class e among =
       let at = targets_bear m.layout.closed.version m.layout.gates m.labels m.layout.closed.sides labelled_sides j a class e among in
       let below = ok.members at.index at.class at.place at.side at.there at.inside in
       let word : gate m.layout at.place + 4 * at.index ≡ a + past (read_of m.layout.closed.version class.sort) =
       ap (λ (n : ℕ). n + 4 * at.index) at.gate_is ∙ ap (λ (n : ℕ). a + n) (sym at.word) in
-      bears m.layout.profile (units m) (read_of m.layout.closed.version class.sort) a class.label (subst (StartsIn m.layout.profile (units m)) at.gate_is (starts m ok at.place below (entered_first m ok.groups at.place (target_entered m at.place at.target))))
+      bears m.layout.profile (units m) (leaves_in (written_heads m)) (read_of m.layout.closed.version class.sort) a class.label
+      (no_third m.layout.closed.version class.sort ok.version) (saved a) (subst (StartsIn m.layout.profile (units m)) at.gate_is (starts m ok at.place below (entered_first m ok.groups at.place (target_entered m at.place at.target))))
       (ap (unit_in (units m) m.layout.profile.units_from) (sym word)
       ∙ lead_there m ok at.place at.index (V.Gate class.label) below (to_lead m at.place at.index (Some class.label) at.target at.label))
 
@@ -258,16 +300,6 @@ module _ (m : Choice) (ok : IsAccepted m) where
       ap (λ (b : ℕ). is_word_of (read_of m.layout.closed.version line.sort) b line.targets) here ∙ astray_gate k j label line (at ∙ ap Some (lead_label o label same)) asked
   strays k label a line below (own here unit_is) asked = absurd (no_own k label line below (sym unit_is) asked)
 
-  -- each unit is admitted in the graph
-  admitted : (k a : ℕ) (u : U.Unit) → k < count m.layout.program → IsUnit m k a u → IsTrue (admits m.layout.closed.version m.layout.closed.calls u)
-  admitted k a u below (lead_word j get here) =
-      let (o, at, same) = from_lead m k j u get in
-      subst (λ (v : U.Unit). admits m.layout.closed.version m.layout.closed.calls v ≡ true) same (lead_admitted m.layout.closed.version m.layout.closed.calls o ok.version)
-  admitted k a u below (own here unit_is) =
-      subst (λ (v : U.Unit). admits m.layout.closed.version m.layout.closed.calls v ≡ true) (sym unit_is)
-      (unit_admitted m.layout.closed.version m.layout.closed.calls (item_of m.layout.program k).kind (instr_of m k) (whole_at m.whole k) (gate_to m.layout (item_of m.layout.program k).target)
-      (site_label m.labels m.layout.closed.sides k) (group_at m k) (right m ok k below) ok.version)
-
   -- the last unit is a stop
   last_stops : last_or None (units m) ≡ Some V.Stop
   last_stops =
@@ -284,15 +316,20 @@ module _ (m : Choice) (ok : IsAccepted m) where
 
   sound_code : IsSound m.layout.profile m.layout.closed.version (entry_gate m) (units m) (written_heads m)
   sound_code = record {
-    full = ok.profile;
-    version_full = ok.version;
-    no_leaves = heads_no_leaves m;
+    profile = inl ok.profile;
+    saves = full_saves m.layout.profile ok.profile ∙ sym ok.version;
     fit = units_fit m ok;
     ahead = units_ahead m ok;
     admitted = λ a u e.
         let at = found m ok a u e in
         subst (λ (calls : Option (List ℕ)). admits m.layout.closed.version calls u ≡ true) (sym (heads_told m)) (admitted at.index a u at.below at.unit);
+    kinds = kinds_if_full (unit_in (units m) m.layout.profile.units_from) full (leaves_in (written_heads m)) (heads_no_leaves m);
+    leaves = λ k leaf get. absurd (no_leaf_of (leaves_in (written_heads m)) k leaf (heads_no_leaves m) get);
     entry_reached = entry_reached;
+    entry_called =
+        ap (λ callee. may_be_entered callee (unit_in (units m) m.layout.profile.units_from) (leaves_in (written_heads m)) (entry_gate m))
+        (full_saves m.layout.profile ok.profile)
+        ∙ saved (entry_gate m);
     entry_starts = starts m ok m.layout.entry ok.entry_there (entered_first m ok.groups m.layout.entry (entry_entered m));
     targets = λ a target u e leads_to. let at = found m ok a u e in leads at.index a target u at.below at.unit leads_to;
     heads_are = heads_all m;

@@ -195,7 +195,7 @@ module _ (m : Choice) (ok : IsAccepted m) where
   graph_is : IsGraph (record { version = m.layout.closed.version; code = size; lines = graph_lines m.layout m.labels })
   graph_is =
       subst (λ (lines : List GraphLine). IsGraph (record { version = m.layout.closed.version; code = size; lines = lines })) (sym lines_are)
-      (placed_is_graph m.layout.profile m.layout.closed.version (entry_gate m) (units m) (written_heads m) (inl ok.profile) (written_sound m ok) (heads_graph m size ok.calls class_graph))
+      (placed_is_graph m.layout.profile m.layout.closed.version (entry_gate m) (units m) (written_heads m) (written_sound m ok) (heads_graph m size ok.calls class_graph))
 
   units_at : (a : ℕ) → unit_at m.layout.profile (written_code m) a ≡ unit_in (units m) m.layout.profile.units_from a
   units_at = placed_units m.layout.profile (entry_gate m) (units m) (inl ok.profile) (units_fit m ok) (units_ahead m ok)
@@ -208,7 +208,7 @@ written_graph = graph_is
 
 pub written_well_formed : WrittenIsWellFormed
 written_well_formed m image graph ok words version lines same_length =
-    placed_well_formed m.layout.profile (entry_gate m) (units m) (written_heads m) image graph (inl ok.profile)
+    placed_well_formed m.layout.profile (entry_gate m) (units m) (written_heads m) image graph
     (subst (λ (v : GraphVersion). IsSound m.layout.profile v (entry_gate m) (units m) (written_heads m)) (sym version) (written_sound m ok)) words (lines ∙ lines_are m ok) same_length
 
 pub written_units : WrittenUnits
