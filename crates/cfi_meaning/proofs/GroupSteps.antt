@@ -1,5 +1,5 @@
 -- The steps of the stores of a whole group are the one step of the unit at its first place.
-use Rattle.std.proofs.Common.{◌≡◌, ℕ, suc, ◌+◌, ◌-◌, ◌*◌, ◌^◌, ◌<◌, ◌≤◌, true, false, Some, refl, sym, ap, subst, ◌∙◌, arith}
+use Rattle.std.proofs.Common.{◌≡◌, ℕ, suc, ◌+◌, ◌-◌, ◌*◌, ◌^◌, ◌<◌, ◌≤◌, true, false, inl, Some, refl, sym, ap, subst, ◌∙◌, arith}
 use Rattle.std.specs.List.{range_with_len}
 use Rattle.rv_word.specs.Image.{Contents}
 use Rattle.rv_word.specs.Memory.{loaded}
@@ -101,9 +101,9 @@ module _ (m : Choice) (image : Contents) (of : IsImageOf m image) (k : ℕ) (pla
   made o last run =
       let at = masked m of.accepted k place.below store first in
       let index_inside = at.inside in
-      group_step (place_step m) (TamePlace m image) m.layout.profile base mask member (offset_at m) (gate m.layout) (suc (behind m k)) k at.index (word m.layout k) o last
-      (λ i below. store_there i (omega arith)) (omega arith)
-      (member_distance (low_at m k) (instr_of m (k + at.index)) (store_here at.index at.inside) ∙ at.none) ends run
+      let none = member_distance (low_at m k) (instr_of m (k + at.index)) (store_here at.index at.inside) ∙ at.none in
+      group_step (place_step m) (TamePlace m image) m.layout.profile base mask member (offset_at m) (gate m.layout) Shifts (suc (behind m k)) k (word m.layout k) o last
+      (omega arith) (λ i below. store_there i (omega arith)) (inl (at.index, omega arith, none)) ends run
 
   pub through : (o last : Own) → PlacesRun m image (range_with_len k (suc (behind m k))) o last → ComesThrough m image k o last
   through o last run =

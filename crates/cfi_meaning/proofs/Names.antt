@@ -120,7 +120,7 @@ module _ (m : Choice) (ok : IsAccepted m) where
       subst NamesNoReserved
       (sym (stores_unit m.layout.closed.calls (item_of m.layout.program k).kind (instr_of m k) (whole_at m.whole k) (gate_to m.layout (item_of m.layout.program k).target)
       (jump_word m.layout.closed.version) (site_label m.labels m.layout.closed.sides k) (group_at m k) store here))
-      (stores_free (member_at m (low_at m k)) (base_of (Some (instr_of m k))) (group_at m k).mask k (suc (behind m k)) (base_free (instr_of m k) here none)
+      (stores_free (member_at m (low_at m k)) Shifts (base_of (Some (instr_of m k))) (group_at m k).mask k (suc (behind m k)) (base_free (instr_of m k) here none)
       (λ i less.
       let there = inside m ok k below store first i (omega arith) in
       member_free (low_at m k) (instr_of m (k + i)) (store_at m ok (k + i) there.0 there.1) (store_free k i below store first (omega arith))))

@@ -1,5 +1,5 @@
--- The least of several offsets masks them all: each of the others lies its distance past it.
-use Rattle.std.proofs.Common.{◌≡◌, ℕ, zero, suc, ◌+◌, ◌-◌, ◌%◌, ◌^◌, ◌<◌, ◌≤◌, inl, inr, true, false, nat_lt, min, sym, ap, subst, ◌∙◌, arith}
+-- The least of several offsets masks them all: each of the others lies its distance past it. One that is not negative lies past none.
+use Rattle.std.proofs.Common.{◌≡◌, ℕ, zero, suc, ◌+◌, ◌-◌, ◌%◌, ◌^◌, ◌<◌, ◌≤◌, inl, inr, true, false, nat_lt, min, lit<, sym, ap, subst, ◌∙◌, arith}
 use Rattle.std.proofs.lemmas.Bool.{cases_lt, lt-ltb}
 use Rattle.std.proofs.lemmas.Bool.Decides.{nat_tests}
 use Rattle.rv_word.specs.Bits.{wrap}
@@ -64,6 +64,12 @@ module _ (f : ℕ → ℕ) (first : ℕ) where
             record { index = before.index; inside = omega arith; is = e ∙ before.is }
             )
       ]
+
+-- the field of no offset is that at 2 ^ 11, below which lie the negative ones
+pub offsets_are_past : law.OffsetsArePast
+offsets_are_past imm low =
+    let own : level imm - 2 ^ 11 ≡ imm = omega arith in
+    subst (IsPast 0 imm) own (is_past (2 ^ 11) imm (lit< tt) (omega arith) (omega arith) (omega arith))
 
 pub groups_are_masked : law.GroupsAreMasked
 groups_are_masked imm first n small near =

@@ -3,11 +3,11 @@ use Rattle.std.proofs.Common.{◌≡◌, ℕ, zero, suc, ◌+◌, ◌^◌, ◌==
 use Rattle.std.specs.List.{AllByRecursion, list_any}
 use Rattle.std.proofs.lemmas.Bool.{cases_Bool, eqb-true}
 use Rattle.rv_instr.specs.Reserved.{is_reserved}
-use Rattle.cfi_unit.specs.declared.mask.Mask.TheVariants.{Shifts}
+use Rattle.cfi_unit.specs.declared.mask.Mask.{Mask}
 use Rattle.cfi_unit.specs.declared.members.Member.{Member}
 use Rattle.cfi_unit.specs.declared.unit.Unit.TheVariants as V
 use Rattle.cfi_unit.specs.Members.{IsMember, MOST_MEMBERS}
-use Rattle.cfi_unit.specs.UnitWords.{Fits}
+use Rattle.cfi_unit.specs.UnitWords.{Fits, MaskFits}
 use Rattle.cfi_runs.specs.GroupStores.{members_from}
 use Rattle.cfi_runs.specs.Tame.{NamesNoReserved}
 
@@ -32,11 +32,11 @@ module _ (member : ℕ → Member) where
             let f : k + suc i ≡ k + 1 + i = omega arith in subst (λ (j : ℕ). Holds (member j)) f (all (suc i) (omega arith))),
       )
 
-  pub stores_fit : (rs1 mask k n at : ℕ) → rs1 < 32 → mask < 2 ^ 12 → 1 ≤ n → n ≤ MOST_MEMBERS → ((i : ℕ) → i < n → IsMember (member (k + i))) →
-      Fits (V.Stores Shifts rs1 mask (members_from member k n)) at
-  stores_fit rs1 mask k n at base small some most each =
+  pub stores_fit : (how : Mask) (rs1 mask k n at : ℕ) → rs1 < 32 → mask < 2 ^ 12 → 1 ≤ n → n ≤ MOST_MEMBERS →
+      ((i : ℕ) → i < n → IsMember (member (k + i))) → MaskFits how mask → Fits (V.Stores how rs1 mask (members_from member k n)) at
+  stores_fit how rs1 mask k n at base small some most each fits =
       let counted = count_members k n in
-      (base, small, record { some = omega arith; most = subst (λ (j : ℕ). j ≤ MOST_MEMBERS) (sym counted) most; each = each_member IsMember k n each }, tt)
+      (base, small, record { some = omega arith; most = subst (λ (j : ℕ). j ≤ MOST_MEMBERS) (sym counted) most; each = each_member IsMember k n each }, fits)
 
   -- a register that a member stores
   stored_free : (k n r : ℕ) → ((i : ℕ) → i < n → is_reserved (member (k + i)).value ≡ false) →
@@ -55,9 +55,9 @@ module _ (member : ℕ → Member) where
             (rw other at named)
       ]
 
-  pub stores_free : (rs1 mask k n : ℕ) → is_reserved rs1 ≡ false → ((i : ℕ) → i < n → is_reserved (member (k + i)).value ≡ false) →
-      NamesNoReserved (V.Stores Shifts rs1 mask (members_from member k n))
-  stores_free rs1 mask k n base free r named =
+  pub stores_free : (how : Mask) (rs1 mask k n : ℕ) → is_reserved rs1 ≡ false → ((i : ℕ) → i < n → is_reserved (member (k + i)).value ≡ false) →
+      NamesNoReserved (V.Stores how rs1 mask (members_from member k n))
+  stores_free how rs1 mask k n base free r named =
       elim (cases_Bool (rs1 == r)) [
         | inl is ↦ ap is_reserved (sym (eqb-true rs1 r is)) ∙ base
         | inr other ↦ stored_free k n r free (rw other at named)

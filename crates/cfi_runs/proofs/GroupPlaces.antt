@@ -6,13 +6,13 @@ use Rattle.std.proofs.lemmas.Option.{same_Some}
 use Rattle.rv_word.specs.MemoryMap.{Profile}
 use Rattle.rv_word.specs.Memory.{Memory}
 use Rattle.rv_code.specs.declared.turn.Turn.TheVariants.{Ran}
-use Rattle.cfi_unit.specs.declared.mask.Mask.TheVariants.{Shifts}
+use Rattle.cfi_unit.specs.declared.mask.Mask.{Mask}
 use Rattle.cfi_unit.specs.declared.members.Member.{Member}
 use Rattle.cfi_unit.specs.declared.unit.Unit.TheVariants as V
 use Rattle.cfi_unit.specs.UnitWords.{after_unit}
 use Rattle.cfi_unit.specs.Leads.{sum_of}
 use Rattle.cfi_runs.specs.GroupRuns.{Chained, GoesAlong, IsWhole, Link, PlacesRun, Walked}
-use Rattle.cfi_runs.specs.GroupStores.{IsPast, StoresRun, members_from, own_store}
+use Rattle.cfi_runs.specs.GroupStores.{IsPast, StoresRun, TellsLow, members_from, own_store}
 use Rattle.cfi_runs.specs.Own.{Own, OwnAfter, executes, own_step}
 use Rattle.cfi_runs.specs.Tame.{touched}
 use Rattle.cfi_runs.proofs.GroupRuns.{places_walked}
@@ -143,10 +143,10 @@ module _ (own_at : ℕ → Own → OwnAfter) (tame : ℕ → Own → Type 0) whe
         )
 
     -- a group's steps are one of its unit
-    pub group_step : (n k index at : ℕ) (o last : Own) → ((i : ℕ) → i < n → IsStoreAt (k + i)) → index < n → (member (k + index)).distance ≡ 0 →
-        gate (k + n) ≡ after_unit (V.Stores Shifts rs1 mask (members_from member k n)) at → PlacesRun own_at tame (range_with_len k n) o last →
+    pub group_step : (how : Mask) (n k at : ℕ) (o last : Own) → 1 ≤ n → ((i : ℕ) → i < n → IsStoreAt (k + i)) → TellsLow rs1 mask member k n o.regs →
+        gate (k + n) ≡ after_unit (V.Stores how rs1 mask (members_from member k n)) at → PlacesRun own_at tame (range_with_len k n) o last →
         (sum_of o.regs rs1 mask < 2 ^ 28)
-        × (own_step p (record o { pc = at }) (V.Stores Shifts rs1 mask (members_from member k n)) ≡ record { state = last; turn = Ran })
-    group_step n k index at o last stores inside none ends run =
-        group_is_one_step p rs1 mask member imm gate k n o last at index (λ i below. (stores i below).past) inside none ends
+        × (own_step p (record o { pc = at }) (V.Stores how rs1 mask (members_from member k n)) ≡ record { state = last; turn = Ran })
+    group_step how n k at o last some stores tells ends run =
+        group_is_one_step p how rs1 mask member imm gate k n o last at some (λ i below. (stores i below).past) tells ends
         (stores_run n k o last stores run)

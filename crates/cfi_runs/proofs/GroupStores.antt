@@ -1,5 +1,5 @@
 -- The stores of a group, made one after the other, are one step of its unit.
-use Rattle.std.proofs.Common.{◌≡◌, ℕ, zero, suc, ◌+◌, ◌^◌, ◌<◌, ◌≤◌, true, refl, sym, ap, subst, ◌∙◌, arith}
+use Rattle.std.proofs.Common.{◌≡◌, ℕ, zero, suc, ◌+◌, ◌^◌, ◌<◌, ◌≤◌, inl, inr, true, refl, sym, ap, subst, ◌∙◌, arith}
 use Rattle.std.proofs.lemmas.Bool.Decides.{nat_tests}
 use Rattle.rv_word.specs.Bits.{wrap}
 use Rattle.rv_word.specs.MemoryMap.{Profile, can_store}
@@ -10,12 +10,13 @@ use Rattle.rv_instr.specs.declared.instr.StoreOp.{StoreOp}
 use Rattle.rv_instr.specs.declared.instr.StoreOp.TheVariants.{Sb, Sh, Sw, Sd}
 use Rattle.rv_code.specs.Arithmetic.{store_size}
 use Rattle.rv_code.specs.State.{Shared}
+use Rattle.rv_code.specs.Step.{offset}
 use Rattle.rv_code.specs.declared.turn.Turn.TheVariants.{Ran}
 use Rattle.cfi_unit.specs.declared.members.Member.{Member}
 use Rattle.cfi_unit.specs.Leads.{sum_of}
 use Rattle.cfi_unit.specs.Leaving.{stored_at, with_memory}
 use Rattle.cfi_runs.specs.GroupLaws as law
-use Rattle.cfi_runs.specs.GroupStores.{IsPast, StoresRun, members_from, own_store}
+use Rattle.cfi_runs.specs.GroupStores.{IsPast, StoresRun, TellsLow, members_from, own_store}
 use Rattle.cfi_runs.specs.Own.{Own, OwnAfter, executes, stored_all}
 use Rattle.cfi_runs.specs.Tame.{touched}
 
@@ -45,6 +46,9 @@ address_is r rs1 mask imm distance past low =
     let small = past.low in
     let one : wrap (sum_of r rs1 mask + distance) ≡ sum_of r rs1 mask + distance = omega arith in
     past.sums (get_reg r rs1) ∙ one
+
+no_offset : (y : ℕ) → y < 2 ^ 28 → wrap (y + offset 12 0) < 2 ^ 28
+no_offset y low = omega arith
 
 module _ (p : Profile) (rs1 mask : ℕ) (member : ℕ → Member) (imm gate : ℕ → ℕ) where
   -- what a group's store leaves is what its member leaves
@@ -95,7 +99,7 @@ module _ (p : Profile) (rs1 mask : ℕ) (member : ℕ → Member) (imm gate : �
       (λ (j : ℕ). record o { pc = gate j; shared = stored_all (sum_of o.regs rs1 mask) o.regs (members_from member (k + 1) n) stored })
       behind
 
-  -- the store at distance 0 has the address that is masked in the window
+  -- a store at distance 0 has the address that is masked in the window
   base_low : (k n index : ℕ) (o last : Own) → index < n → IsPast mask (imm (k + index)) (member (k + index)).distance →
       (member (k + index)).distance ≡ 0 → StoresRun p rs1 member imm gate k n o last → sum_of o.regs rs1 mask < 2 ^ 28
   base_low k n index o last inside past none run =
@@ -104,9 +108,18 @@ module _ (p : Profile) (rs1 mask : ℕ) (member : ℕ → Member) (imm gate : �
       let size = some_size (member (k + index)).op in
       omega arith
 
+  -- so has the base register, if it is all that is masked
+  alone_low : (r : Registers) → mask ≡ 0 → get_reg r rs1 < 2 ^ 28 → sum_of r rs1 mask < 2 ^ 28
+  alone_low r none low = subst (λ (m : ℕ). sum_of r rs1 m < 2 ^ 28) (sym none) (no_offset (get_reg r rs1) low)
+
+  either_low : (k n : ℕ) (o last : Own) → ((i : ℕ) → i < n → IsPast mask (imm (k + i)) (member (k + i)).distance) →
+      TellsLow rs1 mask member k n o.regs → StoresRun p rs1 member imm gate k n o last → sum_of o.regs rs1 mask < 2 ^ 28
+  either_low k n o last past (inl (index, inside, none)) run = base_low k n index o last inside (past index inside) none run
+  either_low k n o last past (inr (none, low)) run = alone_low o.regs none low
+
 pub group_is_one_step : law.GroupIsOneStep
-group_is_one_step p rs1 mask member imm gate k n o last at index past inside none ends run =
-    let low = base_low p rs1 mask member imm gate k n index o last inside (past index inside) none run in
+group_is_one_step p how rs1 mask member imm gate k n o last at some past tells ends run =
+    let low = either_low p rs1 mask member imm gate k n o last past tells run in
     let made = all_made p rs1 mask member imm gate n k o last low past (λ empty. absurd (omega arith)) run in
     let shared = stored_all (sum_of o.regs rs1 mask) o.regs (members_from member k n) o.shared in
     (low, ap (λ (pc : ℕ). after_store o pc shared) (sym ends) ∙ ap (λ (x : Own). record { state = x; turn = Ran }) (sym made))

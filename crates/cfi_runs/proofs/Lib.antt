@@ -16,3 +16,4 @@ pub mod Distances
 pub mod GroupMembers
 pub mod WorkedGroup
 pub mod WorkedLean
+pub mod WorkedLeanGroup

@@ -173,7 +173,7 @@ pub saves_steps : TameStep false (loaded image) saves second
 saves_steps = record {
   fits = (lit< tt, lit< tt, record { some = lit< tt; most = lit≤ tt; each = ((lit< tt, lit< tt), ((lit< tt, lit< tt), tt)) }, tt);
   stands = record { round = refl; low = lit≤ tt; high = lit≤ tt; words = saves_words };
-  free = stores_free member 2 (field low) 1 2 refl saved_free;
+  free = stores_free member Shifts 2 (field low) 1 2 refl saved_free;
   some = tt;
   leaves = λ is. absurd (cc);
   asks = λ r same held. tt;

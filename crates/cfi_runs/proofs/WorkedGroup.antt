@@ -1,11 +1,12 @@
 -- The same run by its places, an instruction a step: the two stores are a group, and the run by places is walked by the units of the
 -- path.
-use Rattle.std.proofs.Common.{◌≡◌, ℕ, zero, suc, ◌+◌, ◌^◌, ◌<◌, ◌≤◌, Bool, true, false, List, [], ◌∷◌, None, lit<, lit≤, refl, sym, ap, subst, arith}
+use Rattle.std.proofs.Common.{◌≡◌, ℕ, zero, suc, ◌+◌, ◌^◌, ◌<◌, ◌≤◌, Bool, true, false, List, [], ◌∷◌, None, lit<, lit≤, inl, refl, sym, ap, subst, arith}
 use Rattle.std.specs.Prelude.{slice_index}
 use Rattle.std.specs.List.{range_with_len}
 use Rattle.rv_word.specs.MemoryMap.{version_1}
 use Rattle.rv_word.specs.Memory.{loaded}
 use Rattle.rv_code.specs.declared.turn.Turn.TheVariants.{Ran}
+use Rattle.cfi_unit.specs.declared.mask.Mask.TheVariants.{Shifts}
 use Rattle.cfi_unit.specs.declared.unit.Unit.TheVariants as V
 use Rattle.cfi_runs.specs.Distances.{field, level}
 use Rattle.cfi_runs.specs.GroupRuns.{Chained, IsWhole, PlacesRun, Walked}
@@ -78,7 +79,7 @@ stores_at (suc (suc i)) below = absurd (omega arith)
 
 -- one step of the unit from the second state is what the two stores do
 one_step : (o : Own) → PlacesRun own_at tame (range_with_len 1 2) second o → own_step version_1 second saves ≡ record { state = o; turn = Ran }
-one_step o run = (group_step own_at tame version_1 2 (field low) member imm gate 2 1 1 0x40000044 second o stores_at (lit< tt) refl refl run).1
+one_step o run = (group_step own_at tame version_1 2 (field low) member imm gate Shifts 2 1 0x40000044 second o (lit≤ tt) stores_at (inl (1, lit< tt, refl)) refl run).1
 
 -- so the places lead to the end to which the units lead
 stored : third ≡ (own_at 2 between).state

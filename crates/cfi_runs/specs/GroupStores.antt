@@ -1,9 +1,10 @@
 -- Stores off one register at places one after the other, each a step of its own, and the unit of them all: each stands at a distance
 -- past the one address that is masked.
-use Rattle.std.specs.Prelude.{◌≡◌, ℕ, zero, suc, ◌+◌, ◌-◌, ◌^◌, ◌≤◌, ◌<◌, List, map}
+use Rattle.std.specs.Prelude.{◌≡◌, ℕ, zero, suc, ◌+◌, ◌-◌, ◌^◌, ◌≤◌, ◌<◌, ◌⊎◌, List, map}
 use Rattle.std.specs.List.{range_with_len}
 use Rattle.rv_word.specs.Bits.{wrap}
 use Rattle.rv_word.specs.MemoryMap.{Profile}
+use Rattle.rv_instr.specs.Registers.{Registers, get_reg}
 use Rattle.rv_instr.specs.declared.instr.Instr.{Instr}
 use Rattle.rv_instr.specs.declared.instr.Instr.TheVariants.{Store}
 use Rattle.rv_code.specs.Step.{offset}
@@ -29,6 +30,12 @@ pub record IsMasked (imm : ℕ → ℕ) (first n low : ℕ) : Type 0 where
   pub index : ℕ
   pub inside : index ≤ n
   pub none : level (imm (first + index)) - low ≡ 0
+
+-- what tells that the address that is masked lies in the window of data, of n members from one on: one of them stores just there, or
+-- no offset is added and the base register lies there
+abbrev pub TellsLow : ℕ → ℕ → (ℕ → Member) → ℕ → ℕ → Registers → Type 0
+TellsLow rs1 mask member k n r =
+    ((index : ℕ) × (index < n) × ((member (k + index)).distance ≡ 0)) ⊎ ((mask ≡ 0) × (get_reg r rs1 < 2 ^ 28))
 
 -- the program's own store at a place
 abbrev pub own_store : ℕ → (ℕ → Member) → (ℕ → ℕ) → ℕ → Instr

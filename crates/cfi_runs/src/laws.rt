@@ -3,7 +3,7 @@ ghost use Rattle.cfi_runs.specs.Laws.{ClosingRuns, OpeningRuns, UnitRuns};
 ghost use Rattle.cfi_runs.specs.Openings.{LeanOpeningRuns};
 ghost use Rattle.cfi_runs.specs.MatchLaws.{ClosingKeepsMatch, OpeningKeepsMatch, PathKeepsMatch, UnitKeepsMatch};
 ghost use Rattle.cfi_runs.specs.WholeRun.{RunKeepsMatch};
-ghost use Rattle.cfi_runs.specs.GroupLaws.{GroupIsOneStep, GroupsAreMasked, PlacesWalked};
+ghost use Rattle.cfi_runs.specs.GroupLaws.{GroupIsOneStep, GroupsAreMasked, OffsetsArePast, PlacesWalked};
 
 /// Where nothing is disturbed a unit does, within as many steps as it has words, what its flow says, and writes of the scratch registers
 /// those alone that some word of it writes.
@@ -57,7 +57,8 @@ pub fn places_walked()
     ensures { PlacesWalked }
 {}
 
-/// A unit of stores does what the stores of its group do one after the other, where each of them is made in the window of data.
+/// A unit of stores, with any mask, does what the stores of its group do one after the other, where each of them is made in the window of
+/// data, and the address that is masked lies there, as one of them or the base register tells.
 pub fn group_is_one_step()
     ensures { GroupIsOneStep }
 {}
@@ -66,4 +67,9 @@ pub fn group_is_one_step()
 /// than 2047 apart.
 pub fn groups_are_masked()
     ensures { GroupsAreMasked }
+{}
+
+/// From the base register alone to a store lies its offset, where that is not negative.
+pub fn offsets_are_past()
+    ensures { OffsetsArePast }
 {}
