@@ -1,35 +1,11 @@
--- Worked rows: what is told of several objects, and which of it is the first.
-use Rattle.std.proofs.Common.{◌≡◌, ℕ, Some, None, List, [], ◌∷◌, codes, refl}
-use Rattle.std.specs.Fmt.{digits}
+-- Worked rows: what stands against several objects first.
+use Rattle.std.proofs.Common.{◌≡◌, ℕ, Some, None, List, [], ◌∷◌, refl}
 use Rattle.elf_tables.specs.Header.{e_shnum}
 use Rattle.elf_object.specs.Fault.{fault_of as object_fault, header_fault}
-use Rattle.elf_object.specs.declared.fault.ObjectFault.TheVariants.{Flags, NotElf}
-use Rattle.refusals.specs.declared.refusal.Refusal.TheVariants.{ObjectIn, TooManySections, UndefinedIn}
-use Rattle.refusals.specs.Refusals.{refusal_number, refusal_text}
+use Rattle.elf_object.specs.declared.fault.ObjectFault.TheVariants.{NotElf}
+use Rattle.refusals.specs.declared.refusal.Refusal.TheVariants.{ObjectIn, TooManySections}
 use Rattle.obj_items.specs.Added.{unread}
 use Rattle.cfi_harden.specs.Given.{first_unread}
-
--- each with its number and its text
-flags : refusal_text (ObjectIn (Flags 1) 2) ≡ codes "Flags 1 in 2"
-unfolding digits
-flags = refl
-
-flags_number : refusal_number (ObjectIn (Flags 1) 2) ≡ 4
-flags_number = refl
-
-many : refusal_text (TooManySections 65537) ≡ codes "TooManySections 65537"
-unfolding digits
-many = refl
-
-many_number : refusal_number (TooManySections 65537) ≡ 28
-many_number = refl
-
-undefined : refusal_text (UndefinedIn 2 1) ≡ codes "Undefined 2 in 1"
-unfolding digits
-undefined = refl
-
-undefined_number : refusal_number (UndefinedIn 2 1) ≡ 15
-undefined_number = refl
 
 -- an object with one section more, behind 65,535 and behind 65,536; its own fault goes before that
 last : (object : List ℕ) → object_fault object ≡ None → e_shnum object ≡ 1 → unread 2 65535 object ≡ None

@@ -24,7 +24,7 @@ AddsListed p calls t =
     ⊎ ((e : Event) × (t.after.shared.events ≡ t.shared.events ++ e ∷ []) × IsListedCall p calls t.before.pc e)
 
 -- listed: for every count of harts, every start and every list of the harts' steps, between which data change,
--- so does each step that the run takes
+-- each step that the run takes adds no other
 abbrev pub IsListed : Profile → Contents → List ℕ → Type 0
 IsListed p image calls =
     (count : ℕ) → MayRun p count → (harts : Harts) (s : Shared) → MayStart image count harts s → (steps : List HartStep) → AreStepsOf count steps

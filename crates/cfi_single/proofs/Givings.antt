@@ -45,6 +45,7 @@ module _ (request : Request) where
 
 pub in_one_way : GivenInOneWay
 in_one_way = record {
+  given = λ request r is x. accepted request.given r is x;
   prepared = λ request p q a b. prepared_unique (program_request request) p q a.1 b.1;
   hardened = λ request h g a b. hardened_unique (program_request request) h g a.1 b.1;
   not_refused = hardened;

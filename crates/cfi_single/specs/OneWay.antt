@@ -2,6 +2,7 @@
 use Rattle.std.specs.Prelude.{◌≡◌}
 use Rattle.refusals.specs.declared.refusal.Refusal.{Refusal}
 use Rattle.cfi_writer.specs.Hardened.{HardenedParts}
+use Rattle.cfi_harden.specs.Given.{IsGiven, RefusesGiven}
 use Rattle.cfi_harden.specs.Hardened.{IsHardened, IsHardenedOf}
 use Rattle.cfi_harden.specs.Prepared.{IsPrepared, IsPreparedOf, PreparedParts}
 use Rattle.cfi_harden.specs.Refused.{Refuses, RefusesProgram}
@@ -24,8 +25,9 @@ HardenedIsNotRefused =
 abbrev pub RefusedInOneWay : Type 0
 RefusedInOneWay = (request : ProgramRequest) (first other : Refusal) → RefusesProgram request first → RefusesProgram request other → first ≡ other
 
--- the same of a request whose program is given, as an object or as several
+-- the same of a request whose program is given, as an object or as several; by itself, what is given is refused by nothing
 pub record GivenInOneWay : Type 0 where
+  pub given : (request : Request) (refusal : Refusal) → IsGiven request.given → RefusesGiven request.given refusal → ⊥
   pub prepared : (request : Request) (p q : PreparedParts) → IsPrepared request p → IsPrepared request q → p ≡ q
   pub hardened : (request : Request) (h g : HardenedParts) → IsHardened request h → IsHardened request g → h ≡ g
   pub not_refused : (request : Request) (h : HardenedParts) (refusal : Refusal) → IsHardened request h → Refuses request refusal → ⊥

@@ -107,11 +107,12 @@ module _ (p : Profile) (image : Contents) (input : List ℕ) (count : ℕ) (whol
 module _ (p : Profile) (image : Contents) (graph : GraphParts) (input : List ℕ) (count : ℕ) (whole : List Planned) (report : RunReport)
     (safe : IsSafe p image graph) (may : MayRun p count) (allowed : AreStepsOf count (steps_of whole)) (reported : IsReport p image input count whole report) where
   from_opening : (k : ℕ) (told : HartWalk) → 0 < told.walk → (walk : List ℕ) → walk_of p (code_words image.code) k (steps_taken p start_hart (start_shared image input) (steps_of whole)) ≡ walk
-      → IsWalkOf walk told → IsGraphWalk p (code_words image.code) graph.lines walk → (addresses : List ℕ) × IsWalkOf (OPENING ∷ addresses) told × IsWalked p image addresses
+      → IsWalkOf walk told → IsGraphWalk p (code_words image.code) graph.lines walk → (addresses : List ℕ) × (walk_of p (code_words image.code) k (steps_taken p start_hart (start_shared image input) (steps_of whole)) ≡ OPENING ∷ addresses) × IsWalkOf (OPENING ∷ addresses) told × IsWalked p image addresses
   from_opening k told some [] same is steps = let none = is.walk in absurd (omega arith)
   from_opening k told some (v ∷ addresses) same is steps =
       let first : (v ∷ addresses) ≡ OPENING ∷ addresses = ap (λ (a : ℕ). a ∷ addresses) steps.0 in (
         addresses,
+        same ∙ first,
         subst (λ (walk : List ℕ). IsWalkOf walk told) first is,
         record {
           count = count;
@@ -126,7 +127,7 @@ module _ (p : Profile) (image : Contents) (graph : GraphParts) (input : List ℕ
         },
       )
 
-  pub are_walked : AreWalked p image report
+  pub are_walked : AreWalked p image (steps_taken p start_hart (start_shared image input) (steps_of whole)) report
   are_walked k told at some =
       from_opening k told some (walk_of p (code_words image.code) k (steps_taken p start_hart (start_shared image input) (steps_of whole))) refl (reported.walks k told at)
       (safe_walks p image graph count start_hart (start_shared image input) (steps_of whole) k safe may (machine_may_start image input count) allowed)

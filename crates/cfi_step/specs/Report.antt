@@ -11,7 +11,7 @@ use Rattle.rv_code.specs.declared.turn.Turn.TheVariants as turns
 use Rattle.cfi_unit.specs.Prologue.{OPENING}
 use Rattle.cfi_unit.specs.UnitWords.{BAD_TARGET, BAD_RETURN, DEEP}
 use Rattle.cfi_rules.specs.Split.{code_words}
-use Rattle.cfi_rules.specs.Taken.{steps_taken}
+use Rattle.cfi_rules.specs.Taken.{TakenStep, steps_taken}
 use Rattle.cfi_rules.specs.Walks.{IsWalked, walk_of}
 use Rattle.cfi_script.specs.Plan.{Planned, harts_of, numbered, steps_of}
 use Rattle.cfi_script.specs.Turns.{turns_of}
@@ -71,8 +71,10 @@ pub record IsReport (p : Profile) (image : Contents) (input : List ℕ) (count :
   pub walks : (k : ℕ) (told : HartWalk) → slice_get report.walks k ≡ Some told
       → IsWalkOf (walk_of p (code_words image.code) k (steps_taken p start_hart (start_shared image input) (steps_of taken))) told
 
--- each walk of a report that has an address is the walk of a hart in a run of the image, from the opening on
-abbrev pub AreWalked : Profile → Contents → RunReport → Type 0
-AreWalked p image report =
+-- each walk of a report that has an address is the walk of its hart in these steps, from the opening on, and such a walk is one of a run
+-- of the image
+abbrev pub AreWalked : Profile → Contents → List TakenStep → RunReport → Type 0
+AreWalked p image taken report =
     (k : ℕ) (told : HartWalk) → slice_get report.walks k ≡ Some told → 0 < told.walk
-    → (addresses : List ℕ) × IsWalkOf (OPENING ∷ addresses) told × IsWalked p image addresses
+    → (addresses : List ℕ) × (walk_of p (code_words image.code) k taken ≡ OPENING ∷ addresses)
+    × IsWalkOf (OPENING ∷ addresses) told × IsWalked p image addresses

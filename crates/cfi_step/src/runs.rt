@@ -83,8 +83,10 @@ pub fn run<M: Meddler>(
         (walk_of (pair_profile checked.now.image checked.now.graph) (code_words checked.now.image.code) k (steps_taken (pair_profile checked.now.image checked.now.graph) start_hart (start_shared checked.now.image input.now)
         (steps_of (planned (pair_profile checked.now.image checked.now.graph) (M.plan meddler.old) harts 0 start_hart (start_shared checked.now.image input.now) limit))))) }
 
-    // What the report has of such a walk is of one that a walk of the graph follows, from the opening on.
-    ensures walked { IfOk result (AreWalked (pair_profile checked.now.image checked.now.graph) checked.now.image) }
+    // What the report has of a hart's walk is of the walk of that hart in this run, from the opening on, in a run that the machine may take.
+    ensures walked { IfOk result (AreWalked (pair_profile checked.now.image checked.now.graph) checked.now.image
+        (steps_taken (pair_profile checked.now.image checked.now.graph) start_hart (start_shared checked.now.image input.now)
+        (steps_of (planned (pair_profile checked.now.image checked.now.graph) (M.plan meddler.old) harts 0 start_hart (start_shared checked.now.image input.now) limit)))) }
 
     // The meddler is as it was, so that the next run is under the same plan.
     ensures kept { meddler.new ≡ meddler.old }

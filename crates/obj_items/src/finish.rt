@@ -58,7 +58,7 @@ fn refusal_in(objects: &[Object], fault: ItemFault) -> Refusal
 }
 
 /// What is told of a name that is defined twice.
-fn duplicate(alloc: Global, name: &[u8]) -> Result<Refusal, NoMemory>
+fn refusal_of_duplicate(alloc: Global, name: &[u8]) -> Result<Refusal, NoMemory>
     ensures { IfOk result (λ refusal. refusal ≡ Duplicate name.now) }
 {
     Ok(Refusal::Duplicate(Bytes::of(Vec::from_slice(alloc, name)?)))
@@ -92,7 +92,7 @@ pub(crate) fn finished<'a>(alloc: Global, objects: &[Object<'a>]) -> Result<Item
     let names = name_numbers(alloc, objects)?;
     let definers = Definers::of(alloc, &symbols, &names)?;
     match definers.duplicate() {
-        Some(name) => Err(End::Fault(duplicate(alloc, name)?)),
+        Some(name) => Err(End::Fault(refusal_of_duplicate(alloc, name)?)),
         None => program(alloc, objects, &definers),
     }
 }

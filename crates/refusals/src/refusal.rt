@@ -11,7 +11,8 @@ use std::fmt;
 use text_lines::Reason;
 
 /// Why what is given is not taken. Those of objects stand in the order in which they are looked for: a later one comes only
-/// where no earlier one stands; of several objects, what stands against one comes only where nothing stands against those before it.
+/// where no earlier one stands, but that `UndefinedIn` goes before a bad code pointer of `Items`; of several objects, what
+/// stands against one comes only where nothing stands against those before it.
 #[derive(Drop)]
 pub enum Refusal {
     /// A fault of the file as an object, of one by itself.
