@@ -44,7 +44,8 @@ pub record Matches (layout : ProgramAtMap) (image : Contents) (st : Source) (aft
   pub left : after.shared.left ≡ st.shared.left
   pub output : after.shared.output ≡ st.shared.output
   pub events : after.shared.events ≡ st.shared.events
-  -- x3 is the slot past the newest pending site; each such site stands in its slot, the oldest in the first, and all have room
+  -- x3 is the slot past the newest pending site; each such site stands in its slot, the oldest in the first, and all have room: so it is
+  -- where callers save sites, as in each form that there is
   pub pointer : after.hart.regs 3 ≡ slot SHADOW_START (length (sites_now layout st))
   pub slots : Holds SHADOW_START after.shared.memory (sites_now layout st)
   pub room : length (sites_now layout st) ≤ MOST_PENDING
