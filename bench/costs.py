@@ -18,11 +18,11 @@ sys.path[:0] = [os.path.join(HERE, "..", "tests", "real"), os.path.join(HERE, ".
 import programs
 from explain import units
 from explain.texts import ONE, image_code
+from program_forms import FORMS
 from programs import CALLS, PROGRAMS, Hardened, Missing
 
 EIGHT = 0, 1, 62, 63, 64, 93, 94, 2047
-CHOICES = {"`plain`": ("plain", None), "`harts`": ("harts", None), "`split`": ("split", None), "`harts-split`": ("harts-split", None),
-           "a list of 3": ("plain", CALLS), "a list of 8": ("plain", EIGHT)}
+CHOICES = {**{"`%s`" % form: (form, None) for form in FORMS}, "a list of 3": ("plain", CALLS), "a list of 8": ("plain", EIGHT)}
 MASK = 3  # words
 ALONE = "each store alone"
 

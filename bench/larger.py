@@ -18,10 +18,10 @@ sys.path.insert(0, os.path.join(HERE, "..", "tests", "real"))
 
 import programs
 from costs import EIGHT
+from program_forms import FORMS
 from programs import CALLS, Linked, policy_of
 from verify import best_time, found, peak_memory
 
-FORMS = "plain", "harts", "split", "harts-split"
 TIERS, ROW = 10, 8  # functions call those of the next tier alone; so many of them are in each table of pointers
 OPERATORS = ["+", "-", "*", "&", "|", "^"]
 INPUT, HOST = bytes(7 * k % 256 for k in range(1000)), "gcc"

@@ -3,10 +3,14 @@
 import difflib
 import os
 import re
+import sys
+
+sys.path.append(os.path.join(os.path.dirname(os.path.abspath(__file__)), "..", "tests", "shared"))
+
+from program_forms import FORMS
 
 COMMANDS = os.path.join(os.path.dirname(os.path.abspath(__file__)), "..", "docs", "COMMANDS.md")
 HELP, VERSION = ("-h", "--help"), ("-V", "--version")
-FORMS = ["plain", "harts", "split", "harts-split"]
 WRITTEN = ["IMAGE", "GRAPH", "MAP"]
 WRITERS = ["rewrite", "harden", "link"]
 RIGHT = "The words are right:"

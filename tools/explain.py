@@ -5,6 +5,7 @@
     python3 tools/explain.py object program.o
     python3 tools/explain.py graph program.o program.graph program.map
     python3 tools/explain.py image program.o program.img program.graph program.map
+    python3 tools/explain.py entries program.o program.img program.graph program.map
     rvcfi run program.img .. | python3 tools/explain.py report program.o program.graph program.map
     python3 tools/explain.py words rewrite program.o ..    (the words that rvcfi answered with its usage)
 
@@ -21,7 +22,7 @@ import sys
 
 sys.dont_write_bytecode = True
 
-from explain import dot, image, pitfalls, report
+from explain import dot, entries, image, pitfalls, report
 from explain.files import ended, joined_of, named_of, object_of, objects_of
 from explain.refusal import DUPLICATE, OF_ONE, SECTIONS, Refusal, decimal, number_of, words_of
 from explain.statuses import status_of
@@ -35,7 +36,7 @@ def words_of_command():
         import command_line
         sys.exit(command_line.main(sys.argv[2:]))
     words = argparse.ArgumentParser(description=__doc__, formatter_class=argparse.RawDescriptionHelpFormatter)
-    commands = words.add_subparsers(dest="command", required=True, metavar="refusal|object|graph|image|report")
+    commands = words.add_subparsers(dest="command", required=True, metavar="refusal|object|graph|image|entries|report")
     command(commands, "refusal", "reads a refusal on standard input", []).add_argument("--policy")
     command(commands, "object", "warns of what is hardened and may end a run", [])
     graph = command(commands, "graph", "tells classes, sites and system calls by function", ["GRAPH", "MAP"])
@@ -43,6 +44,7 @@ def words_of_command():
     graph.add_argument("--policy", help="the policy that the graph was made with")
     graph.add_argument("--dot", action="store_true", help="prints a file for Graphviz in place of a text")
     command(commands, "image", "lists the units of an image", ["IMAGE", "GRAPH", "MAP"])
+    command(commands, "entries", "tells which function of a lean image saves its call's site and which is a leaf, and why", ["IMAGE", "GRAPH", "MAP"])
     command(commands, "report", "reads what run, verify or compare printed on standard input", ["GRAPH", "MAP"])
     return words.parse_args()
 
@@ -91,6 +93,8 @@ def lines_of(options, answer):
     disassembly = named.read.disassembly()
     if options.command == "image":
         return image.lines(named, disassembly, image_code(options.image))
+    if options.command == "entries":
+        return entries.lines(named, disassembly, image_code(options.image))
     return report.lines(named, disassembly, answer)
 
 

@@ -36,15 +36,16 @@ sys.path.append(str(Path(__file__).resolve().parents[1] / "tests" / "harts"))
 
 from explain import units
 from explain.files import ended, image_of, map_of, objects_of
-from explain.texts import ONE, Wrong, image_code
+from explain.texts import Wrong, image_code
 from runs import Refused, Run, Script, script_of, stop_words
 
 CODE_END = 0x40100000
 COLUMNS = ["program", "masks", "calls", "returns", "checks", "gates", "branches", "lists", "rest"]
-CALLED, CHECKED = ["calls"] * 7, ["checks"] * 12
+CALLED, CHECKED, MADE_ANEW = ["calls"] * 7, ["checks"] * 12, ["masks"] * 2
 ADDED = {  # what stands before the program's own word or words, by the kind of a unit
-    "store": ["masks"] * 3, "call": CALLED, "return": ["returns"] * 4, "computed jump": CHECKED, "computed call": CHECKED + CALLED,
+    "call": CALLED, "return": ["returns"] * 4, "computed jump": CHECKED, "computed call": CHECKED + CALLED,
 }
+ADDED_LEAN = {"return": ["returns"] * 4, "computed jump": CHECKED + MADE_ANEW, "computed call": CHECKED + MADE_ANEW}
 STEP = re.compile(r"^Trace .*\[[0-9a-f]+/([0-9a-f]+)/|^(?:0x)?([0-9a-f]{8,16})$")
 NUMBER, LINK, CHECKED_AT = 17, 1, 31  # a7, ra, and what units compare
 
@@ -63,15 +64,18 @@ class Counting(Run):
         super().take(built, hart)
 
 
-def words_of_unit(unit, is_lead):
+def words_of_unit(unit, is_lead, is_lean):
     """The column of each word of a unit."""
+    if unit.kind == "enter":
+        return ["calls"] * unit.size
     if is_lead:
         return ["gates"] * unit.size
     if unit.kind in ("opening", "closing", "stop") or unit.kind.startswith("handler"):
         return ["rest"] * unit.size
     if unit.kind == "branch":
         return ["program", "branches"]
-    added = ["lists"] * (unit.size - 1) if unit.kind == "guarded call" else ADDED.get(unit.kind, [])
+    before = {"guarded call": ["lists"] * (unit.size - 1), "store": ["masks"] * unit.mask}
+    added = before.get(unit.kind, (ADDED_LEAN if is_lean else ADDED).get(unit.kind, []))
     return added + ["program"] * (unit.size - len(added))
 
 
@@ -81,7 +85,7 @@ def columns_of(words, placed):
     nexts = [unit.address for unit in split[1:]] + [None]
     for unit, after in zip(split, nexts):
         is_lead = unit.address >= placed.prologue.units and after is not None and after not in gates
-        for index, column in enumerate(words_of_unit(unit, is_lead)):
+        for index, column in enumerate(words_of_unit(unit, is_lead, placed.prologue.is_lean)):
             found[unit.address + 4 * index] = column
     return found
 
@@ -111,7 +115,7 @@ def record_of(path):
 def run_of(options, image, words, placed):
     """A run of the image by the model's machine."""
     start, filed = (struct.unpack_from("<Q", image, at)[0] for at in (72, 96))
-    built = SimpleNamespace(version=1 if placed.prologue == ONE else 2, code=struct.pack("<%dI" % len(words), *words),
+    built = SimpleNamespace(version=placed.prologue.version, code=struct.pack("<%dI" % len(words), *words),
                             data=image[start:start + filed], starts=())
     given = Path(options.input).read_bytes() if options.input else b""
     try:

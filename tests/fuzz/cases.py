@@ -4,6 +4,7 @@ from typing import List, NamedTuple
 
 import samples
 from asked import COMMANDS
+from program_forms import most_steps
 from turns import IMAGE, OBJECT, TEXT, turned
 
 STEPS = [b"0", b"1", b"10", b"100", b"1000", b"3000", b"20000"]
@@ -35,8 +36,7 @@ class Way(NamedTuple):
 
     def most_steps(self, count):
         """How many steps an image in the form takes at most for so many of its program's."""
-        each, more = 22 if b"split" in self.form else 21, 17 if b"harts" in self.form else 13
-        return each * count + more
+        return most_steps(self.form.decode(), count)
 
 
 def way_of(case):

@@ -1,7 +1,7 @@
 """What is turned: objects, and the images, graphs and maps that the program makes of them, with policies and scripts.
 
 The objects are those of tests/objects, those of bench/families.py that do not name the same bytes as two sections, and, where
-compilers are there, the programs of tests/real. They are hardened in the four forms in turn, in each form every other one under a list
+compilers are there, the programs of tests/real. They are hardened in the program's forms in turn, in each form every other one under a list
 of system calls. Images for several harts are also those that tests/harts draws, each beside an object that is not its own.
 """
 
@@ -13,18 +13,19 @@ from typing import NamedTuple, Optional
 
 sys.dont_write_bytecode = True
 HERE = os.path.dirname(os.path.abspath(__file__))
-sys.path[:0] = [os.path.join(HERE, "..", name) for name in ("real", "harts", os.path.join("..", "bench"))]
+sys.path[:0] = [os.path.join(HERE, "..", name) for name in ("real", "harts", "shared", os.path.join("..", "bench"))]
 
 import drawn
 import families
 import programs
+from program_forms import FORMS as TEXTS
 from turns import SYMTAB, sections
 
 LEVELS = ["-O0", "-O2"]
 SIZES = 3000, 50000  # bytes of an object of a family
 USUAL = 20000  # bytes of a sample: larger ones are drawn less often
 FOR_HARTS = 12  # how many images for several harts are drawn
-FORMS = [b"plain", b"harts", b"split", b"harts-split"]
+FORMS = [form.encode() for form in TEXTS]
 DATA, STACK = 0x10000, 0x10000000
 INPUT = b"1+2*3\n(4 - 10) * -7\n" + programs.PROGRAMS[-1].input
 

@@ -4,6 +4,7 @@ graphs and the maps with those of `rvcfi harden`, byte for byte.
 
     python3 tests/harts/hardener.py [--program PATH] [--levels=-O2,..]
 
+In lean forms, where the program has them, what it makes is compared with the model of tests/model, which is one of this.
 The programs are those of tests/real and bench/programs/states.c, by gcc and by clang, for rv64im and rv64i. Before that the small
 objects of forms.py, which writes their units down one by one, have to become what that says. The program is
 crates/rvcfi/out/rvcfi where none is named. It takes objects without a fault. Each that differs is told, and the status is 1 then.
@@ -19,7 +20,7 @@ from typing import NamedTuple
 
 sys.dont_write_bytecode = True
 HERE = Path(__file__).resolve().parent
-sys.path[:0] = [str(HERE.parents[1] / "bench"), str(HERE.parent / "real"), str(HERE.parent / "objects")]
+sys.path[:0] = [str(HERE.parents[1] / "bench"), *(str(HERE.parent / name) for name in ("real", "objects", "shared"))]
 
 import make_pointers
 import make_stores
@@ -27,6 +28,7 @@ import make_vectors
 from forms import FORMS, LISTING, ROWS, STORING, made
 from images import CODE, image_file
 from program import ECALL, UNITS, Program, calls_line, first_unit
+from program_forms import FORMS as OFFERED, is_lean
 from rules import branch_offset, jal_target
 
 PROGBITS, RELA, SYMTAB, NOTE, NOBITS = 1, 4, 2, 7, 8
@@ -505,17 +507,27 @@ def is_small(row, form):
         [wanted.call[1]] + wanted.words, wanted.data, wanted.graph, wanted.map)
 
 
+def hardenings():
+    """What hardens in the forms that the program has."""
+    if not any(map(is_lean, OFFERED)):
+        return [Hardening]
+    sys.path.append(str(HERE.parent / "model"))
+    from lean_hardener import LeanHardening
+    return [Hardening, LeanHardening]
+
+
 def differences(tool, path, entry, folder):
     """The forms in which the program makes something else of an object, and what."""
     words = lambda form, policy, files: [tool, "harden", form, path, entry, policy, *files]
-    yield from unlike(Source(Path(path).read_bytes()), entry, folder, words)
+    for hardening in hardenings():
+        yield from unlike(Source(Path(path).read_bytes()), entry, folder, words, hardening)
 
 
 def unlike(source, entry, folder, command, hardening=Hardening):
     """The forms in which a command makes something else, without a policy and under a list of system calls, and what."""
     policy = os.path.join(folder, "policy")
     Path(policy).write_text(policy_text(CALLS))
-    for form in hardening.FORMS:
+    for form in filter(OFFERED.__contains__, hardening.FORMS):
         yield from unlike_in(form, hardening(source, entry, form), folder, command(form, "none", files_in(folder)))
         listed = hardening(source, entry, form, policy_text(CALLS))
         yield from unlike_in(form + " with a list", listed, folder, command(form, policy, files_in(folder)))
@@ -572,7 +584,7 @@ def main():
             count, wrong = count + 1, wrong + bool(found)
             for line in found:
                 print("%s differs, %s" % (os.path.basename(path), line))
-    print("%d objects in %d forms, %d of them differ" % (count, len(FORMS), wrong))
+    print("%d objects in %d forms, %d of them differ" % (count, len(OFFERED), wrong))
     return 1 if wrong else 0
 
 

@@ -197,7 +197,7 @@ def differences(tool, entry, paths, folder):
     if line:
         done = programs.run(command("plain", "none", files))
         return [] if (done.returncode, done.stdout) == (1, line) else ["%r in place of %r" % (done.stdout, line)]
-    return list(hardener.unlike(whole, entry, folder, command))
+    return [what for each in hardener.hardenings() for what in hardener.unlike(whole, entry, folder, command, each)]
 
 
 def main():
@@ -216,7 +216,7 @@ def main():
             count, wrong = count + 1, wrong + bool(found)
             for what in found:
                 print("%s differs: %s" % (" ".join(os.path.basename(path) for path in paths), what))
-    print("%d links in %d forms, %d of them differ" % (count, len(hardener.FORMS), wrong))
+    print("%d links in %d forms, %d of them differ" % (count, len(hardener.OFFERED), wrong))
     return 1 if wrong else 0
 
 

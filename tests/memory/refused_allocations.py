@@ -23,9 +23,10 @@ sys.dont_write_bytecode = True
 
 HERE = os.path.dirname(os.path.abspath(__file__))
 ROOT = os.path.join(HERE, "..", "..")
-sys.path.insert(0, os.path.join(ROOT, "bench"))
+sys.path[:0] = [os.path.join(ROOT, "bench"), os.path.join(HERE, "..", "shared")]
 
 from images import UNITS, image_file, prologue
+from program_forms import FORMS
 
 NO_MEMORY = 5
 SECONDS = 60
@@ -101,17 +102,21 @@ COMMANDS = [
     ("rewrite calls.o main policy image graph map", 0, "rewritten code 256 data 16 classes 1 sites 1", THREE),
     ("run image graph other none 100", 10, "stop handler __cfi_bad_target", ()),
     ("rewrite calls.o main wrong image graph map", 1, "refused 18 Policy 2", ()),
-    ("harden harts puts.o main list image graph map", 0, None, THREE),
-    ("verify image graph", 0, "accepted", ()),
-    ("compare puts.o main list image map none 100", 0, "same 2", ()),
-    ("harden harts-split calls.o main policy image graph map", 0, None, THREE),
     ("harden split calls.o main wrong image graph map", 1, "refused 18 Policy 2", ()),
     ("link plain main none image graph map returns.o", 0, "rewritten code 92 data 0 classes 0 sites 0", THREE),
     ("compare-link main none image map none 100 returns.o", 0, "same 1", ()),
-    ("link harts-split main policy image graph map calls.o", 0, None, THREE),
     ("link plain main none image graph map puts.o returns.o", 1, "refused 27 Duplicate main", ()),
     ("demo 1", 0, "compare same 1", ()),
 ]
+IN_EACH_FORM = [
+    ("harden FORM puts.o main list image graph map", 0, None, THREE),
+    ("verify image graph", 0, "accepted", ()),
+    ("run image graph none none 100", 0, None, ()),
+    ("compare puts.o main list image map none 100", 0, "same 2", ()),
+    ("link FORM main policy image graph map calls.o", 0, None, THREE),
+    ("compare-link main policy image map none 100 calls.o", 0, "same 1", ()),
+]
+COMMANDS += [(words.replace("FORM", form), *row) for form in FORMS for words, *row in IN_EACH_FORM]
 
 
 def sample_objects():

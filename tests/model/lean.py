@@ -1,16 +1,18 @@
 #!/usr/bin/env python3
 """Runs the model of graphs of version 3: of the rules, of runs and of hardening in the forms `lean` and `harts-lean`.
 
-    python3 tests/model/lean.py [--program PATH] [--hardens] [--many N] [--seed N] [--levels=-O2,..]
+    python3 tests/model/lean.py [--program PATH] [--many N] [--seed N] [--levels=-O2,..]
 
-(a) Each case of lean_rows.py and lean_cases.py has to have its literal numbers, and each row of the tables of the crate test_lean
+(a) Each row of lean_rows.py and lean_cases.py has to have its literal numbers, and each row of the tables of the crate test_lean
 those of the model. (b) Each pair of lean_faults.py has to be rejected by the rule that its row tells, and its run has to leave its
 graph where and as the row tells, or to stay in it where it tells that. Rules and parts of them are switched off in turn, and some
 such pair whose run leaves its graph has to be accepted then. (c) No run of a drawn pair that is accepted may leave its graph. (d)
-Where levels are named, the programs of tests/real are compiled, and have to run hardened as in form `split`. With a program, its
+Small and drawn objects are compared with what they become in each form, and nothing may differ. (e) Where levels are named, the
+programs of tests/real are compiled, and have to run hardened as in form `split`. With a program, its
 `verify` is asked of the pairs of versions 1 and 2 that confinement.py has and of each pair of version 3, and its `run` of those that
-are accepted and of programs that fill the shadow stack, and both have to answer as this model does; with `--hardens` its `harden` is
-asked of objects in both lean forms too. The status is 1 where something failed.
+are accepted and of programs that fill the shadow stack, and both have to answer as this model does; of each row of (a) whose form it
+has its commands are asked too, and where it has both lean forms its `harden` of more objects (tests/shared/program_forms.py tells which
+it has). The status is 1 where something failed.
 """
 
 import argparse
@@ -20,9 +22,10 @@ from collections import Counter
 from pathlib import Path
 
 sys.dont_write_bytecode = True
-sys.path[:0] = [str(Path(__file__).resolve().parents[1] / name) for name in ("harts", "objects")]
+sys.path[:0] = [str(Path(__file__).resolve().parents[1] / name) for name in ("harts", "objects", "shared")]
 
 import accepted
+import compared_drawn
 import faults
 import lean_asked
 import lean_cases
@@ -31,20 +34,18 @@ import lean_faults
 import lean_real
 import lean_rows
 import lean_switched
+import lean_table
 import lean_tables
 from confined import started
 from confinement import Told
 from lean_rules import pair_of, told as told_of
 from lean_walk import LeanStatement
+from program_forms import FORMS, LEAN
 
 
-def run_cases(told):
-    count = 0
-    for cases in (*lean_rows.ALL, *lean_cases.ALL):
-        for case in cases():
-            count += 1
-            told.check(case.got == case.wanted, "%s: %s, not %s" % case[:3])
-    print("cases with literal numbers: %d" % count)
+def run_rows(told, asked):
+    """That the model or a program answers as the rows have it."""
+    lean_table.ask(told, (row for rows in (*lean_rows.ALL, *lean_cases.ALL) for row in rows()), asked)
 
 
 def failure_of(fault):
@@ -83,7 +84,7 @@ def run_checks(told, lines):
         told.check(False, line)
 
 
-def run_program(told, seed, levels, hardens):
+def run_program(told, seed, levels):
     """What a program tells of pairs, and of objects where it hardens in the lean forms."""
     pairs = [built for _, built in accepted.pairs(seed, 1)] + [fault.built for fault in faults.faults()]
     for number, built in enumerate(pairs):
@@ -91,17 +92,18 @@ def run_program(told, seed, levels, hardens):
         got = told.verified(built.image, built.graph)
         told.check(got == (0 if said == "accepted" else 1, said + "\n"), "pair %d: the program says %r, not %s" % (number, got, said))
     print("asked of the program: %d pairs of versions 1 and 2" % len(pairs))
+    run_rows(told, lean_table.Program(told.program, told.folder))
     lean_asked.check_pairs(told, seed)
     lean_asked.check_steps(told)
     lean_asked.check_deepest(told)
-    if hardens:
+    compared_drawn.check_program(told, seed)
+    if set(LEAN) <= set(FORMS):
         lean_asked.check_objects(told, levels)
 
 
 def main():
     words = argparse.ArgumentParser(description=__doc__, formatter_class=argparse.RawDescriptionHelpFormatter)
     words.add_argument("--program", help="asked to verify pairs, and to run those of version 3 that are accepted")
-    words.add_argument("--hardens", action="store_true", help="the program is asked to harden in the lean forms too")
     words.add_argument("--many", type=int, default=1, help="so many times as many drawn pairs, at least 1")
     words.add_argument("--seed", type=int, default=1)
     words.add_argument("--levels", help="of compiled programs; with =, as --levels=-O2,-Os")
@@ -112,14 +114,15 @@ def main():
         words.error("there is no program %s" % options.program)
     with tempfile.TemporaryDirectory() as folder:
         told = Told(options.program and str(Path(options.program).resolve()), folder)
-        run_cases(told)
+        run_rows(told, lean_table.Model())
         run_tables(told)
         run_checks(told, lean_switched.checks(run_faults(told)))
         run_checks(told, lean_drawn.checks(options.seed, options.many))
+        run_checks(told, compared_drawn.checks(options.seed, options.many))
         levels = options.levels.split(",") if options.levels else []
         run_checks(told, lean_real.checks(levels) if levels else ())
         if options.program:
-            run_program(told, options.seed, levels, options.hardens)
+            run_program(told, options.seed, levels)
     print("%d passed, %d failed" % (told.passed, told.failed))
     return 1 if told.failed else 0
 

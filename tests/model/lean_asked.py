@@ -8,6 +8,7 @@ import lean_cases
 import lean_drawn
 import lean_faults
 import lean_rows
+import lean_table
 import programs
 from forms import LEAN, LISTING, ROWS, STORING
 from hardener import Source, files_in, policy_text, small_object, unlike, unlike_in
@@ -23,8 +24,7 @@ LIMIT, MOST = 1000, 200000  # steps of a run, and of one that fills the shadow s
 
 def pairs(seed):
     """Pairs, each with a name."""
-    for cases in (*lean_rows.ALL, *lean_cases.ALL):
-        yield from ((case.name, case.pair) for case in cases() if case.pair)
+    yield from lean_table.pairs(row for rows in (*lean_rows.ALL, *lean_cases.ALL) for row in rows())
     yield from ((fault.name, fault.built) for fault in lean_faults.faults())
     yield from (("pair %d of seed %d" % (number, seed), built) for number, (_, built) in enumerate(lean_drawn.pairs(random.Random(seed), 1)))
 
@@ -82,7 +82,8 @@ def check_steps(told):
 def check_deepest(told):
     """Runs that fill the shadow stack but for a slot, to the last one and past it, which end in a handler or go back all the way."""
     stops = set()
-    for name, built in lean_cases.deepest():
+    for name, of in lean_cases.deepest():
+        built = of.built
         told.verified(built.image, built.graph)
         done = programs.run([told.program, "run", *(str(told.folder / each) for each in ("image", "graph")), "none", "none", str(MOST)])
         whole = built._replace(starts=pair_of(built.version, built.words, built.graph).starts())

@@ -1,29 +1,27 @@
 """More images of graphs of version 3 with literal numbers: one rule after another, lines of leaf ranges, lists of system calls, harts,
-depth, which units each version has, links and limits. Of each case a name, what is got, and what is wanted.
+depth, tameness, which units each version has, links, bounds and limits. lean_table.py says how a row is asked.
 """
 
 from forms import FORMS, LEAN
-from hardener import Hardening, Source, policy_text
-from joiner import Joined
-from lean_hardener import LeanHardening, LeanMaps, is_outside_of_lean
+from lean_hardener import LeanMaps
 from lean_program import NOP, computed, enter
-from lean_rows import (ENTERED, HEAD, HEAD_OF_HARTS, LIMIT, OPENED, OVER, Case, becomes, edited, hardened, numbers, object_of, ran, raw, script,
-                       verified)
+from lean_rows import (ENTERED, HEAD, HEAD_OF_HARTS, LIMIT, OPENED, OVER, alike, edited, given, object_of, raw)
 from lean_rules import pair_of
+from lean_table import Case, Compares, Given, Hardens, Runs, Verifies, numbers, script
 from lean_walk import LeanRun
 from links import F, MAIN
 from lists import program
 from make_pointers import Q
-from maps import ended
 from make_vectors import RETURN, H, P, R, T, addi, beq, jal, ld, lui, sd
 from program import CODE, branch, check, i_form, push
+from runs import Script
 
 LEAF, CALLED = "leaf 40000074 40000090", "call 40000050 40000074"  # of the leaf that is called, and of its call
 
 
 def written():
     """The pair of an object that calls a leaf."""
-    return hardened(Source(H.file())).built
+    return given(H).built
 
 
 def spelled(words):
@@ -44,7 +42,7 @@ def cases_of(rule, built, rows):
     """Changes of a pair: of each a name, the words, the lines, and the rule that is told with its address, or None."""
     for name, words, lines, wanted in rows:
         told = "rejected %s" % wanted if wanted else "accepted"
-        yield verified("%s: %s" % (rule, name), edited(built, words, lines), told)
+        yield Verifies("%s: %s" % (rule, name), edited(built, words, lines), told)
 
 
 def units():
@@ -73,12 +71,12 @@ def leaves():
         ("a leaf ends with a break", {0x8C: 0x00100073}, {}, None)))
     behind = lambda words: stopped(HEAD + " " + words)
     opened = "call 4000000c 4000002c"
-    yield verified("Leaf: the range ends within a unit", raw(behind("00008067 0042FFB3 005FB823"), "leaf 4000002c 40000034", opened),
+    yield Verifies("Leaf: the range ends within a unit", raw(behind("00008067 0042FFB3 005FB823"), "leaf 4000002c 40000034", opened),
                    "rejected Leaf 4000002c")
-    yield verified("Leaf: an enter before a leaf", raw(behind(entered(0x2C) + " 00008067"), "leaf 40000040 40000044", opened),
+    yield Verifies("Leaf: an enter before a leaf", raw(behind(entered(0x2C) + " 00008067"), "leaf 40000040 40000044", opened),
                    "rejected Leaf 4000002c")
     for name, word in ("a call", "FF9FF0EF"), ("a gate", "00001037"):
-        yield verified("Leaf: %s before a gate of an enter" % name, raw(
+        yield Verifies("Leaf: %s before a gate of an enter" % name, raw(
             behind("00008067 %s 00001037 %s" % (word, entered(0x38))), "leaf 4000002c 40000030", opened), "rejected Leaf 40000030")
 
 
@@ -99,15 +97,15 @@ def targets():
         ("the opening calls a leaf", {0x20: 0x054000EF}, opening("74"), None)))
     words = stopped(HEAD + " 0040006F 00008067")
     lines = "call 4000000c 4000002c", "edge 4000002c 40000030"
-    yield verified("Target: a jump from one leaf to another", raw(words, "leaf 4000002c 40000030", "leaf 40000030 40000034", *lines),
+    yield Verifies("Target: a jump from one leaf to another", raw(words, "leaf 4000002c 40000030", "leaf 40000030 40000034", *lines),
                    "rejected Target 4000002c")
-    yield verified("Target: a jump within one leaf", raw(words, "leaf 4000002c 40000034", *lines), "accepted")
+    yield Verifies("Target: a jump within one leaf", raw(words, "leaf 4000002c 40000034", *lines), "accepted")
 
 
 def gates():
     line = "callclass 00001 400000b0 400000e8"
     other = lambda *targets: {line: ("callclass 00001" + "".join(" 400000" + to for to in targets),)}
-    yield from cases_of("Gate and Astray", hardened(Source(P.file())).built, (
+    yield from cases_of("Gate and Astray", given(P).built, (
         ("a target of calls without a gate", {}, other("b0", "e8", "ec"), "Gate 400000ec"),
         ("a target of calls at its gate", {}, other("b8", "e8"), "Gate 400000b8"),
         ("a gate of calls that is no target's", {}, other("b0"), "Astray 400000f0"),
@@ -118,7 +116,7 @@ def gates():
         ("a gate of calls at a target", {0xB0: 0x00001037}, {}, "Astray 400000b0"),
         ("a gate of no class at a target", {0xB0: 0x00002037}, {}, None)))
     line = "jumpclass 00002 40000088 400000a4"
-    yield from cases_of("Gate and Astray", hardened(Source(Q.file()), lines=("site h+0 g+0",)).built, (
+    yield from cases_of("Gate and Astray", given(Q, lines=("site h+0 g+0",)).built, (
         ("a target of jumps that is no gate", {}, {line: (line + " 400000a8",)}, "Gate 400000a8"),
         ("a target of jumps directly before an enter", {0xAC: 0x00002037}, {"callclass 00001 400000a4": ("callclass 00001",), line: (
             line + " 400000ac",)}, "Gate 400000ac"),
@@ -129,7 +127,7 @@ def gates():
 
 def lines_of_ranges():
     """Texts that are refused for a line of a leaf range, and why. The list of system calls is line 3, the leaf line 4."""
-    built, line = hardened(Source(H.file()), calls=(64,)).built, "leaf 40000074 4000009c"
+    built, line = given(H, calls=(64,)).built, "leaf 40000074 4000009c"
     leaf = lambda *texts: {line: tuple("leaf " + text for text in texts)}
     for name, lines, wanted in (
             ("an empty range", leaf("40000074 40000074"), "4 Order"), ("a range that ends before it begins", leaf("4000009c 40000074"), "4 Order"),
@@ -141,56 +139,50 @@ def lines_of_ranges():
             ("an upper-case digit", leaf("40000074 4000009C"), "4 Form"),
             ("behind a class", {line: ("callclass 00001", line)}, "5 Order"), ("behind a call", {line: (), OPENED: (OPENED, line)}, "5 Order"),
             ("before the list", {line: (), "calls 64": (line, "calls 64")}, "4 Form")):
-        yield verified("the leaf line: " + name, edited(built, {}, lines), "refused 23 Graph " + wanted)
+        yield Verifies("the leaf line: " + name, edited(built, {}, lines), "refused 23 Graph " + wanted)
     text = built.graph.replace(b"rvcfi-graph 3", b"rvcfi-graph 2")
-    yield verified("the leaf line: under version 2", built._replace(graph=text), "refused 23 Graph 4 Form")
-    yield verified("the leaf line: up to the code's end", edited(built, {}, leaf("40000074 400000a0")), "accepted")
+    yield Verifies("the leaf line: under version 2", built._replace(graph=text), "refused 23 Graph 4 Form")
+    yield Verifies("the leaf line: up to the code's end", edited(built, {}, leaf("40000074 400000a0")), "accepted")
 
 
 def lists():
     """Under a list of system calls."""
-    made = hardened(Source(H.file()), calls=(64,))
-    yield from becomes("a listed call in a leaf", made, "code 160 data 3 classes 0 sites 0", {0x88: "04000F93 011F8463 F71FF06F 00000073 00008067"},
-                       ["code 40000000 000000a0", "calls 64", "leaf 40000074 4000009c", OPENED, OVER, CALLED])
-    yield ran("a listed call in a leaf", made.built, ["stop exit 0", "steps 32", "walk 17"])
-    made = hardened(Source(H.file()), calls=(63,))
-    yield ran("an unlisted call in a leaf", made.built, ["stop handler __cfi_bad_target", "steps 23"])
+    name, of = "a listed call in a leaf", given(H, calls=(64,))
+    yield Hardens(name, of, "rewritten code 160 data 3 classes 0 sites 0", {0x88: "04000F93 011F8463 F71FF06F 00000073 00008067"},
+                  ["code 40000000 000000a0", "calls 64", "leaf 40000074 4000009c", OPENED, OVER, CALLED])
+    yield Runs(name + ", run", of, ["stop exit 0", "steps 32", "walk 17"])
+    yield alike(name, of, 2)
+    name, of = "an unlisted call in a leaf", given(H, calls=(63,))
+    yield Runs(name, of, ["stop handler __cfi_bad_target", "steps 23"])
+    yield Compares(name + ", compared", of, "untame call 1 52")
+
+
+WRAPPED = addi(5, 0, -8), sd(5, 5, 16), RETURN  # a base that an offset brings back below the window's end
 
 
 def windows():
     """A store is masked by its base alone."""
-    made = hardened(object_of(addi(5, 0, -8), sd(5, 5, 16), RETURN))
-    yield from becomes("a base that wraps round", made, "code 64 data 0 classes 0 sites 0", {0x2C: "FF800293 0042FFB3 005FB823 00008067"})
-    yield ran("a base that wraps round", made.built, ["stop exit 0", "steps 12"])
-    done = LeanRun(made.built, pair_of(1, made.built.words, made.built.graph), script(), b"", LIMIT)
-    yield Case("a base that wraps round: where it stores", [at for at in done.machine.bytes if at < CODE], list(range(0x10000008, 0x10000010)))
-
-
-def said(made):
-    """How the source of a program ends: tame or not."""
-    return " ".join(ended(made, is_outside_of_lean).split()[:4])
+    name, of = "a base that wraps round", object_of(*WRAPPED)
+    yield Hardens(name, of, "rewritten code 64 data 0 classes 0 sites 0", {0x2C: "FF800293 0042FFB3 005FB823 00008067"})
+    yield Runs(name + ", run", of, ["stop exit 0", "steps 12"])
+    done = LeanRun(of.built, pair_of(1, of.built.words, of.built.graph), Script(), b"", LIMIT)
+    yield Case(name + ": where it stores", [at for at in done.machine.bytes if at < CODE], list(range(0x10000008, 0x10000010)))
 
 
 def tameness():
-    """Which sources keep their meaning: by the base of a short mask, by the calls that are pending, by the list."""
-    wide, wrapped, at_window = (addi(5, 0, -8), sd(5, 5, 16)), "untame window 1 4", lui(5, 0x10000)
+    """Which sources keep their meaning, by the base of a short mask."""
+    wrapped, at_window = "untame window 1 4", lui(5, 0x10000)
     for form in LEAN:
-        yield Case("a base that wraps round in form " + form, said(hardened(object_of(*wide, RETURN), form)), wrapped)
+        yield Compares("a base that wraps round in form " + form, object_of(*WRAPPED, form=form), wrapped)
     for form in FORMS:
-        got = ended(Hardening(object_of(*wide, RETURN), "main", form)).split()[0]
-        yield Case("a base that wraps round in form " + form, got, "exit")
+        yield Compares("a base that wraps round in form " + form, object_of(*WRAPPED, form=form), "same 1")
     for name, words, wanted in (
-            ("a long mask below the window's end", (at_window, sd(5, 5, -8)), "exit"),
-            ("a short mask below the window's end", (at_window, addi(5, 5, -8), sd(5, 5, 0)), "exit"),
-            ("a long mask at 0", (addi(5, 0, 8), sd(5, 5, -8)), "exit"), ("two stores off x0", (sd(5, 0, 0), sd(5, 0, 2047)), "exit"),
+            ("a long mask below the window's end", (at_window, sd(5, 5, -8)), "same 1"),
+            ("a short mask below the window's end", (at_window, addi(5, 5, -8), sd(5, 5, 0)), "same 1"),
+            ("a long mask at 0", (addi(5, 0, 8), sd(5, 5, -8)), "same 1"), ("two stores off x0", (sd(5, 0, 0), sd(5, 0, 2047)), "same 1"),
             ("a short mask at the window's end", (at_window, sd(5, 5, 0)), wrapped),
             ("a long mask below 0", (addi(5, 0, -8), sd(5, 5, -8)), wrapped)):
-        got = said(hardened(object_of(*words, RETURN)))
-        yield Case(name, got.split()[0] if wanted == "exit" else got, wanted)
-    yield Case("a number that is not in the list", said(hardened(Source(H.file()), calls=(63,))), "untame call 1 52")
-    for k, wanted in (8189, "exit"), (8190, "untame deep 1 36"), (8191, "untame deep 1 28"):
-        got = said(hardened(counting(k)))
-        yield Case("%d calls, and one of a leaf: the source" % k, got.split()[0] if wanted == "exit" else got, wanted)
+        yield Compares(name, object_of(*words, RETURN), wanted)
 
 
 def placed(made, sizes):
@@ -204,8 +196,8 @@ def placed(made, sizes):
 
 def placements():
     """Which maps are those of a program: of each the bytes from gate to gate."""
-    stores = hardened(object_of(sd(1, 2, 8), sd(8, 2, 16), sd(9, 2, -8), sd(10, 2, 0), lui(0, 1), RETURN))
-    called, jumped = hardened(Source(H.file())), hardened(Source(Q.file()), lines=("site h+0 g+0",))
+    stores = object_of(sd(1, 2, 8), sd(8, 2, 16), sd(9, 2, -8), sd(10, 2, 0), lui(0, 1), RETURN).made
+    called, jumped = given(H).made, given(Q, lines=("site h+0 g+0",)).made
     name = "stores behind short and long masks: "
     for made, what, sizes, wanted in (
             (stores, name + "as hardened", (32, 4, 12, 4, 4, 20), None), (stores, name + "each alone", (32, 8, 12, 8, 4, 20), None),
@@ -226,21 +218,31 @@ def placements():
 
 def harts():
     """In the form for several harts."""
-    shared = object_of(lui(5, 0x10), branch(1, 10, 0, 12), ld(10, 5, 0), RETURN, sd(10, 5, 0), RETURN)
-    made = hardened(shared, "harts-lean")
+    shared = object_of(lui(5, 0x10), branch(1, 10, 0, 12), ld(10, 5, 0), RETURN, sd(10, 5, 0), RETURN, form="harts-lean")
     name = "two harts, each in a leaf"
-    yield from becomes(name, made, "code 92 data 0 classes 0 sites 0",
-                       {0: HEAD_OF_HARTS + " 000102B7 00051663 0002B503 00008067 0042FFB3 00AFB023 00008067 FA9FF06F"},
-                       ["code 40000000 0000005c", "leaf 4000003c 40000058", "call 4000000c 4000003c", "edge 40000040 4000004c"],
-                       "3c 40 44 48 4c 54 58")
-    yield Case(name + ": the map", made.map.decode().split("\n")[0], "rvcfi-map 2 harts-lean")
-    yield ran(name + ", one first", made.built, ["stop hart 0 exit 1", "steps 30", "walk 0 6", "walk 1 4",
-              "trail 1 4000000c 4000003c 40000040 4000004c"], "harts 2", "turn 1 14")
-    yield ran(name + ", one too late", made.built, ["stop hart 0 exit 0", "steps 29"], "harts 2", "turn 1 13")
-    made = hardened(object_of(*ENTERED), "harts-lean")
-    yield from becomes("two harts that save", made, "code 164 data 0 classes 0 sites 0",
-                       {0x3C: "0180006F 03019F13 000F1463 FC1FF06F 0011B023 00818193"})
-    yield ran("two harts that save", made.built, ["stop hart 1 exit 5", "steps 58", "walk 0 6", "walk 1 15"], "harts 2", "turn 0 20", "turn 1 100")
+    yield Hardens(name, shared, "rewritten code 92 data 0 classes 0 sites 0",
+                  {0: HEAD_OF_HARTS + " 000102B7 00051663 0002B503 00008067 0042FFB3 00AFB023 00008067 FA9FF06F"},
+                  ["code 40000000 0000005c", "leaf 4000003c 40000058", "call 4000000c 4000003c", "edge 40000040 4000004c"],
+                  "3c 40 44 48 4c 54 58", map="rvcfi-map 2 harts-lean\n" + "".join(
+                      "at 400000%s 0001 000000%02x\n" % each for each in zip("3c 40 44 48 4c 54 58".split(), range(0, 28, 4))) + "end\n")
+    yield Runs(name + ", one first", shared, ["stop hart 0 exit 1", "steps 30", "walk 0 6", "walk 1 4",
+               "trail 1 4000000c 4000003c 40000040 4000004c"], script("harts 2", "turn 1 14"))
+    yield Runs(name + ", one too late", shared, ["stop hart 0 exit 0", "steps 29"], script("harts 2", "turn 1 13"))
+    yield alike(name, shared)
+    saving = object_of(*ENTERED, form="harts-lean")
+    yield Hardens("two harts that save", saving, "rewritten code 164 data 0 classes 0 sites 0",
+                  {0x3C: "0180006F 03019F13 000F1463 FC1FF06F 0011B023 00818193"})
+    yield Runs("two harts that save, run", saving, ["stop hart 1 exit 5", "steps 58", "walk 0 6", "walk 1 15"],
+               script("harts 2", "turn 0 20", "turn 1 100"))
+    yield Runs("two harts of an image for one", object_of(*ENTERED), ["refused 26 Harts 2"], script("harts 2"))
+
+
+RECURSIVE = [word for each in R.places for word in each[0]]
+
+
+def calling_itself(count):
+    """Calls itself 8,190 times, or once more."""
+    return object_of(RECURSIVE[0], addi(10, 10, count - 8192), *RECURSIVE[2:])
 
 
 def counting(k):
@@ -251,22 +253,23 @@ def counting(k):
 
 def deepest():
     """Programs whose calls fill the shadow stack but for a slot, to the last one and past it, each with a name."""
-    words = [word for each in R.places for word in each[0]]
-    yield "8,190 calls", hardened(object_of(*words)).built
-    yield "8,191 calls", hardened(object_of(words[0], addi(10, 10, -1), *words[2:])).built
-    yield from (("%d calls, and one of a leaf" % k, hardened(counting(k)).built) for k in (8189, 8190, 8191))
+    yield from (("%d calls" % count, calling_itself(count)) for count in (8190, 8191))
+    yield from (("%d calls, and one of a leaf" % k, counting(k)) for k in (8189, 8190, 8191))
 
 
 def depth():
     """As many calls as slots, and one more."""
-    words = [word for each in R.places for word in each[0]]
-    made = hardened(object_of(*words))
-    yield from becomes("8,190 calls", made, "code 160 data 0 classes 0 sites 0")
-    yield ran("8,190 calls", made.built, ["stop exit 0", "steps 131061", "walk 73719"])
-    made = hardened(object_of(words[0], addi(10, 10, -1), *words[2:]))
-    yield ran("8,191 calls", made.built, ["stop handler __cfi_deep", "steps 81924", "walk 49153"])
-    for k, end in (8189, "exit 5"), (8190, "exit 5"), (8191, "handler __cfi_deep"):
-        yield ran("%d calls, and one of a leaf" % k, hardened(counting(k)).built, ["stop " + end])
+    of, one_more = calling_itself(8190), calling_itself(8191)
+    assert of == object_of(*RECURSIVE)
+    yield Hardens("8,190 calls", of, "rewritten code 160 data 0 classes 0 sites 0")
+    yield Runs("8,190 calls, run", of, ["stop exit 0", "steps 131061", "walk 73719"])
+    yield alike("8,190 calls", of)
+    yield Runs("8,191 calls, run", one_more, ["stop handler __cfi_deep", "steps 81924", "walk 49153"])
+    yield Compares("8,191 calls, compared", one_more, "untame deep 1 28")
+    for k, end, told in (8189, "exit 5", "same 1"), (8190, "exit 5", "untame deep 1 36"), (8191, "handler __cfi_deep", "untame deep 1 28"):
+        name = "%d calls, and one of a leaf" % k
+        yield Runs(name, counting(k), ["stop " + end])
+        yield Compares(name + ", compared", counting(k), told)
 
 
 def units_by_version():
@@ -301,52 +304,51 @@ def by_version():
             head = older if graph < 3 else "%s %s" % (HEAD, entered(0x2C))
             entry = "call 4000000c 400000%s" % ("40" if graph < 3 else "2c")
             if wanted:
-                yield verified("%s under a graph of version %d" % (name, graph), raw(stopped(head + " " + words), entry, graph=graph), wanted)
+                yield Verifies("%s under a graph of version %d" % (name, graph), raw(stopped(head + " " + words), entry, graph=graph), wanted)
 
 
 def links():
     """Objects that are joined, and a slot of the table of addresses."""
-    made = LeanHardening(Joined([Source(each.file()) for each in (MAIN, F)]), "main", "lean")
-    yield from becomes("two objects", made, "code 128 data 0 classes 0 sites 0")
-    lines = made.graph.decode().split("\n")
-    yield Case("two objects: lines", [line in lines for line in ("leaf 40000074 4000007c", CALLED)], [True, True])
-    yield ran("two objects", made.built, ["stop exit 3", "steps 24", "walk 11"])
-    made = LeanHardening(Joined([Source(T.file())]), "main", "lean")
-    yield from becomes("a slot of the table", made, "code 168 data 8 classes 1 sites 1", {0x44: "C0010297 FBC2B283"})
-    yield Case("a slot of the table: the data", made.built.data.hex(), "8800004000000000")
-    yield ran("a slot of the table", made.built, ["stop exit 4", "steps 33", "walk 9"])
+    of = Given((MAIN.file(), F.file()), is_linked=True)
+    yield Hardens("two objects", of, "rewritten code 128 data 0 classes 0 sites 0", has=("leaf 40000074 4000007c", CALLED))
+    yield Runs("two objects, run", of, ["stop exit 3", "steps 24", "walk 11"])
+    yield alike("two objects", of)
+    of = Given((T.file(),), is_linked=True)
+    yield Hardens("a slot of the table", of, "rewritten code 168 data 8 classes 1 sites 1", {0x44: "C0010297 FBC2B283"}, data="8800004000000000")
+    yield Runs("a slot of the table, run", of, ["stop exit 4", "steps 33", "walk 9"])
 
 
 def kept():
     """Branches over a word."""
-    source = object_of(beq(10, 0, 8), jal(0, 4), RETURN, jal(1, -8), RETURN)
-    made = hardened(source)
-    yield from becomes("a branch over a jump with a lead", made, "code 148 data 0 classes 0 sites 0", {0x44: "02050063 0180006F"})
-    yield Case("the same without masks by a register", len(Hardening(source, "main", "split", policy_text()).built.code), 152)
-    yield from becomes("a branch over a jump without a lead", hardened(object_of(beq(10, 0, 8), jal(0, 4), RETURN)),
-                       "code 64 data 0 classes 0 sites 0", {0x2C: "00051463 0080006F 0040006F 00008067 FC5FF06F"})
+    words = beq(10, 0, 8), jal(0, 4), RETURN, jal(1, -8), RETURN
+    yield Hardens("a branch over a jump with a lead", object_of(*words), "rewritten code 148 data 0 classes 0 sites 0", {0x44: "02050063 0180006F"})
+    yield Hardens("the same in form split", object_of(*words, form="split"), "rewritten code 152 data 0 classes 0 sites 0")
+    yield Hardens("a branch over a jump without a lead", object_of(beq(10, 0, 8), jal(0, 4), RETURN),
+                  "rewritten code 64 data 0 classes 0 sites 0", {0x2C: "00051463 0080006F 0040006F 00008067 FC5FF06F"})
 
 
-def counted():
-    """How many steps a run has."""
-    for form, first in ("lean", 9), ("harts-lean", 13):
+def bounds():
+    """An object of two steps is compared with an image of many more: up to 21 for each, and 13 or 17 in all."""
+    for form, first, stop in ("lean", 9, "stop exit 0"), ("harts-lean", 13, "stop hart 0 exit 0"):
+        returning = object_of(RETURN, form=form)
         for count in 0, 46, 47:
-            stop = "stop exit 0" if form == "lean" else "stop hart 0 exit 0"
-            yield ran("%d words and a return in form %s" % (count, form), hardened(object_of(*[NOP] * count, RETURN), form).built,
-                      [stop, "steps %d" % (first + count)])
+            other = object_of(*[NOP] * count, RETURN, form=form)
+            yield Runs("%d words and a return in form %s" % (count, form), other, [stop, "steps %d" % (first + count)])
+            told = "same 1" if count < 47 else "differs 0\nimage running"
+            yield Compares("a return beside %d words and one in form %s" % (count, form), returning, told, image=other.built.image)
 
 
 def limits():
     """As much code as there may be, and one instruction more."""
     short, long = sd(5, 2, 8), sd(5, 2, -8)
     for name, words, wanted in (
-            ("short masks in a leaf", [short] * 131065 + [RETURN], "rewritten code 557080 data 0 classes 0 sites 0\n"),
-            ("one more short mask in a leaf", [short] * 131066 + [RETURN], "refused 19 CodeTooLarge 1048580\n"),
-            ("long masks in a leaf", [long] * 87377 + [RETURN], "rewritten code 393256 data 0 classes 0 sites 0\n"),
-            ("one more long mask in a leaf", [long] * 87378 + [RETURN], "refused 19 CodeTooLarge 1048588\n"),
-            ("short masks outside of leaves", [short] * 131060 + [lui(0, 1), RETURN], "rewritten code 557104 data 0 classes 0 sites 0\n"),
-            ("one more short mask outside of leaves", [short] * 131061 + [lui(0, 1), RETURN], "refused 19 CodeTooLarge 1048584\n")):
-        yield Case("as much code as there may be: " + name, hardened(object_of(*words)).told().decode(), wanted)
+            ("short masks in a leaf", [short] * 131065 + [RETURN], "rewritten code 557080 data 0 classes 0 sites 0"),
+            ("one more short mask in a leaf", [short] * 131066 + [RETURN], "refused 19 CodeTooLarge 1048580"),
+            ("long masks in a leaf", [long] * 87377 + [RETURN], "rewritten code 393256 data 0 classes 0 sites 0"),
+            ("one more long mask in a leaf", [long] * 87378 + [RETURN], "refused 19 CodeTooLarge 1048588"),
+            ("short masks outside of leaves", [short] * 131060 + [lui(0, 1), RETURN], "rewritten code 557104 data 0 classes 0 sites 0"),
+            ("one more short mask outside of leaves", [short] * 131061 + [lui(0, 1), RETURN], "refused 19 CodeTooLarge 1048584")):
+        yield Hardens("as much code as there may be: " + name, object_of(*words), wanted)
 
 
-ALL = (units, leaves, targets, gates, lines_of_ranges, lists, windows, harts, depth, tameness, placements, by_version, links, kept, counted, limits)
+ALL = (units, leaves, targets, gates, lines_of_ranges, lists, windows, harts, depth, tameness, placements, by_version, links, kept, bounds, limits)

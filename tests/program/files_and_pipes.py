@@ -22,10 +22,12 @@ import time
 
 sys.dont_write_bytecode = True
 HERE = os.path.dirname(os.path.abspath(__file__))
-sys.path.insert(0, os.path.join(HERE, "..", "..", "bench"))
+sys.path[:0] = [os.path.join(HERE, "..", "..", "bench"), os.path.join(HERE, "..", "model"), os.path.join(HERE, "..", "shared")]
 
 from families import CODE as CODE_FLAGS, FUNC, PROGBITS, Section, symbol, with_tables, words as code_of
+from hardening import Source, hardened_in
 from images import CODE, OPENING, UNITS, addi, image_file, jal, prologue, u_form
+from program_forms import FORMS
 
 ECALL = 0x00000073
 LIMIT = 1 << 26  # bytes of a file at most
@@ -320,12 +322,12 @@ def read_or_none(path):
         return None
 
 
-def rewrites(cases, what, words, status, text, written, command=("rewrite",), **options):
+def rewrites(cases, what, words, status, text, written, command=("rewrite",), whole=None, **options):
     """The program ends in this way, and of the image, the graph and the map those that are named are whole, and no other is
     there. What it wrote goes after that."""
     cases.expect(what, [*command] + words, status, text, **options)
     paths = [cases.path(word) for word in words[3:]]
-    whole = hardened_files()
+    whole = whole or hardened_files()
     got = [None if os.path.isdir(path) or path.startswith("/dev") else read_or_none(path) for path in paths]
     cases.tell(what + ": the files", got, [whole[k] if k in written else None for k in range(3)])
     for path in paths:
@@ -337,6 +339,10 @@ def hardened_programs(cases):
     names = ["i", "g", "m"]
     rewrites(cases, "an object", ["b.o", "main", "none"] + names, 0, REWRITTEN, (0, 1, 2))
     rewrites(cases, "an object in a form", ["b.o", "main", "none"] + names, 0, REWRITTEN, (0, 1, 2), ("harden", "plain"))
+    for form in FORMS:
+        made = hardened_in(form, Source(RETURNS), "main")
+        rewrites(cases, "an object in form " + form, ["b.o", "main", "none"] + names, 0, made.told(), (0, 1, 2), ("harden", form),
+                 (made.image, made.graph, made.map))
     with open(cases.path("b.o"), "rb") as source, open(cases.path("own"), "wb") as copy:
         copy.write(source.read())
     rewrites(cases, "an object as its own image", ["own", "main", "none", "own", "g", "m"], 0, REWRITTEN, (0, 1, 2))

@@ -20,9 +20,10 @@ import programs
 sys.path.append(os.path.join(programs.HERE, "..", "..", "tools"))
 
 from command_line import RIGHT, commands, told
+from program_forms import MODELLED
 
 SHORT = ["", "-h", "--help", "-V", "--version", "--", "-", "-x", "--steps=5", "--vers", "-hx", "-Vh"]
-LIKE = {"FORM": ["plain", "harts", "split", "harts-split", "Plain", "both"],
+LIKE = {"FORM": [*MODELLED, "Plain", "both"],
         "STEPS": ["1", "0000000001", "1000000000", "1000000001", "00000000001", "1k", "+1", "-1"],
         "NUMBER": ["1000000001", "00000000007", "x", "1 "]}
 KNOWN = [

@@ -1,6 +1,7 @@
 #!/usr/bin/env python3
 """Asks tools/explain.py of refusals, policies, an exploit, tables and images, of one object and of several that `link` joins, and
-compares what it tells with other tools; and, by told.py, the scripts beside it of symbols, profiles and policies.
+compares what it tells with other tools; by told.py, the scripts beside it of symbols, profiles and policies; and, by lean_explained.py, lean
+images.
 
     python3 tests/real/explained.py [--program PATH]
 
@@ -19,10 +20,12 @@ import tempfile
 
 sys.dont_write_bytecode = True
 
+import lean_explained
 import programs
 import told
 from attack import ATTACKS
 from pitfalls import CHANCES, LABELS, MACHINE, NO_ZEROS, Bench, policy_of
+from program_forms import FORMS, is_apart, is_for_harts, is_lean
 from programs import Hardened, Linked, Missing
 from refusals import PLAIN, compiled, many_sections
 
@@ -374,12 +377,12 @@ def of_image(asked, program, made):
         found = [address for address, unit in units if kinds.get(unit) == kind]
         asked.same("%s, %s, %s" % (program.name, made.form, kind), found, [line[1] for line in graph if line[0] == kind])
     gates = {address for address, unit in units if unit == "gate"}
-    behind = {"class": 0, "callclass": 0, "jumpclass": 4}
+    behind = {"class": 0, "callclass": 8, "jumpclass": 0} if is_lean(made.form) else {"class": 0, "callclass": 0, "jumpclass": 4}
     wanted = {"%08x" % (int(target, 16) + behind[line[0]]) for line in graph if line[0] in behind for target in line[2:]}
     asked.same("%s, %s, gates" % (program.name, made.form), gates, wanted)
-    checks = re.findall(r"^[0-9a-f]{8}  computed (call|jump)  .*?(by the second word|$)", listing, re.M)
-    second = [(kind, "by the second word" if kind == "jump" and "split" in made.form else "") for kind, _ in checks]
-    asked.same("%s, %s, words" % (program.name, made.form), checks, second)
+    checks = re.findall(r"^[0-9a-f]{8}  computed (call|jump)  .*?(by the (?:second|third) word|$)", listing, re.M)
+    word = ("call", "by the third word") if is_lean(made.form) else ("jump", "by the second word" * is_apart(made.form))
+    asked.same("%s, %s, words" % (program.name, made.form), checks, [(kind, word[1] if kind == word[0] else "") for kind, _ in checks])
     texts = set(re.findall(r"^[0-9a-f]{8}  (system|return) .* (\S+)$", listing, re.M))
     asked.same(program.name + ", instructions", texts, {("system", "ecall"), ("system", "ebreak"), ("return", "ret")})
     text = asked.told("graph", *objects(made), made.graph, made.map)
@@ -424,20 +427,22 @@ def of_others(asked, program, made):
     told.of_symbols(asked, linked)
     for attack in ATTACKS.values():
         told.of_refused(asked, linked, attack(linked.gate("open_door")), linked.gate("open_door"))
-    for form in ("harts", "harts-split"):
+    for form in [each for each in FORMS if is_for_harts(each) and not is_lean(each)]:
         told.of_profile(asked, program, linked_program(asked, program, form))
 
 
 def try_all(asked):
     for part in (of_refusals, of_undefined, of_policies, of_wrong_lists, of_names, of_tables, of_strange_names, of_refused_objects, of_refused_links,
                  of_many_sections, of_pitfalls, of_links, of_linked_names, of_missing, told.of_sites, told.of_numbers, told.of_variables,
-                 told.of_typed, told.of_narrowed):
+                 told.of_typed, told.of_narrowed, lean_explained.of_entries):
         part(asked)
     for program, made in hardened_programs(asked):
         of_image(asked, program, made)
-        for form in ("split", "harts-split"):
+        for form in filter(is_apart, FORMS):
             of_image(asked, program, Hardened(asked.tool, made.object, form))
-        of_image(asked, program, linked_program(asked, program, "harts-split"))
+            if is_for_harts(form):
+                of_image(asked, program, linked_program(asked, program, form))
+        lean_explained.of_programs(asked, program, made.object, of_image)
         told.of_labels(asked, made)
         told.of_profile(asked, program, linked_program(asked, program, "plain"))
         if program.name == "visitors":

@@ -5,9 +5,9 @@ The plain program runs for several harts in the model of tests/harts. What the o
 makes of them, whoever works them off.
 
 It is built for rv64im without -fpic at every level by each compiler, joined by `ld -r` and hardened in the form `harts`, at -O2
-in `harts-split` too, and attacked. Of what else there is each combination of a compiler, a processor, -fpic or not, a form for
-several harts, `ld -r` or `link`, and a list of system calls or none is built at one level, in turn (64 builds), and runs
-under the same turns, without attacks. The forms for one hart are left out, since `begin` asks for a number of a hart.
+in each other form for several harts too, and attacked. Of what else there is each combination of a compiler, a processor,
+-fpic or not, a form for several harts, `ld -r` or `link`, and a list of system calls or none is built at one level, in turn,
+and runs under the same turns, without attacks. The forms for one hart are left out, since `begin` asks for a number of a hart.
 """
 
 import concurrent.futures
@@ -16,12 +16,14 @@ import random
 import sys
 
 import programs
+from program_forms import FORMS, is_for_harts
 from programs import CALLS, LEVELS, LIBRARY, Hardened, Linked, Program
 
 sys.path.append(os.path.join(programs.HERE, "..", "harts"))
 
 from machine import Machine
 
+IN_FORMS = list(filter(is_for_harts, FORMS))
 OFFICE = ["clerks.c", "lock.c", "door.c"]
 ORDERS = [("+", 7, 0x1122334455667788), ("*", 3, -7), ("+", 7, 123456789), ("o", 0, 1), ("*", 1, 2**40), ("+", 4, 2**60 + 5),
           ("*", 0, 99), ("+", 2, -1), ("+", 5, 10**17), ("*", 6, 31)]
@@ -217,18 +219,18 @@ def of_no_lock(tool, folder, compiler, wanted):
 
 
 def rows_of(tool, folder, compiler, level, wanted):
-    """What is asked of one build, with its name; at one level in both forms for several harts."""
+    """What is asked of one build, with its name; at one level in each form for several harts."""
     build = Build(tool, folder, compiler, level)
     asked = [of_runs, of_attack_on_first, of_attack_on_second] + [of_drawn_turns] * (level == "-O2")
     rows = rows_of_build(build, asked, wanted)
-    if level == "-O2":
-        rows += rows_of_build(Build(tool, folder, compiler, level, "harts-split"), [of_runs, of_attack_on_first], wanted)
+    for form in [each for each in IN_FORMS if each != build.form] if level == "-O2" else []:
+        rows += rows_of_build(Build(tool, folder, compiler, level, form), [of_runs, of_attack_on_first], wanted)
     return rows
 
 
 def ways():
     """Each form for several harts, with each way of joining, with a list and without."""
-    return [(form, join, listed) for form in ("harts", "harts-split") for join in ("ld -r", "link") for listed in (False, True)]
+    return [(form, join, listed) for form in IN_FORMS for join in ("ld -r", "link") for listed in (False, True)]
 
 
 def rows_of_ways(tool, folder, compiler, turn, wanted):

@@ -15,11 +15,11 @@ from typing import NamedTuple
 HERE = os.path.dirname(os.path.abspath(__file__))
 PROGRAM = os.path.join(HERE, "..", "..", "crates", "rvcfi", "out", "rvcfi")
 QEMU_SCRIPT = [sys.executable, os.path.join(HERE, "..", "..", "docs", "tutorial", "for_qemu.py")]
-sys.path.append(os.path.dirname(QEMU_SCRIPT[1]))
+sys.path += [os.path.dirname(QEMU_SCRIPT[1]), os.path.join(HERE, "..", "shared")]
 
 import for_qemu as qemu_script
+from program_forms import FORMS
 
-FORMS = ["plain", "harts", "split", "harts-split"]
 LEVELS = ["-O0", "-O1", "-O2", "-O3", "-Os"]
 ENTRY = "_start"
 STEPS = "100000000"

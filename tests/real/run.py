@@ -7,8 +7,8 @@ Each program is compiled by gcc and by clang, for rv64im and for rv64i (where te
 quotients), with -fpic and without, at -O0, -O1, -O2, -O3 and -Os: 40 builds of each. What it puts and its status must be those
 of the same files compiled for the host, also under qemu-riscv64 (the plain program, and the hardened image) and in the machine;
 the steps of the hardened image must be those that qemu counts, and `compare` must find no difference. Each build is hardened in
-each of the four forms, its files joined by `ld -r` or by `link`, without a list of system calls or under that of those that it
-makes. Of these four combinations of joining and list a build and a form have one, in turn: every one is met with each program,
+each form that the program has, its files joined by `ld -r` or by `link`, without a list of system calls or under that of those that it
+makes. Of the four combinations of joining and list a build and a form have one, in turn: every one is met with each program,
 form, processor, compiler and -fpic, at one of the levels at least, and at each level with each form, processor, compiler and
 -fpic, by one of the programs at least; the other three of each build and form are left out. Masks for several stores are in all
 of them: there is no way to leave them out.
@@ -44,7 +44,8 @@ import pitfalls
 import programs
 import refusals
 from attack import ATTACKS
-from programs import FORMS, LEVELS, PROGRAMS, Hardened, Linked, Missing
+from program_forms import FORMS, is_apart
+from programs import LEVELS, PROGRAMS, Hardened, Linked, Missing
 
 DOOR = b"the door is open\n", 42
 HANDLERS = {"__cfi_bad_target": 0x40000000, "__cfi_bad_return": 0x40000004}
@@ -173,7 +174,7 @@ class Case:
             self.try_shorter(tool, folder, made[FIRST])
         if FIRST._replace(join="link") in made and FIRST in made:
             self.try_link(made[FIRST._replace(join="link")], made[FIRST])
-        for form in ("split", "harts-split"):
+        for form in filter(is_apart, FORMS):
             if FIRST._replace(form=form) in made and FIRST in made:
                 self.try_targets(made[FIRST], made[FIRST._replace(form=form)], form)
 

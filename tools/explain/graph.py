@@ -12,6 +12,8 @@ class Named:
 
     def __init__(self, read, graph, placed):
         self.read, self.graph, self.map = read, graph, placed
+        gates = set(placed.gates)
+        self.bodies = {placed.place(to): to for _, to in graph.edges if to not in gates}  # of places with enters
 
     def place(self, address):
         """A place's name: a function's alone at its start, else as a policy has it."""
@@ -21,6 +23,11 @@ class Named:
         if self.is_function(address):
             return self.owner(address)
         return self.read.name(place) if place else "%08x, in the prologue" % address
+
+    def is_before_body(self, address):
+        """Whether an address is before what a place with an enter begins with for who does not call it."""
+        body = self.bodies.get(self.map.place(address))
+        return body is not None and address < body
 
     def at_line(self, address):
         """` at `, and the file and line that an address is of, where debugging information has them."""
@@ -65,8 +72,9 @@ class Named:
         calls = sum(site.kind == "call" for site in sites)
         of_jumps = sum(sort == " of jumps" for sort in self.graph.sorts.values())
         parts = " (%d of calls, %d of jumps)" % (len(self.graph.classes) - of_jumps, of_jumps) if self.graph.is_split else ""
-        yield "%d classes%s, %d computed calls, %d computed jumps, %d calls, %d branches and jumps" % (
-            len(self.graph.classes), parts, calls, len(sites) - calls, len(self.graph.calls), len(self.graph.edges))
+        leaves = ", %d leaves" % len(self.graph.leaves) if self.graph.is_lean else ""
+        yield "%d classes%s, %d computed calls, %d computed jumps, %d calls, %d branches and jumps%s" % (
+            len(self.graph.classes), parts, calls, len(sites) - calls, len(self.graph.calls), len(self.graph.edges), leaves)
 
     def class_lines(self, label, targets):
         functions = [target for target in targets if self.is_function(target)]

@@ -17,6 +17,7 @@ UNTAME = {
     "end": "the program ran over the end of a section",
     "call": "it would make a system call whose number is not in the list",
 }
+BASED = ", or store off a base that is not below 2^28"  # what lean images add to `window`
 
 
 def name_of(named, address):
@@ -32,6 +33,8 @@ def instruction(named, disassembly, address):
     place = named.map.place(address)
     if place is None:
         return ""
+    if named.is_before_body(address):
+        return "its enter, or what leads over it"
     return "the end of a section" if named.map.is_end(place) else disassembly.text(place, named.read.word_at(place))
 
 
@@ -141,7 +144,7 @@ def of_rejected(named, disassembly, words):
 
 def of_untame(named, disassembly, words):
     place = int(words[2]), int(words[3])
-    where, why = named.read.name(place) + named.read.at_line(place), UNTAME.get(words[1], words[1])
+    where, why = named.read.name(place) + named.read.at_line(place), UNTAME.get(words[1], words[1]) + BASED * (words[1] == "window" and named.graph.is_lean)
     yield "%s leaves what is compared at %s: %s." % (named.read.own_run, where, why)
     yield "The instruction: " + disassembly.text(place, named.read.word_at(place))
     if words[1] == "call":

@@ -13,14 +13,19 @@ class Wrong(Exception):
 
 
 class Prologue(NamedTuple):
-    """How many words the opening has, and where the closing and the first unit stand."""
+    """How many words the opening has, and where the closing and the first unit stand; the image's version, and whether it is lean."""
     opening: int
     closing: int
     units: int
+    version: int = 1
+    is_lean: bool = False
 
 
-ONE, SEVERAL = Prologue(11, 0x40000038, 0x40000040), Prologue(15, 0x40000048, 0x40000050)
-PROLOGUES = {"rvcfi-map 1": ONE, "rvcfi-map 2 harts": SEVERAL, "rvcfi-map 2 split": ONE, "rvcfi-map 2 harts-split": SEVERAL}
+ONE, SEVERAL = Prologue(11, 0x40000038, 0x40000040), Prologue(15, 0x40000048, 0x40000050, 2)
+LEAN_ONE, LEAN_SEVERAL = Prologue(6, 0x40000024, 0x4000002C, 1, True), Prologue(10, 0x40000034, 0x4000003C, 2, True)
+PROLOGUES = {"rvcfi-map 1": ONE, "rvcfi-map 2 harts": SEVERAL, "rvcfi-map 2 split": ONE, "rvcfi-map 2 harts-split": SEVERAL,
+             "rvcfi-map 2 lean": LEAN_ONE, "rvcfi-map 2 harts-lean": LEAN_SEVERAL}
+GRAPHS = "rvcfi-graph 1", "rvcfi-graph 2", "rvcfi-graph 3"
 SORTS = {"class": "", "callclass": " of calls", "jumpclass": " of jumps"}
 
 
@@ -41,12 +46,12 @@ class Site(NamedTuple):
 
 class Graph:
     """Classes by their label, with the sort of each, the sites, the edges and calls as pairs of addresses, and the numbers of system
-    calls, or None. In version 2 calls and jumps have classes of their own, and two words lead a target."""
+    calls, or None. From version 2 on calls and jumps have classes of their own. Version 3 has the ranges of leaves."""
 
     def __init__(self, path):
-        self.classes, self.sorts, self.sites, self.edges, self.calls = {}, {}, [], [], []
-        head, lines = words_of(path, "rvcfi-graph 1", "rvcfi-graph 2")
-        self.is_split, self.numbers = head == "rvcfi-graph 2", None
+        self.classes, self.sorts, self.sites, self.edges, self.calls, self.leaves = {}, {}, [], [], [], []
+        head, lines = words_of(path, *GRAPHS)
+        self.is_split, self.is_lean, self.numbers = head != GRAPHS[0], head == GRAPHS[2], None
         for first, *rest in lines:
             if first in SORTS:
                 self.classes[rest[0]] = [int(word, 16) for word in rest[1:]]
@@ -55,8 +60,9 @@ class Graph:
                 self.numbers = [int(word) for word in rest]
             elif first == "site":
                 self.sites.append(Site(int(rest[0], 16), rest[1], rest[2]))
-            elif first in ("edge", "call"):
-                getattr(self, first + "s").append((int(rest[0], 16), int(rest[1], 16)))
+            elif first in ("edge", "call", "leaf"):
+                ranges = {"edge": self.edges, "call": self.calls, "leaf": self.leaves}
+                ranges[first].append((int(rest[0], 16), int(rest[1], 16)))
 
     def site(self, address):
         return next((site for site in self.sites if site.address == address), None)
@@ -65,13 +71,8 @@ class Graph:
         return [site for site in self.sites if site.label == label]
 
     def name(self, label):
-        """A class by its label, and in version 2 by what it serves."""
+        """A class by its label, and from version 2 on by what it serves."""
         return "class %s%s" % (label, self.sorts.get(label, ""))
-
-    def leads(self):
-        """The addresses of the words that lead targets."""
-        targets = {target for targets in self.classes.values() for target in targets}
-        return targets | {target + 4 for target in targets} if self.is_split else targets
 
 
 class Map:

@@ -5,7 +5,7 @@ use Rattle.rv_word.specs.Image.{Contents}
 use Rattle.rv_word.specs.MemoryMap.{Profile}
 use Rattle.cfi_map.specs.GraphAtMap.{ProgramAtMap}
 use Rattle.cfi_map.specs.Source.{Source}
-use Rattle.cfi_meaning.specs.PlacesKept.{most_steps}
+use Rattle.cfi_meaning.specs.Bounds.{most_steps}
 use Rattle.cfi_runs.specs.WholeRun.{undisturbed}
 use Rattle.rv_code.specs.State.{After}
 use Rattle.rv_code.specs.declared.event.Event.{Event}

@@ -1,8 +1,8 @@
 //! The comparison of two runs, from both to the answer.
 
-ghost use Rattle.std.specs.Prelude.{◌≡◌, ◌≤◌, ◌^◌, [], IfOk, is_some, option_map, replicate, slice_get};
+ghost use Rattle.std.specs.Prelude.{◌≡◌, ◌+◌, ◌*◌, ◌≤◌, ◌^◌, [], IfOk, is_some, option_map, replicate, slice_get};
 ghost use Rattle.rv_word.specs.Image.{image_profile};
-ghost use Rattle.rv_word.specs.Form.{profile_for};
+ghost use Rattle.rv_word.specs.Form.{graph_version, profile_for};
 ghost use Rattle.rv_word.specs.MemoryMap.{profile_of};
 ghost use Rattle.rv_code.specs.Run.{run_alone};
 ghost use Rattle.rv_machine.specs.Parts.{hart_in, shared_in};
@@ -11,7 +11,7 @@ ghost use Rattle.cfi_map.specs.Source.{source_start};
 ghost use Rattle.cfi_meaning.specs.Compared.{compared, compared_from, image_end};
 ghost use Rattle.cfi_compare.specs.Followed.{IsAnswered, end_told, item_or, settled, settled_items};
 ghost use Rattle.cfi_compare.specs.Told.{IsOwnState, told_answer, told_item};
-ghost use Rattle.cfi_meaning.specs.PlacesKept.{bound, last_words};
+ghost use Rattle.cfi_meaning.specs.Bounds.{entry_words_by, last_words, most_words_by};
 ghost use Rattle.cfi_runs.specs.WholeRun.{undisturbed};
 
 use crate::answer::Compared;
@@ -21,7 +21,8 @@ use crate::source::finish;
 use rv_code::Events;
 use rv_machine::{Processor, Turn};
 use rv_word::profile::START;
-use rv_word::{Form, Image, NoMemory};
+use rv_word::unit_words::ENTER_WORDS;
+use rv_word::{Form, GraphVersion, Image, NoMemory};
 use src_machine::{SourceRun, SourceTurn};
 use std::alloc::Global;
 
@@ -70,14 +71,36 @@ fn answer_at(
     Ok(settle(index as u64, has_ended, ours, theirs))
 }
 
-/// How many steps an image takes at most for so many of its program's, at a map of a form, where that many words stand before the
-/// unit of a place at most.
-fn bound(form: Form, lead: u64, steps: u64) -> u64
-    requires few { lead ≤ 2 }
-    requires steps { steps ≤ 2 ^ 58 }
-    ensures { result ≡ bound lead (last_words (profile_for form)) steps }
+/// How many steps an image takes at most for one of its program's, by its form and the sides of its graph.
+fn most_words(form: Form, sides: u64) -> u64
+    requires few { sides ≤ 2 }
+    ensures value { result ≡ most_words_by (graph_version form) sides }
+    ensures most { result ≤ 22 }
 {
-    (20 + lead) * steps + (form.units_from() - START) / 4
+    match form.graph_version() {
+        GraphVersion::OneLabel | GraphVersion::TwoLabels => 20 + sides,
+        GraphVersion::CalleeSaves => 21,
+    }
+}
+
+/// How many steps save the closing's address at the entry.
+fn entry_words(form: Form) -> u64
+    ensures value { result ≡ entry_words_by (graph_version form) }
+    ensures most { result ≤ 5 }
+{
+    match form.graph_version() {
+        GraphVersion::OneLabel | GraphVersion::TwoLabels => 0,
+        GraphVersion::CalleeSaves => u64::from(ENTER_WORDS),
+    }
+}
+
+/// How many steps an image takes at most for so many of its program's.
+fn most_steps(form: Form, sides: u64, steps: u64) -> u64
+    requires few { sides ≤ 2 }
+    requires steps { steps ≤ 2 ^ 58 }
+    ensures { result ≡ most_words_by (graph_version form) sides * steps + (last_words (profile_for form) + entry_words_by (graph_version form)) }
+{
+    most_words(form, sides) * steps + ((form.units_from() - START) / 4 + entry_words(form))
 }
 
 /// The answer for a program's run that made these system calls in some steps, the last of which was not untame, and a
@@ -142,7 +165,7 @@ pub fn compare(
             because, section, offset,
         )),
         turn => {
-            let most = bound(source.form(), source.most_lead(), source.steps());
+            let most = most_steps(source.form(), source.sides(), source.steps());
             let events = source.processor().system().events();
             let answer = with_image(alloc, events, turn, most, image, input)?;
             Ok(answer)

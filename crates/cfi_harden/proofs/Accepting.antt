@@ -2,10 +2,10 @@
 use Rattle.std.proofs.Common.{◌≡◌, ℕ, ◌+◌, ◌-◌, ◌<◌, true, false, List, Option, Some, None, refl, sym, ap, subst, ◌∙◌, arith}
 use Rattle.std.specs.Prelude.{is_some, slice_get}
 use Rattle.rv_word.specs.declared.version.GraphVersion.{GraphVersion}
-use Rattle.rv_word.proofs.Profiles.{is_full, is_profile}
-use Rattle.rv_word.specs.Form.{graph_version, image_version}
+use Rattle.rv_word.proofs.Profiles.{is_form_profile}
+use Rattle.rv_word.specs.Form.{graph_version, profile_for}
 use Rattle.rv_word.specs.declared.form.Form.{Form}
-use Rattle.rv_word.specs.declared.form.Form.TheVariants.{Plain, Harts, Split, HartsSplit}
+use Rattle.rv_word.specs.declared.form.Form.TheVariants.{Plain, Harts, Split, HartsSplit, Lean, HartsLean}
 use Rattle.cfi_graph.specs.Graph.{has_leaves}
 use Rattle.obj_program.specs.AtMap.{instr_at}
 use Rattle.obj_program.specs.Program.{Program, count, is_end, item_of}
@@ -49,12 +49,14 @@ last_there : (program : Program) → 0 < count program → is_end (item_of progr
     (k : ℕ) × (count program ≡ k + 1) × (is_end (item_of program k).kind ≡ true)
 last_there program some last = (count program - 1, omega arith, last)
 
--- in images of each form callers save the sites of calls
-form_full : (form : Form) → has_leaves (graph_version form) ≡ false
-form_full Plain = refl
-form_full Harts = refl
-form_full Split = refl
-form_full HartsSplit = refl
+-- images of each form save the sites of calls as graphs of its version say
+form_saves : (form : Form) → (profile_for form).callee_saves ≡ has_leaves (graph_version form)
+form_saves Plain = refl
+form_saves Harts = refl
+form_saves Split = refl
+form_saves HartsSplit = refl
+form_saves Lean = refl
+form_saves HartsLean = refl
 
 -- what is chosen for a program: a placement in which no value leaves its range, and labels
 module _ (p : PreparedParts) (ready : IsReady p) (s : Spaced) (fitting : IsFitting p s) (labels : List ℕ) (given : AreGiven p.program p.closed labels) where
@@ -82,15 +84,15 @@ module _ (p : PreparedParts) (ready : IsReady p) (s : Spaced) (fitting : IsFitti
       let of : (j : ℕ) (side : Side) → slice_get p.closed.sides j ≡ Some side → IsSide raw side =
       side_at p.program policy raw is p.closed.version p.closed.sides closes.sorts closes.sides in
       record {
-        profile = is_full (image_version p.form);
-        version = ap has_leaves ready.version ∙ form_full p.form;
+        profile = is_form_profile p.form;
+        saves = form_saves p.form ∙ ap has_leaves (sym ready.version);
         sound = ready.sound;
         words = ready.words;
         last = let below = ready.entered in last_there p.program (omega arith) (ready.fits_maps.last (omega arith));
         entry_there = ready.entered;
         legal = placed_here.legal;
         groups = groups_here;
-        room = room_there (chosen here labels) ready.sound values (ap has_leaves ready.version ∙ form_full p.form) groups_here (is_profile (image_version p.form)) placed_here.legal placed_here.size;
+        room = room_there (chosen here labels) ready.sound values (record { sorts = closes.sorts; counted = given.counted }) groups_here (is_form_profile p.form) placed_here.legal placed_here.size;
         values = values;
         calls = ready.calls;
         sorts = closes.sorts;

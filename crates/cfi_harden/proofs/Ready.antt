@@ -1,7 +1,7 @@
 -- A request that is prepared is ready to be written, and what its writing comes to is what the request comes to.
 use Rattle.std.proofs.Common.{ℕ, ◌^◌, ◌<◌, ◌≤◌, List, Result, Ok, Err, arith, refl, subst, sym}
 use Rattle.std.specs.Prelude.{sum}
-use Rattle.rv_word.proofs.Profiles.{is_profile, laid_out}
+use Rattle.rv_word.proofs.Profiles.{is_form_profile, laid_out}
 use Rattle.rv_word.specs.Form.{graph_version, image_version, profile_for}
 use Rattle.rv_word.specs.MemoryMap.{CODE_SIZE}
 use Rattle.rv_word.specs.declared.end.End.{End}
@@ -66,7 +66,7 @@ writable p s labels ready fitting given =
 -- the parts of a placement that fits have room behind the prologue
 pub room_behind : (p : PreparedParts) (s : Spaced) → IsFitting p s → sum (whole_sizes (entered_of p)) < CODE_SIZE
 room_behind p s fitting =
-    let laid = laid_out (profile_for p.form) (is_profile (image_version p.form)) in
+    let laid = laid_out (profile_for p.form) (is_form_profile p.form) in
     let room = subst (λ (l : ProgramAtMap). whole_size p.form (entered_in l) ≤ CODE_SIZE) fitting.placed.of fitting.placed.placed.room in
     omega (arith, laid.low, room)
 

@@ -1,4 +1,5 @@
 mod Rows
-mod Tables
+pub mod Tables
 pub mod Called
 mod Spoiling
+pub mod Ends

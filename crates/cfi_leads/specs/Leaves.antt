@@ -1,7 +1,7 @@
 -- Leaves: functions that call nothing and leave x1 alone, so that they need not save the site to which they return. A piece of code
 -- begins at each entry, at each target of a class and at a section's end, and has the places up to the next one. It is a leaf where it
 -- begins at an entry that is no class's target, and no place spoils it.
-use Rattle.std.specs.Prelude.{ℕ, zero, suc, ◌+◌, Bool, true, false, not, ◌==◌, ◌&&◌, ◌||◌, if◌then◌else◌, Option, Some, None}
+use Rattle.std.specs.Prelude.{ℕ, zero, suc, ◌+◌, ◌-◌, Bool, true, false, not, ◌==◌, ◌&&◌, ◌||◌, if◌then◌else◌, Option, Some, None}
 use Rattle.rv_instr.specs.Operands.{written}
 use Rattle.rv_instr.specs.declared.instr.Instr.{Instr}
 use Rattle.rv_code.specs.Decode.{decoded}
@@ -103,3 +103,11 @@ is_leaf of e = is_entry of e && (not (is_target of.closed.sides e) && not (is_sp
 -- a place is in a leaf
 abbrev pub in_leaf : Entered → ℕ → Bool
 in_leaf of k = is_leaf of (head of k)
+
+-- where a leaf ends that begins at a place: at the next place, of those that follow, at which a piece begins
+unfoldable pub next_piece : Entered → ℕ → ℕ → ℕ
+next_piece of k zero = k
+next_piece of k (suc n) = if begins of k then k else next_piece of (k + 1) n
+
+abbrev pub leaf_end : Entered → ℕ → ℕ
+leaf_end of e = next_piece of (e + 1) (count of.program - (e + 1))

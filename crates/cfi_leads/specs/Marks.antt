@@ -36,6 +36,7 @@ abbrev pub followed : Entered → ℕ → Option ℕ
 followed of k = if_kind (nat_lt (k + 1) (count of.program) && not (ends_before (item_of of.program k).kind)) (Some (k + 1))
 
 -- what is known of the places of a program under a graph of version 3
-abbrev pub AreLean : Entered → List Bool → List Bool → Type 0
-AreLean of entered inside =
-    has_leaves of.closed.version ≡ true → AreFlags (enters of) (count of.program) entered × AreFlags (in_leaf of) (count of.program) inside
+abbrev pub AreLean : Entered → List Bool → List Bool → List ℕ → Type 0
+AreLean of entered inside heads =
+    has_leaves of.closed.version ≡ true →
+    AreFlags (enters of) (count of.program) entered × (AreFlags (in_leaf of) (count of.program) inside × AreHeads of heads)

@@ -1,12 +1,13 @@
 //! How many bytes the words before the unit of a place have.
 
 ghost use Rattle.std.specs.Prelude.{◌≡◌, ◌<◌, ◌≤◌, true, false, if◌then◌else◌, IfOk};
+ghost use Rattle.obj_program.specs.MapFit.{EndsLast};
 ghost use Rattle.obj_program.specs.Program.{count, item_of};
 ghost use Rattle.obj_program.specs.Sound.{IsSound};
 ghost use Rattle.cfi_graph.specs.Graph.{has_leaves};
 ghost use Rattle.cfi_leads.specs.Entered.{entered_at};
 ghost use Rattle.cfi_leads.specs.Leads.{enters, lead_size, lead_words, words_of_entry, words_of_sides};
-ghost use Rattle.cfi_leads.specs.Leaves.{in_leaf};
+ghost use Rattle.cfi_leads.specs.Leaves.{begins, head, in_leaf, is_leaf, leaf_end};
 ghost use Rattle.cfi_leads.specs.Marks.{AreLean};
 
 use crate::entries::{Entries, is_call_target};
@@ -23,9 +24,11 @@ pub struct Leads<'a, 'b> {
     items: &'a Items<'b>,
     closed: &'a Closed,
     entry: u64,
-    /// Of each place whether what saves a site stands before it, and whether it is in a leaf: both are empty where callers save sites.
+    /// Of each place whether what saves a site stands before it, whether it is in a leaf, and where its piece begins: all are empty where
+    /// callers save sites.
     entered: Vec<bool>,
     inside: Vec<bool>,
+    heads: Vec<u64>,
 }
 
 impl<'a, 'b> Model for Leads<'a, 'b> {
@@ -36,7 +39,7 @@ impl<'a, 'b> Model for Leads<'a, 'b> {
 
     ghost view = { λ l. entered_at l.items.now l.closed.now l.entry };
 
-    ghost invariant = { λ l. AreLean (entered_at l.items.now l.closed.now l.entry) l.entered.items l.inside.items };
+    ghost invariant = { λ l. AreLean (entered_at l.items.now l.closed.now l.entry) l.entered.items l.inside.items l.heads.items };
 }
 
 /// So many words, or none.
@@ -58,6 +61,7 @@ impl<'a, 'b> Leads<'a, 'b> {
             entry,
             entered: Vec::new(alloc),
             inside: Vec::new(alloc),
+            heads: Vec::new(alloc),
         }
     }
 
@@ -79,6 +83,7 @@ impl<'a, 'b> Leads<'a, 'b> {
             entry,
             entered,
             inside,
+            heads: pieces.into_heads(),
         })
     }
 
@@ -154,7 +159,55 @@ impl<'a, 'b> Leads<'a, 'b> {
         self.inside[k as usize]
     }
 
+    /// Where the piece of a place begins.
+    fn head(&self, k: u64) -> u64
+        requires place { k < count self.now.program }
+        requires lean { has_leaves self.now.closed.version ≡ true }
+        ensures { result ≡ head self.now k }
+    {
+        self.heads[k as usize]
+    }
+
+    /// Whether a piece begins at a place behind the first one.
+    fn begins(&self, k: u64) -> bool
+        requires place { k < count self.now.program }
+        requires behind { 0 < k }
+        requires lean { has_leaves self.now.closed.version ≡ true }
+        ensures { result ≡ begins self.now k }
+    {
+        self.head(k) == k
+    }
+
+    /// Whether a leaf begins at a place.
+    pub fn is_leaf(&self, k: u64) -> bool
+        requires place { k < count self.now.program }
+        requires lean { has_leaves self.now.closed.version ≡ true }
+        ensures { result ≡ is_leaf self.now k }
+    {
+        self.head(k) == k && self.in_leaf(k)
+    }
+
+    /// Where a leaf ends that begins at a place: at the next piece, which begins where the program ends at the latest, and before that
+    /// where the program ends in a section's end.
+    pub fn leaf_end(&self, e: u64) -> u64
+        requires place { e < count self.now.program }
+        requires lean { has_leaves self.now.closed.version ≡ true }
+        ensures value { result ≡ leaf_end self.now e }
+        ensures past { e < result }
+        ensures most { result ≤ count self.now.program }
+        ensures before { EndsLast self.now.program → is_leaf self.now e ≡ true → result < count self.now.program }
+    {
+        let count = self.count();
+        for k in e + 1..count {
+            if self.begins(k) {
+                return k;
+            }
+        }
+        count
+    }
+
     /// How many words a place's lead has where callers save sites.
+    #[inline(always)]
     fn words_of_sides(&self, k: u64) -> u32
         ensures value { result ≡ words_of_sides self.now k }
         ensures few { result ≤ 2 }
@@ -167,6 +220,7 @@ impl<'a, 'b> Leads<'a, 'b> {
     }
 
     /// How many it has where callees do.
+    #[inline(never)]
     fn words_of_entry(&self, k: u64) -> u32
         requires place { k < count self.now.program }
         requires lean { has_leaves self.now.closed.version ≡ true }
@@ -179,6 +233,7 @@ impl<'a, 'b> Leads<'a, 'b> {
     }
 
     /// How many words it has.
+    #[inline(always)]
     fn words(&self, k: u64) -> u32
         requires { k < count self.now.program }
         ensures value { result ≡ lead_words self.now.closed.version self.now k }
@@ -191,6 +246,7 @@ impl<'a, 'b> Leads<'a, 'b> {
     }
 
     /// How many bytes the words before the unit of a place have, if there are any.
+    #[inline(always)]
     pub fn size(&self, k: u64) -> u32
         requires { k < count self.now.program }
         ensures value { result ≡ lead_size self.now k }

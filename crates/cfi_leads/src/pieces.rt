@@ -228,4 +228,11 @@ impl<'a, 'b> Pieces<'a, 'b> {
         }
         Ok(entered)
     }
+
+    /// Of each place where its piece begins.
+    pub(crate) fn into_heads(self) -> Vec<u64>
+        ensures { AreHeads self.entry result.items }
+    {
+        self.heads
+    }
 }

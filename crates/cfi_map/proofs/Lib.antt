@@ -15,5 +15,7 @@ mod Placements
 mod PlacingRows
 mod GroupRows
 mod LeanRows
+mod LeanLines
+mod LeanWindow
 mod SourceRows
 pub mod Ecalls

@@ -9,7 +9,7 @@ use Rattle.std.proofs.lemmas.Bool.{cases_Bool, cases_lt, eq-eqb, not_from_false,
 use Rattle.std.proofs.lemmas.List.Folds.{list_any_at}
 use Rattle.std.proofs.lemmas.Option.{get_or_from_slice_get, slice_get_within}
 use Rattle.std.proofs.lemmas.List.{get_or-take, get_or_append_left, length-take-le}
-use Rattle.rv_word.proofs.Profiles.{is_profile, laid_out}
+use Rattle.rv_word.proofs.Profiles.{is_form_profile, laid_out}
 use Rattle.rv_word.specs.Form.{image_version, profile_for}
 use Rattle.rv_word.specs.MemoryMap.{CODE_SIZE}
 use Rattle.rv_word.specs.declared.form.Form.{Form}
@@ -96,7 +96,7 @@ module _ (form : Form) (of : Entered) (firsts : List Bool) (p : Placed) (is : Is
   -- all of them in the region of code
   low : (k : ℕ) → get_or p.starts k 0 < 2 ^ 32
   low k =
-      let laid = laid_out (profile_for form) (is_profile (image_version form)) in
+      let laid = laid_out (profile_for form) (is_form_profile form) in
       let at = ap (λ (xs : List ℕ). get_or xs k 0) is.starts in
       let most = start_most (profile_for form).units_from (sizes_under (flag p.long) (shorts_of of) (grouped_parts of firsts)) k in
       let less = sum_where (is_whole (shorts_of of) (flag p.long)) 0 (grouped_parts of firsts) in

@@ -44,11 +44,11 @@ kind_size calls other ecall whole = 4
 -- the same where callees save the sites of calls: a mask has one word where the store's own offset is not negative, and else two, and a
 -- leaf returns by x1 alone
 abbrev pub lean_size : Option (List ℕ) → ItemKind → Bool → Bool → Bool → Bool → ℕ
-lean_size calls is.Store ecall short inside whole = if whole then (if short then 8 else 12) else 4
+lean_size calls is.Store ecall short inside whole = if whole then 4 * (if short then counts.SHORT_STORE_WORDS else counts.LONG_STORE_WORDS) else 4
 lean_size calls is.Call ecall short inside whole = 4
 lean_size calls is.Return ecall short inside whole = if inside then 4 else 4 * counts.RETURN_WORDS
-lean_size calls is.Ijump ecall short inside whole = 60
-lean_size calls is.Icall ecall short inside whole = 60
+lean_size calls is.Ijump ecall short inside whole = 4 * counts.LEAN_TRANSFER_WORDS
+lean_size calls is.Icall ecall short inside whole = 4 * counts.LEAN_TRANSFER_WORDS
 lean_size calls other ecall short inside whole = kind_size calls other ecall whole
 
 -- that of a place, where it is in a leaf or in none

@@ -1,7 +1,7 @@
 -- What makes a step untame, in the order in which it is told: a source machine takes no step that goes where its closed
 -- graph does not, returns elsewhere than its call says, leaves the window of data, calls too deep, runs into a section's end or makes a
 -- system call that is not in its closed graph's list.
-use Rattle.std.specs.Prelude.{ℕ, ◌+◌, ◌*◌, ◌/◌, ◌^◌, nat_le, Bool, false, not, ◌==◌, if◌then◌else◌, Option, Some, None, option_and_then, position, List, [], ◌∷◌, length}
+use Rattle.std.specs.Prelude.{ℕ, ◌+◌, ◌*◌, ◌/◌, ◌^◌, nat_le, Bool, false, not, ◌==◌, ◌&&◌, ◌||◌, if◌then◌else◌, Option, Some, None, option_and_then, position, List, [], ◌∷◌, length}
 use Rattle.std.specs.Option.{is_none}
 use Rattle.rv_word.specs.Bits.{wrap}
 use Rattle.rv_word.specs.Numbers.{is_listed}
@@ -12,9 +12,11 @@ use Rattle.rv_code.specs.Arithmetic.{load_size, store_size}
 use Rattle.rv_code.specs.Step.{offset}
 use Rattle.obj_input.specs.declared.item_kind.ItemKind.{ItemKind}
 use Rattle.obj_input.specs.declared.item_kind.ItemKind.TheVariants as is
-use Rattle.obj_program.specs.Program.{is_end}
+use Rattle.obj_program.specs.Program.{is_end, item_of}
+use Rattle.cfi_graph.specs.Graph.{has_leaves}
 use Rattle.cfi_closed.specs.Closed.{ClosedGraph, class_reaches}
 use Rattle.cfi_map.specs.GraphAtMap.{ProgramAtMap, gate}
+use Rattle.cfi_map.specs.Groups.{is_short}
 use Rattle.cfi_map.specs.declared.reason.Reason.{Reason}
 use Rattle.cfi_map.specs.declared.reason.Reason.TheVariants as why
 use Rattle.cfi_map.specs.Source.{Source}
@@ -67,10 +69,19 @@ abbrev pub is_wrong_return : ProgramAtMap → ItemKind → Source → Bool
 is_wrong_return layout is.Return st = not (get_reg st.regs 1 == return_address layout st.pending)
 is_wrong_return layout other st = false
 
-abbrev pub is_off_window : ItemKind → Instr → Source → Bool
-is_off_window is.Plain instr st = not (nat_le (touched instr st.regs) WINDOW)
-is_off_window is.Store instr st = not (nat_le (touched instr st.regs) WINDOW)
-is_off_window other instr st = false
+-- under version 3 a store's base alone is masked where its offset is its own and not negative: so it has to be below the window's end
+abbrev pub base_of : Instr → Registers → ℕ
+base_of (Store op rs1 rs2 imm) regs = get_reg regs rs1
+base_of other regs = 0
+
+abbrev pub is_off_base : ProgramAtMap → ℕ → Instr → Source → Bool
+is_off_base layout k instr st =
+    has_leaves layout.closed.version && (is_short (item_of layout.program k) && nat_le WINDOW (base_of instr st.regs))
+
+abbrev pub is_off_window : ProgramAtMap → ℕ → ItemKind → Instr → Source → Bool
+is_off_window layout k is.Plain instr st = not (nat_le (touched instr st.regs) WINDOW)
+is_off_window layout k is.Store instr st = not (nat_le (touched instr st.regs) WINDOW) || is_off_base layout k instr st
+is_off_window layout k other instr st = false
 
 abbrev pub is_too_deep : ItemKind → Source → Bool
 is_too_deep is.Call st = nat_le MOST_CALLS (length st.pending)
@@ -91,7 +102,7 @@ abbrev pub reason : ProgramAtMap → ℕ → ItemKind → Instr → Source → O
 reason layout k kind instr st =
     if is_off_graph layout k kind instr st then Some why.Graph else
     if is_wrong_return layout kind st then Some why.Return else
-    if is_off_window kind instr st then Some why.Window else
+    if is_off_window layout k kind instr st then Some why.Window else
     if is_too_deep kind st then Some why.Deep else
     if is_end kind then Some why.End else
     if is_unlisted layout kind instr st then Some why.Call else None

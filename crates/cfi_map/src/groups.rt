@@ -94,7 +94,7 @@ fn is_forward(item: &Item) -> bool
 }
 
 /// Whether the mask of a store that begins a group is for offsets alone that are not negative, where there are such masks.
-pub(crate) fn is_short(item: &Item) -> bool
+pub fn is_short(item: &Item) -> bool
     ensures { result ≡ is_short item.now }
 {
     is_own(item.patch) && is_forward(item)

@@ -2,7 +2,7 @@
 //! which the layers above speak of it.
 #![tactic(auto)]
 
-pub use groups::{Grouping, MOST_STORES, is_store};
+pub use groups::{Grouping, MOST_STORES, is_short, is_store};
 pub use mapped::Mapped;
 pub use reason::Reason;
 pub use sizes::unit_size;

@@ -3,13 +3,15 @@
 ghost use Rattle.std.specs.Prelude.{◌≡◌, ◌<◌, ◌≤◌, ◌^◌, ℕ, true, false, IfOk, IfSome, Some, is_some, length, slice_index};
 ghost use Rattle.std.specs.List.Sorted.{IsStrictlyIncreasing};
 ghost use Rattle.rv_word.specs.Form.{graph_version, profile_for};
-ghost use Rattle.rv_word.specs.MemoryMap.{IsFullProfile};
+ghost use Rattle.rv_word.specs.MemoryMap.{IsProfile};
 ghost use Rattle.obj_program.specs.AtMap.{instr_at};
 ghost use Rattle.obj_program.specs.DataAtMap.{data_at, init_size};
 ghost use Rattle.obj_program.specs.MapFit.{EndsLast};
 ghost use Rattle.obj_program.specs.Program.{count, is_end, item_of};
 ghost use Rattle.obj_program.specs.Sound.{IsSound};
-ghost use Rattle.cfi_map.specs.GraphAtMap.{gate, program_at, word, words_at};
+ghost use Rattle.cfi_graph.specs.Graph.{has_leaves};
+ghost use Rattle.cfi_leads.specs.Leads.{enters};
+ghost use Rattle.cfi_map.specs.GraphAtMap.{arrival, arrival_by, entered_in, gate, program_at, word, words_at};
 ghost use Rattle.cfi_map.specs.Placement.{words_from};
 ghost use Rattle.cfi_map.specs.Source.{first_astray, instr_here};
 ghost use Rattle.cfi_map.specs.Untame.{place_with_gate};
@@ -19,7 +21,8 @@ use cfi_leads::Leads;
 use least::Place;
 use obj_program::{Item, Items};
 use rv_instr::Instr;
-use rv_word::{End, Form, NoMemory};
+use rv_word::unit_words::ENTER_WORDS;
+use rv_word::{End, Form, GraphVersion, NoMemory};
 use std::alloc::Global;
 use std::marker::Model;
 
@@ -122,7 +125,7 @@ impl<'a, 'b> Mapped<'a, 'b> {
         ensures sound { IsSound self.now.program }
         ensures last { EndsLast self.now.program }
         ensures entry { self.now.entry < count self.now.program }
-        ensures profile { IsFullProfile self.now.profile }
+        ensures profile { IsProfile self.now.profile }
     {
         let items = self.leads.items();
         items.fits_maps();
@@ -156,6 +159,13 @@ impl<'a, 'b> Mapped<'a, 'b> {
         ensures { result ≡ self.now.entry }
     {
         self.leads.entry()
+    }
+
+    /// The program without its gates, with what stands before the units of its places.
+    pub fn leads(&self) -> &Leads<'a, 'b>
+        ensures { result.now ≡ entered_in self.now }
+    {
+        &self.leads
     }
 
     /// The gates of its places.
@@ -196,6 +206,33 @@ impl<'a, 'b> Mapped<'a, 'b> {
     {
         let _count = self.count();
         self.gate(k) + u64::from(self.leads.size(k))
+    }
+
+    /// Where calls arrive at a place where callees save sites.
+    fn lean_arrival(&self, k: u64) -> u64
+        requires place { k < count self.now.program }
+        requires lean { has_leaves self.now.closed.version ≡ true }
+        ensures value { result ≡ arrival_by GraphVersion.CalleeSaves (enters (entered_in self.now) k) (gate self.now k) (word self.now k) }
+        ensures near { result < 2 ^ 33 }
+    {
+        if self.leads.enters(k) {
+            self.word(k) - u64::from(4 * ENTER_WORDS)
+        } else {
+            self.word(k)
+        }
+    }
+
+    /// Where calls arrive at a place: where callees save sites, at what does so, or at a leaf's unit.
+    pub fn arrival(&self, k: u64) -> u64
+        requires place { k < count self.now.program }
+        ensures value { result ≡ arrival self.now k }
+        ensures near { result < 2 ^ 33 }
+    {
+        let _count = self.count();
+        match self.closed().version() {
+            GraphVersion::OneLabel | GraphVersion::TwoLabels => self.gate(k),
+            GraphVersion::CalleeSaves => self.lean_arrival(k),
+        }
     }
 
     /// The instruction of a place, with the values of its relocations where they are in range; a section's end has none.

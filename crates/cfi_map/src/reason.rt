@@ -5,7 +5,7 @@ pub enum Reason {
     Graph,
     /// Return elsewhere than to its call's site.
     Return,
-    /// Load or store outside of the window.
+    /// Load or store outside of the window, or store where the base alone is masked and is not below its end.
     Window,
     /// Call with the most calls pending.
     Deep,

@@ -15,7 +15,8 @@ use obj_program::Item;
 use rv_code::decode;
 use rv_instr::Instr;
 use rv_word::unit_words::{
-    BRANCH_WORDS, CALL_WORDS, ICALL_WORDS, IJUMP_WORDS, RETURN_WORDS, STORE_WORDS,
+    BRANCH_WORDS, CALL_WORDS, ICALL_WORDS, IJUMP_WORDS, LEAN_TRANSFER_WORDS, LONG_STORE_WORDS,
+    RETURN_WORDS, SHORT_STORE_WORDS, STORE_WORDS,
 };
 use rv_word::{GraphVersion, NoMemory, Numbers};
 use std::alloc::Global;
@@ -63,15 +64,17 @@ fn kind_size(closed: &Closed, item: &Item, whole: bool) -> u32
 }
 
 /// How many bytes it has where callees do, in a leaf or in none: a store of its own stands behind a mask of one word if it `is_short`.
+#[inline(never)]
 fn lean_size(closed: &Closed, item: &Item, in_leaf: bool, whole: bool) -> u32
     ensures value { result ≡ lean_size closed.now.calls item.now.kind (is_ecall item.now) (is_short item.now) in_leaf whole }
     ensures small { result ≤ 80 }
 {
     match item.kind {
-        ItemKind::Store if whole => { if is_short(item) { 8 } else { 12 } }
+        ItemKind::Store if whole && is_short(item) => 4 * SHORT_STORE_WORDS,
+        ItemKind::Store if whole => 4 * LONG_STORE_WORDS,
         ItemKind::Call => 4,
         ItemKind::Return if in_leaf => 4,
-        ItemKind::Ijump | ItemKind::Icall => 60,
+        ItemKind::Ijump | ItemKind::Icall => 4 * LEAN_TRANSFER_WORDS,
         _ => kind_size(closed, item, whole),
     }
 }

@@ -19,7 +19,7 @@ use Rattle.text_lines.proofs.Written.{hex_back, hex_plain, join_newlines, lacks,
 use Rattle.text_lines.specs.declared.fault.LineFault.{LineFault}
 use Rattle.rv_word.specs.Form.{profile_for}
 use Rattle.rv_word.specs.declared.form.Form.{Form}
-use Rattle.rv_word.specs.declared.form.Form.TheVariants.{Plain, Harts, Split, HartsSplit}
+use Rattle.rv_word.specs.declared.form.Form.TheVariants.{Plain, Harts, Split, HartsSplit, Lean, HartsLean}
 use Rattle.rv_word.specs.declared.end.End.{End}
 use Rattle.rv_word.specs.declared.end.End.TheVariants.{Fault, NoMemory}
 use Rattle.cfi_map_text.specs.declared.map.MapLine.{MapLine}
@@ -121,6 +121,8 @@ which_of Plain = 0
 which_of Harts = 1
 which_of Split = 2
 which_of HartsSplit = 3
+which_of Lean = 4
+which_of HartsLean = 5
 
 name_there : (form : Form) → position (bytes_eq (map_name form)) map_names ≡ Some (which_of form)
 unfolding which_of
@@ -128,6 +130,8 @@ name_there Plain = refl
 name_there Harts = refl
 name_there Split = refl
 name_there HartsSplit = refl
+name_there Lean = refl
+name_there HartsLean = refl
 
 form_there : (form : Form) → form_at (which_of form) ≡ form
 unfolding which_of
@@ -135,19 +139,25 @@ form_there Plain = refl
 form_there Harts = refl
 form_there Split = refl
 form_there HartsSplit = refl
+form_there Lean = refl
+form_there HartsLean = refl
 
 name_lacks : (form : Form) → lacks 10 (map_name form) ≡ true
 name_lacks Plain = refl
 name_lacks Harts = refl
 name_lacks Split = refl
 name_lacks HartsSplit = refl
+name_lacks Lean = refl
+name_lacks HartsLean = refl
 
-name_at : (which : ℕ) → which < 4 → get_or map_names which [] ≡ map_name (form_at which)
+name_at : (which : ℕ) → which < 6 → get_or map_names which [] ≡ map_name (form_at which)
 name_at zero lt = refl
 name_at (suc zero) lt = refl
 name_at (suc (suc zero)) lt = refl
 name_at (suc (suc (suc zero))) lt = refl
-name_at (suc (suc (suc (suc which)))) lt = absurd (omega arith)
+name_at (suc (suc (suc (suc zero)))) lt = refl
+name_at (suc (suc (suc (suc (suc zero))))) lt = refl
+name_at (suc (suc (suc (suc (suc (suc which)))))) lt = absurd (omega arith)
 
 lines_back : (m : MapParts) → lines_of (map_text m) ≡ map_name m.form ∷ (spellings m.lines ++ [] ∷ [])
 unfolding map_text map_lines

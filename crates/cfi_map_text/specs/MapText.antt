@@ -4,7 +4,7 @@ use Rattle.std.specs.Prelude.{ℕ, ◌==◌, Bool, true, if◌then◌else◌, Li
 use Rattle.std.specs.List.{flat_map}
 use Rattle.std.specs.Str.{bytes_eq}
 use Rattle.rv_word.specs.declared.form.Form.{Form}
-use Rattle.rv_word.specs.declared.form.Form.TheVariants.{Plain, Harts, Split, HartsSplit}
+use Rattle.rv_word.specs.declared.form.Form.TheVariants.{Plain, Harts, Split, HartsSplit, Lean, HartsLean}
 use Rattle.rv_word.specs.declared.end.End.{End}
 use Rattle.text_lines.specs.Hex.{hex, hex_text}
 use Rattle.text_lines.specs.Lines.{lines_of, spaced}
@@ -22,6 +22,8 @@ map_name Plain = codes "rvcfi-map 1"
 map_name Harts = codes "rvcfi-map 2 harts"
 map_name Split = codes "rvcfi-map 2 split"
 map_name HartsSplit = codes "rvcfi-map 2 harts-split"
+map_name Lean = codes "rvcfi-map 2 lean"
+map_name HartsLean = codes "rvcfi-map 2 harts-lean"
 
 -- the lines of the text, without their newlines
 unfoldable pub map_lines : Form → List MapLine → List (List ℕ)
@@ -59,11 +61,13 @@ map_rules form = record {
 
 -- the first lines that a map may have
 abbrev pub map_names : List (List ℕ)
-map_names = map_name Plain ∷ map_name Harts ∷ map_name Split ∷ map_name HartsSplit ∷ []
+map_names = map_name Plain ∷ map_name Harts ∷ map_name Split ∷ map_name HartsSplit ∷ map_name Lean ∷ map_name HartsLean ∷ []
 
 -- the form that the first line tells, by its place among these
 abbrev pub form_at : ℕ → Form
-form_at which = if which == 0 then Plain else if which == 1 then Harts else if which == 2 then Split else HartsSplit
+form_at which =
+    if which == 0 then Plain else if which == 1 then Harts else if which == 2 then Split else if which == 3 then HartsSplit else
+    if which == 4 then Lean else HartsLean
 
 -- the map of a form, and of the lines from the second on
 abbrev pub map_with : Form → List (List ℕ) → Result MapParts (End LineFault)

@@ -80,11 +80,13 @@ impl LineForm for MapForm {
 }
 
 /// The first lines that a map may have.
-const NAMES: [&[u8]; 4] = [
+const NAMES: [&[u8]; 6] = [
     b"rvcfi-map 1",
     b"rvcfi-map 2 harts",
     b"rvcfi-map 2 split",
     b"rvcfi-map 2 harts-split",
+    b"rvcfi-map 2 lean",
+    b"rvcfi-map 2 harts-lean",
 ];
 
 /// The form that the first line tells, by its place among these.
@@ -95,7 +97,9 @@ fn form_at(which: usize) -> Form
         0 => Form::Plain,
         1 => Form::Harts,
         2 => Form::Split,
-        _ => Form::HartsSplit,
+        3 => Form::HartsSplit,
+        4 => Form::Lean,
+        _ => Form::HartsLean,
     }
 }
 
@@ -108,6 +112,8 @@ fn name_of(form: Form) -> &'static [u8]
         Form::Harts => NAMES[1],
         Form::Split => NAMES[2],
         Form::HartsSplit => NAMES[3],
+        Form::Lean => NAMES[4],
+        Form::HartsLean => NAMES[5],
     }
 }
 

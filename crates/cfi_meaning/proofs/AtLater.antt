@@ -1,31 +1,44 @@
 -- The gates of a program at a map tell which of its stores are later ones.
-use Rattle.std.proofs.Common.{◌≡◌, ℕ, ◌+◌, ◌==◌, inl, inr, Bool, true, false, not, List, Option, Some, None, refl, sym, ap, ◌∙◌, arith, if◌then◌else◌}
+use Rattle.std.proofs.Common.{◌≡◌, ℕ, ◌+◌, ◌≤◌, ◌==◌, inl, inr, Bool, true, false, not, Option, Some, None, refl, sym, ap, ◌∙◌, arith}
 use Rattle.std.specs.Prelude.{◌&&◌}
 use Rattle.std.proofs.lemmas.Bool.{cases_Bool, cases_lt, eq-eqb, ne_eqb}
 use Rattle.std.proofs.lemmas.List.{get_or_past}
-use Rattle.obj_input.specs.declared.item_kind.ItemKind.{ItemKind}
-use Rattle.obj_input.specs.declared.item_kind.ItemKind.TheVariants as is
 use Rattle.obj_program.specs.declared.item.Item.{Item}
 use Rattle.obj_program.specs.Program.{count, item_of, no_item}
 use Rattle.cfi_map.specs.GraphAtMap.{entered_in, gate, word}
 use Rattle.cfi_map.specs.Groups.{is_store}
-use Rattle.cfi_map.specs.Placement.{is_ecall, kind_size, whole_at}
+use Rattle.cfi_map.specs.Placement.{size_of, whole_at}
+use Rattle.cfi_unit.specs.declared.mask.Mask.{Mask}
+use Rattle.cfi_unit.specs.declared.mask.Mask.TheVariants.{Shifts, Short, Long}
+use Rattle.cfi_unit.specs.UnitWords.{mask_words}
 use Rattle.cfi_writer.specs.Accepted.{IsAccepted}
-use Rattle.cfi_writer.specs.Units.{Choice, is_later_at}
-use Rattle.cfi_writer.proofs.Plain.{plain_size}
+use Rattle.cfi_writer.specs.Units.{Choice, is_later_at, mask_at}
+use Rattle.cfi_writer.proofs.Plain.{size_first, size_later}
 use Rattle.cfi_writer.proofs.Standing.{next_gate}
 use Rattle.cfi_meaning.specs.LaterStores.{is_at_later}
 use Rattle.cfi_meaning.specs.PlaceSteps.{Linked, holds_store}
 use Rattle.cfi_meaning.proofs.Names.{store_is_place}
 use Rattle.cfi_meaning.proofs.Places.{place_behind}
 
-store_size : (calls : Option (List ℕ)) (kind : ItemKind) (ecall whole : Bool) → is_store kind ≡ true → kind_size calls kind ecall whole ≡ (if whole then 16 else 4)
-store_size calls is.Store ecall whole store = refl
-store_size calls other ecall whole store = absurd (cc)
+mask_some : (mask : Mask) → 1 ≤ mask_words mask
+mask_some Shifts = omega arith
+mask_some Short = omega arith
+mask_some Long = omega arith
 
-sized : (whole : Bool) (a n : ℕ) → n ≡ a + (if whole then 16 else 4) → (n == a + 4) ≡ not whole
-sized true a n is = ne_eqb n (a + 4) (λ same. absurd (omega arith))
-sized false a n is = eq-eqb n (a + 4) is
+-- a store with a mask has more than a word
+sized : (m : Choice) (k : ℕ) → holds_store m k ≡ true →
+    (gate m.layout (k + 1) ≡ word m.layout k + size_of (entered_in m.layout) k (item_of m.layout.program k) (whole_at m.whole k)) →
+    (gate m.layout (k + 1) == word m.layout k + 4) ≡ not (whole_at m.whole k)
+sized m k store next =
+    elim (cases_Bool (whole_at m.whole k)) [
+      | inl whole ↦
+          let size = size_first (entered_in m.layout) k (item_of m.layout.program k) (whole_at m.whole k) store whole in
+          let some = mask_some (mask_at m k) in
+          ne_eqb (gate m.layout (k + 1)) (word m.layout k + 4) (λ same. absurd (omega arith)) ∙ sym (ap not whole)
+      | inr later ↦
+          let size = size_later (entered_in m.layout) k (item_of m.layout.program k) (whole_at m.whole k) store later in
+          eq-eqb (gate m.layout (k + 1)) (word m.layout k + 4) (omega arith) ∙ sym (ap not later)
+    ]
 
 pub at_later_is : (m : Choice) (k : ℕ) → IsAccepted m → is_at_later m.layout (Some k) ≡ is_later_at m k
 at_later_is m k ok =
@@ -36,12 +49,7 @@ at_later_is m k ok =
           elim (cases_lt k (count m.layout.program)) [
             | inl below ↦
                 let next = place_behind m k ok (store_is_place m k below store) in
-                let size =
-                plain_size (entered_in m.layout) k (item_of m.layout.program k) (whole_at m.whole k) ok.version
-                ∙ store_size m.layout.closed.calls (item_of m.layout.program k).kind (is_ecall (item_of m.layout.program k)) (whole_at m.whole k) store in
-                ap (λ (b : Bool). holds_store m k && b)
-                (sized (whole_at m.whole k) (word m.layout k) (gate m.layout (k + 1))
-                (next_gate m ok k next ∙ ap (λ (n : ℕ). word m.layout k + n) size))
+                ap (λ (b : Bool). holds_store m k && b) (sized m k store (next_gate m ok k next))
             | inr past ↦
                 let none = get_or_past m.layout.program.items k no_item past in
                 let wrong : false ≡ true = sym (ap (λ (i : Item). is_store i.kind) none) ∙ store in

@@ -1,33 +1,31 @@
 -- Meaning kept, by induction on the source machine's steps.
-use Rattle.std.proofs.Common.{◌≡◌, ℕ, ◌+◌, ◌≤◌, ◌⊎◌, Bool, true, false, inl, inr, List, [], length, Option, Some, None, refl, sym, ap, subst, ◌∙◌, arith}
+use Rattle.std.proofs.Common.{◌≡◌, ℕ, ◌+◌, ◌≤◌, ◌⊎◌, true, false, inl, inr, List, [], Option, Some, None, refl, sym, ap, subst, ◌∙◌, arith}
 use Rattle.std.proofs.lemmas.Bool.{cases_Bool}
 use Rattle.rv_word.specs.Image.{Contents}
 use Rattle.rv_word.specs.MemoryMap.{DATA_START, Profile}
 use Rattle.rv_word.specs.Memory.{placed, zeros}
-use Rattle.rv_word.proofs.Profiles.{full_saves}
-use Rattle.rv_instr.specs.Registers.{cleared}
-use Rattle.rv_code.specs.State.{After, last_exit}
+use Rattle.rv_code.specs.State.{last_exit}
 use Rattle.cfi_map.specs.Placement.{whole_at}
 use Rattle.cfi_map.specs.Source.{Source, init_here, source_start}
-use Rattle.cfi_map.specs.SourceStep.{SourceAfter, StepTurn, after_steps, breaks, exits, ran, source_step, untame}
+use Rattle.cfi_map.specs.SourceStep.{SourceAfter, StepTurn, after_steps, ran, source_step, untame}
 use Rattle.cfi_map.specs.declared.reason.Reason.{Reason}
 use Rattle.cfi_map.proofs.LaterRuns.{past, past_few, past_some}
-use Rattle.cfi_runs.specs.Openings.{entry_pending}
-use Rattle.cfi_runs.specs.Own.{Own, own_start}
-use Rattle.cfi_runs.specs.WholeRun.{RunsTo, own_shared, undisturbed}
-use Rattle.cfi_writer.specs.Units.{Choice, entry_gate, is_later_at}
+use Rattle.cfi_runs.specs.Own.{Own}
+use Rattle.cfi_runs.specs.WholeRun.{RunsTo, undisturbed}
+use Rattle.cfi_writer.specs.Units.{Choice, is_later_at}
 use Rattle.cfi_writer.proofs.Grouping.{other_first}
 use Rattle.cfi_meaning.specs.ImageOf.{IsImageOf}
 use Rattle.cfi_meaning.specs.LaterStores.{IsPastFirst, is_at_later}
-use Rattle.cfi_meaning.specs.Matches.{Matches, address_of, own_of}
-use Rattle.cfi_meaning.specs.Meaning.{Answers, EndsAs, MeaningKept}
-use Rattle.cfi_meaning.specs.PlaceSteps.{PlacesRun, holds_store, place_step}
-use Rattle.cfi_meaning.specs.PlacesKept.{KeepsPlaces, last_words, most_steps}
+use Rattle.cfi_meaning.specs.Bounds.{most_steps}
+use Rattle.cfi_meaning.specs.Matches.{Matches, gate_of, own_of}
+use Rattle.cfi_meaning.specs.Meaning.{EndsAs, MeaningKept}
+use Rattle.cfi_meaning.specs.PlaceSteps.{PlacesRun, holds_store, place_step, places_start}
+use Rattle.cfi_meaning.specs.PlacesKept.{KeepsPlaces}
 use Rattle.cfi_meaning.proofs.AtLater.{at_later_is, at_no_later, free_place}
 use Rattle.cfi_meaning.proofs.LedSteps.{Led, led, there}
 use Rattle.cfi_meaning.proofs.Matching.{from_own}
-use Rattle.cfi_meaning.proofs.PlacesKept.{bound_rises, places_kept}
-use Rattle.cfi_meaning.proofs.StepKept.{answers, sites_after, step_kept}
+use Rattle.cfi_meaning.proofs.PlacesKept.{places_kept, steps_rise}
+use Rattle.cfi_meaning.proofs.StepKept.{ends_as, step_kept}
 use Rattle.cfi_meaning.proofs.Steps.{Stepped, at_closing, at_place, has_ended, is_untame, stepped}
 use Rattle.cfi_meaning.proofs.StoreSteps.{goes_or_untame, store_goes}
 
@@ -38,22 +36,23 @@ module _ (m : Choice) (image : Contents) (of : IsImageOf m image) (input : List 
   abbrev start : Source
   start = source_start m.layout input
 
-  starts : own_of m.layout start ≡ own_start p 0 (entry_gate m) cleared (own_shared image input)
+  starts : own_of m.layout start ≡ places_start m image input
   starts =
-      ap (λ (callee : Bool). record (own_of m.layout start) { pending = entry_pending callee p.closing }) (sym (full_saves p of.accepted.profile))
-      ∙ ap (λ (bytes : List ℕ). own_start p 0 (entry_gate m) cleared (record { memory = placed zeros DATA_START bytes; left = input; output = []; events = [] })) (sym init)
+      ap (λ (bytes : List ℕ). record (places_start m image input) { shared = record { memory = placed zeros DATA_START bytes; left = input; output = []; events = [] } })
+      (sym init)
 
-  kept : (n : ℕ) (st : Source) → (l : Led m image n start st) → is_at_later m.layout st.place ≡ false → KeepsPlaces m image input l.places (own_of m.layout st)
+  kept : (n : ℕ) (st : Source) → (l : Led m image n start st) → is_at_later m.layout st.place ≡ false →
+      KeepsPlaces m image input l.places st.place (own_of m.layout st)
   kept n st l free =
       places_kept m image input l.places st.place (own_of m.layout st) of l.chain (free_place m st.place of.accepted free)
-      (subst (λ (o : Own). PlacesRun m image l.places o (own_of m.layout st)) starts l.run)
+      (subst (λ (o : Own). PlacesRun m image l.places o (own_of m.layout st)) starts l.run) refl l.back
 
   goes : (n : ℕ) (st : Source) → after_steps m.layout n start ≡ Some st → is_at_later m.layout st.place ≡ false →
       RunsTo p image input (most_steps m.layout n) (Matches m.layout image st)
   goes n st e free =
       let l = led m image of input n st e in
       let comes = (kept n st l free).goes in
-      (comes.0, subst (λ (i : ℕ). comes.0 ≤ most_steps m.layout i) l.counted comes.1, from_own m.layout image st (undisturbed p image input comes.0) l.fit.most comes.2)
+      (comes.0, subst (λ (i : ℕ). comes.0 ≤ most_steps m.layout i) l.counted comes.1, from_own m.layout image st (undisturbed p image input comes.0) l.fits comes.2)
 
   -- no system call of a state that is reached has ended the run
   going : (n : ℕ) (st : Source) → after_steps m.layout n start ≡ Some st → last_exit st.shared.events ≡ None
@@ -83,12 +82,6 @@ module _ (m : Choice) (image : Contents) (of : IsImageOf m image) (input : List 
         same = leader.world;
       }
 
-  ended : (turn : StepTurn) (next : Source) (after : After) → Answers m.layout image turn next after → EndsAs m.layout turn next after
-  ended ran next after answer = tt
-  ended (exits status) next after answer = answer
-  ended (breaks k) next after answer = answer
-  ended (untame why k) next after answer = tt
-
   -- of a step that goes on or is untame nothing is asked
   nothing_asked : (n : ℕ) (st : Source) → ((source_step m.layout st).turn ≡ ran) ⊎ ((why : Reason) × (k : ℕ) × ((source_step m.layout st).turn ≡ untame why k)) →
       RunsTo p image input (most_steps m.layout (n + 1)) (EndsAs m.layout (source_step m.layout st).turn (source_step m.layout st).state)
@@ -101,7 +94,7 @@ module _ (m : Choice) (image : Contents) (of : IsImageOf m image) (input : List 
       RunsTo p image input (most_steps m.layout (n + 1)) (EndsAs m.layout (source_step m.layout st).turn (source_step m.layout st).state)
   ends_so n st e (has_ended status ended is) = let wrong : Some status ≡ None = sym ended ∙ going n st e in absurd (cc)
   ends_so n st e (is_untame why k is) = nothing_asked n st (inr (why, k, is))
-  ends_so n st e (at_place k at now own) =
+  ends_so n st e (at_place k at now own goes_fit) =
       let turn = (source_step m.layout st).turn in
       let state = (source_step m.layout st).state in
       elim (cases_Bool (holds_store m k)) [
@@ -111,18 +104,18 @@ module _ (m : Choice) (image : Contents) (of : IsImageOf m image) (input : List 
         | inr other ↦
             let l = led m image of input n st e in
             let free : is_at_later m.layout st.place ≡ false = ap (is_at_later m.layout) at ∙ at_later_is m k of.accepted ∙ other_first m k other in
-            let next = (kept n st l free).next k other now in
+            let next = (kept n st l free).ends k at other now in
             let after = undisturbed p image input next.0 in (
               next.0,
               subst (λ (i : ℕ). next.0 ≤ most_steps m.layout (i + 1)) l.counted next.1,
-              ended turn state after (answers m image of turn state (place_step m k (own_of m.layout st)) own (sites_after m image of k (own_of m.layout st) now l.fit) after next.2),
+              ends_as m.layout turn state (place_step m k (own_of m.layout st)) own after next.2,
             )
       ]
   ends_so n st e (at_closing nowhere is) =
       let l = led m image of input n st e in
-      let close = (kept n st l (ap (is_at_later m.layout) nowhere)).closes (ap (address_of m.layout) nowhere) in
+      let close = (kept n st l (ap (is_at_later m.layout) nowhere)).closes (ap (gate_of m.layout) nowhere) in
       let few = subst (λ (i : ℕ). close.0 ≤ most_steps m.layout i) l.counted close.1 in
-      let more = bound_rises (length m.layout.closed.sides) (last_words p) n (n + 1) (omega arith) in (
+      let more = steps_rise m.layout n (n + 1) (omega arith) in (
         close.0,
         omega arith,
         subst (λ (a : SourceAfter). EndsAs m.layout a.turn a.state (undisturbed p image input close.0)) (sym is) (close.2.turn, close.2.shared),

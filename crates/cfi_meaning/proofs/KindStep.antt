@@ -1,9 +1,12 @@
--- The own step of a place's unit is that of its instruction's kind; a store in the window of data goes on.
-use Rattle.std.proofs.Common.{◌≡◌, ℕ, zero, suc, ◌+◌, ◌^◌, ◌<◌, ◌≤◌, ◌==◌, true, false, not, Bool, List, Option, Some, None, if◌then◌else◌, refl, sym, ap, ◌∙◌, arith}
+-- The own step of a place's unit is that of its instruction's kind, or, where callees save sites, ends as that does; a store in the
+-- window of data goes on.
+use Rattle.std.proofs.Common.{◌≡◌, ℕ, zero, suc, ◌+◌, ◌^◌, ◌<◌, ◌≤◌, ◌==◌, true, false, not, Bool, List, [], ◌∷◌, Option, Some, None, if◌then◌else◌, refl, sym, ap, subst, ◌∙◌, arith}
 use Rattle.std.specs.Prelude.{nat_lt}
 use Rattle.std.proofs.lemmas.Bool.{eqb-true}
+use Rattle.rv_word.specs.declared.version.GraphVersion.{GraphVersion}
+use Rattle.rv_word.specs.declared.version.GraphVersion.TheVariants.{OneLabel, TwoLabels, CalleeSaves}
 use Rattle.rv_word.specs.MemoryMap.{Profile}
-use Rattle.rv_word.specs.Memory.{Memory, loaded, write}
+use Rattle.rv_word.specs.Memory.{write}
 use Rattle.rv_instr.specs.Registers.{get_reg}
 use Rattle.rv_instr.specs.declared.instr.Instr.{Instr}
 use Rattle.rv_instr.specs.declared.instr.Instr.TheVariants as I
@@ -19,23 +22,28 @@ use Rattle.obj_input.specs.declared.item_kind.ItemKind.TheVariants as is
 use Rattle.obj_program.specs.Program.{is_end, item_of}
 use Rattle.obj_program.specs.Suits.{suits}
 use Rattle.obj_program.proofs.Kept.{kept}
-use Rattle.cfi_map.specs.GraphAtMap.{gate, gate_to, words_at}
+use Rattle.cfi_leads.specs.Leaves.{in_leaf}
+use Rattle.cfi_map.specs.GraphAtMap.{aim_of, entered_in, gate, gate_to, word, words_at}
 use Rattle.cfi_map.specs.Groups.{is_store}
 use Rattle.cfi_map.specs.LabelOf.{site_label}
 use Rattle.cfi_map.specs.Placement.{whole_at}
 use Rattle.cfi_unit.specs.declared.target_word.TargetWord.{TargetWord}
+use Rattle.cfi_unit.specs.UnitWords.{after_unit}
 use Rattle.cfi_unit.specs.Leads.{sum_of}
 use Rattle.cfi_unit.specs.Leaving.{with_memory}
 use Rattle.cfi_unit.proofs.Regions.{can_store_data, store_size-small}
-use Rattle.cfi_runs.specs.Own.{Own, OwnAfter, executes, goes, own_past}
-use Rattle.cfi_runs.specs.Tame.{IsTame, touched}
+use Rattle.cfi_runs.specs.Own.{Own, OwnAfter, executes, goes, own_past, returns}
+use Rattle.cfi_runs.specs.Tame.{touched}
 use Rattle.cfi_rules.specs.Lines.{jump_word}
-use Rattle.cfi_writer.specs.Units.{Group, call_unit, group_at, instr_of, inverse, unit_here, unit_of}
+use Rattle.cfi_writer.specs.Accepted.{IsAccepted}
+use Rattle.cfi_writer.specs.Units.{Choice, Group, call_unit, group_at, instr_of, inverse, lean_unit_of, unit_by, unit_here, unit_of}
 use Rattle.cfi_writer.proofs.GroupUnit.{IsStore}
 use Rattle.cfi_writer.proofs.Standing.{instr_is, next_after}
 use Rattle.cfi_meaning.specs.KindStep.{kind_step}
+use Rattle.cfi_meaning.specs.ImageOf.{IsPlace}
 use Rattle.cfi_meaning.specs.PlaceLaws as law
-use Rattle.cfi_meaning.specs.PlaceSteps.{at_word}
+use Rattle.cfi_meaning.specs.PlaceLaws.{at_unit, shown}
+use Rattle.cfi_meaning.specs.PlaceSteps.{at_word, place_step}
 use Rattle.cfi_meaning.proofs.Places.{place_behind}
 
 not_twice : (b : Bool) → not (not b) ≡ b
@@ -72,36 +80,94 @@ own_call : (p : Profile) (calls : Option (List ℕ)) (o : Own) (next : ℕ) → 
 own_call p None o next = refl
 own_call p (Some numbers) o next = refl
 
-own_of_kind : (p : Profile) (image : Memory) (calls : Option (List ℕ)) (kind : ItemKind) (i : Instr) (whole : Bool) (target : ℕ) (which : TargetWord) (label next : ℕ) (group : Group) (o : Own) →
-    is_end kind ≡ false → is_store kind ≡ false → suits kind i ≡ true → IsTame image (unit_of calls kind i whole target which label group) o.pending o.regs →
+-- a unit that does all of its instruction's step
+pub own_of_kind : (p : Profile) (calls : Option (List ℕ)) (kind : ItemKind) (i : Instr) (whole : Bool) (target : ℕ) (which : TargetWord) (label next : ℕ) (group : Group) (o : Own) →
+    is_end kind ≡ false → is_store kind ≡ false → suits kind i ≡ true →
     own_past p o (unit_of calls kind i whole target which label group) next ≡ kind_step p kind i target next o
-own_of_kind p image calls is.Gate (I.Upper Lui zero imm) whole target which label next group o some other suit tame = refl
-own_of_kind p image calls is.Gate (I.Upper Lui (suc rd) imm) whole target which label next group o some other suit tame = absurd (let none = eqb-true (suc rd) 0 suit in omega arith)
-own_of_kind p image calls is.Gate (I.Upper Auipc rd imm) whole target which label next group o some other suit tame = absurd (cc)
-own_of_kind p image calls is.Plain i whole target which label next group o some other suit tame = refl
-own_of_kind p image calls is.Store i whole target which label next group o some other suit tame = absurd (cc)
-own_of_kind p image calls is.System I.Ecall whole target which label next group o some other suit tame = own_call p calls o next
-own_of_kind p image calls is.System I.Ebreak whole target which label next group o some other suit tame = refl
-own_of_kind p image calls is.Branch (I.Branch op rs1 rs2 imm) true target which label next group o some other suit tame =
+own_of_kind p calls is.Gate (I.Upper Lui zero imm) whole target which label next group o some other suit = refl
+own_of_kind p calls is.Gate (I.Upper Lui (suc rd) imm) whole target which label next group o some other suit = absurd (let none = eqb-true (suc rd) 0 suit in omega arith)
+own_of_kind p calls is.Gate (I.Upper Auipc rd imm) whole target which label next group o some other suit = absurd (cc)
+own_of_kind p calls is.Plain i whole target which label next group o some other suit = refl
+own_of_kind p calls is.Store i whole target which label next group o some other suit = absurd (cc)
+own_of_kind p calls is.System I.Ecall whole target which label next group o some other suit = own_call p calls o next
+own_of_kind p calls is.System I.Ebreak whole target which label next group o some other suit = refl
+own_of_kind p calls is.Branch (I.Branch op rs1 rs2 imm) true target which label next group o some other suit =
     let a = get_reg o.regs rs1 in
     let b = get_reg o.regs rs2 in
     ap (goes p o) (ap (λ (taken : Bool). if taken then next else target) (inverse_taken op a b) ∙ turned (branch_taken op a b) target next)
-own_of_kind p image calls is.Branch (I.Branch op rs1 rs2 imm) false target which label next group o some other suit tame = refl
-own_of_kind p image calls is.Jump i whole target which label next group o some other suit tame = refl
-own_of_kind p image calls is.Call i whole target which label next group o some other suit tame = refl
-own_of_kind p image calls is.Return i whole target which label next group o some other suit tame = refl
-own_of_kind p image calls is.Ijump (I.Jalr rd rs1 imm) whole target which label next group o some other suit tame = refl
-own_of_kind p image calls is.Icall (I.Jalr rd rs1 imm) whole target which label next group o some other suit tame = refl
-own_of_kind p image calls kind i whole target which label next group o some other suit tame = absurd (cc)
+own_of_kind p calls is.Branch (I.Branch op rs1 rs2 imm) false target which label next group o some other suit = refl
+own_of_kind p calls is.Jump i whole target which label next group o some other suit = refl
+own_of_kind p calls is.Call i whole target which label next group o some other suit = refl
+own_of_kind p calls is.Return i whole target which label next group o some other suit = refl
+own_of_kind p calls is.Ijump (I.Jalr rd rs1 imm) whole target which label next group o some other suit = refl
+own_of_kind p calls is.Icall (I.Jalr rd rs1 imm) whole target which label next group o some other suit = refl
+own_of_kind p calls kind i whole target which label next group o some other suit = absurd (cc)
+
+-- two steps end alike: with the same turn, and what is shared. The pending sites, and where they go, may differ
+abbrev EndAlike : OwnAfter → OwnAfter → Type 0
+EndAlike first second = (first.turn ≡ second.turn) × (first.state.shared ≡ second.state.shared)
+
+returns_on : (p : Profile) (o : Own) (pending : List ℕ) → ((returns p o pending).turn ≡ Ran) × ((returns p o pending).state.shared ≡ o.shared)
+returns_on p o [] = (refl, refl)
+returns_on p o (site ∷ pending) = (refl, refl)
+
+returns_alike : (p : Profile) (o : Own) (first second : List ℕ) → EndAlike (returns p (record o { pending = first }) first) (returns p o second)
+returns_alike p o first second =
+    let one = returns_on p (record o { pending = first }) first in
+    let other = returns_on p o second in
+    (one.0 ∙ sym other.0, one.1 ∙ sym other.1)
+
+kinds_alike : (p : Profile) (kind : ItemKind) (i : Instr) (aim target next : ℕ) (o : Own) (pending : List ℕ) →
+    EndAlike (kind_step p kind i aim next (record o { pending = pending })) (kind_step p kind i target next o)
+kinds_alike p is.Return i aim target next o pending = returns_alike p o pending o.pending
+kinds_alike p is.Branch (I.Branch op rs1 rs2 imm) aim target next o pending = (refl, refl)
+kinds_alike p is.Ijump (I.Jalr rd rs1 imm) aim target next o pending = (refl, refl)
+kinds_alike p is.Icall (I.Jalr rd rs1 imm) aim target next o pending = (refl, refl)
+kinds_alike p kind i aim target next o pending = (refl, refl)
+
+full_alike : (p : Profile) (calls : Option (List ℕ)) (kind : ItemKind) (i : Instr) (whole : Bool) (aim target : ℕ) (which : TargetWord) (label next : ℕ) (group : Group) (o : Own) (pending : List ℕ) →
+    is_end kind ≡ false → is_store kind ≡ false → suits kind i ≡ true →
+    EndAlike (own_past p (record o { pending = pending }) (unit_of calls kind i whole aim which label group) next) (kind_step p kind i target next o)
+full_alike p calls kind i whole aim target which label next group o pending some other suit =
+    let does = own_of_kind p calls kind i whole aim which label next group (record o { pending = pending }) some other suit in
+    let same = kinds_alike p kind i aim target next o pending in
+    (ap (λ (a : OwnAfter). a.turn) does ∙ same.0, ap (λ (a : OwnAfter). a.state.shared) does ∙ same.1)
+
+lean_alike : (p : Profile) (calls : Option (List ℕ)) (inside : Bool) (kind : ItemKind) (i : Instr) (whole : Bool) (aim target label next : ℕ) (group : Group) (o : Own) (pending : List ℕ) →
+    is_end kind ≡ false → is_store kind ≡ false → suits kind i ≡ true →
+    EndAlike (own_past p (record o { pending = pending }) (lean_unit_of calls inside kind i whole aim label group) next) (kind_step p kind i target next o)
+lean_alike p calls inside is.Call i whole aim target label next group o pending some other suit = (refl, refl)
+lean_alike p calls true is.Return i whole aim target label next group o pending some other suit =
+    let does = returns_on p o o.pending in (sym does.0, sym does.1)
+lean_alike p calls false is.Return i whole aim target label next group o pending some other suit = returns_alike p o pending o.pending
+lean_alike p calls inside is.Ijump (I.Jalr rd rs1 imm) whole aim target label next group o pending some other suit = (refl, refl)
+lean_alike p calls inside is.Icall (I.Jalr rd rs1 imm) whole aim target label next group o pending some other suit = (refl, refl)
+lean_alike p calls inside kind i whole aim target label next group o pending some other suit =
+    full_alike p calls kind i whole aim target (jump_word CalleeSaves) label next group o pending some other suit
+
+alike_by : (p : Profile) (version : GraphVersion) (calls : Option (List ℕ)) (inside : Bool) (kind : ItemKind) (i : Instr) (whole : Bool) (aim target label next : ℕ) (group : Group) (o : Own) (pending : List ℕ) →
+    is_end kind ≡ false → is_store kind ≡ false → suits kind i ≡ true →
+    EndAlike (own_past p (record o { pending = pending }) (unit_by version calls inside kind i whole aim label group) next) (kind_step p kind i target next o)
+alike_by p OneLabel calls inside kind i whole aim target label next group o pending =
+    full_alike p calls kind i whole aim target (jump_word OneLabel) label next group o pending
+alike_by p TwoLabels calls inside kind i whole aim target label next group o pending =
+    full_alike p calls kind i whole aim target (jump_word TwoLabels) label next group o pending
+alike_by p CalleeSaves calls inside kind i whole aim target label next group o pending =
+    lean_alike p calls inside kind i whole aim target label next group o pending
+
+-- what is known of a place's instruction
+pub suited : (m : Choice) (k : ℕ) → IsAccepted m → IsPlace m k → suits (item_of m.layout.program k).kind (instr_of m k) ≡ true
+suited m k ok place =
+    (kept m.layout.program m.layout.gates (words_at m.layout) k (instr_of m k) ok.sound place.below place.no_end (instr_is m ok k place.below place.no_end)).0
 
 pub step_of_kind : law.StepOfKind
 step_of_kind m image k o ok other now =
-    let place = now.place in
-    let words = words_at m.layout in
-    let suit = kept m.layout.program m.layout.gates words k (instr_of m k) ok.sound place.below place.no_end (instr_is m ok k place.below place.no_end) in
-    ap (own_past m.layout.profile (at_word m k o) (unit_here m k)) (sym (next_after m ok k other (place_behind m k ok place)))
-    ∙ own_of_kind m.layout.profile (loaded image) m.layout.closed.calls (item_of m.layout.program k).kind (instr_of m k) (whole_at m.whole k) (gate_to m.layout (item_of m.layout.program k).target)
-    (jump_word m.layout.closed.version) (site_label m.labels m.layout.closed.sides k) (gate m.layout (k + 1)) (group_at m k) (at_word m k o) place.no_end other suit.0 (now.tame other)
+    let item = item_of m.layout.program k in
+    let past : after_unit (unit_here m k) (word m.layout k) ≡ gate m.layout (k + 1) = sym (next_after m ok k other (place_behind m k ok now.place)) in
+    subst (λ (next : ℕ). EndAlike (own_past m.layout.profile (at_unit m k o) (unit_here m k) next) (place_step m k o)) (sym past)
+    (alike_by m.layout.profile m.layout.closed.version m.layout.closed.calls (in_leaf (entered_in m.layout) k) item.kind (instr_of m k) (whole_at m.whole k)
+    (aim_of m.layout item) (gate_to m.layout item.target) (site_label m.labels m.layout.closed.sides k) (gate m.layout (k + 1)) (group_at m k) (at_word m k o)
+    (shown m k o).pending now.place.no_end other (suited m k ok now.place))
 
 size_some : (op : StoreOp) → 0 < store_size op
 size_some Sb = omega arith

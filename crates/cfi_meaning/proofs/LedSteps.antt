@@ -4,20 +4,21 @@ use Rattle.std.proofs.lemmas.Bool.{cases_Bool}
 use Rattle.std.proofs.lemmas.Option.{option_and_then_some, same_Some}
 use Rattle.rv_word.specs.Image.{Contents}
 use Rattle.rv_code.specs.declared.turn.Turn.TheVariants.{Ran}
+use Rattle.obj_input.specs.declared.item_kind.ItemKind.TheVariants as is
+use Rattle.obj_program.specs.Program.{item_of}
 use Rattle.cfi_map.specs.Placement.{whole_at}
 use Rattle.cfi_map.specs.Source.{Source, source_start}
 use Rattle.cfi_map.specs.SourceStep.{SourceAfter, StepTurn, after_steps, breaks, closes, exits, going_on, ran, source_step, untame}
 use Rattle.cfi_map.proofs.LaterPlaces.{NoneLater, entry_is, stepped as steps_to}
 use Rattle.cfi_map.proofs.LaterRuns.{Reached, reached}
 use Rattle.cfi_runs.specs.Own.{Own, OwnAfter}
-use Rattle.cfi_runs.specs.OwnRuns.{SitesFit}
 use Rattle.cfi_writer.specs.Units.{Choice, is_later_at}
 use Rattle.cfi_meaning.specs.ImageOf.{IsImageOf}
-use Rattle.cfi_meaning.specs.Matches.{own_of}
+use Rattle.cfi_meaning.specs.Matches.{is_outside, own_of}
 use Rattle.cfi_meaning.specs.PlaceSteps.{Chained, Linked, PlacesRun, TamePlace, holds_store, place_step}
+use Rattle.cfi_meaning.specs.PlacesKept.{ComesBackOutside, Follows}
 use Rattle.cfi_meaning.proofs.KindActs.{IsOwn}
-use Rattle.cfi_meaning.proofs.Matching.{fitting}
-use Rattle.cfi_meaning.proofs.StepKept.{sites_after}
+use Rattle.cfi_meaning.proofs.KindFits.{Fits, GoesFit}
 use Rattle.cfi_meaning.proofs.Steps.{Stepped, at_closing, at_place, has_ended, is_untame, stepped}
 use Rattle.cfi_meaning.proofs.StoreSteps.{store_next}
 
@@ -51,13 +52,26 @@ linked m k None store later =
     elim (cases_Bool (holds_store m k)) [ inl has ↦ let wrong : None ≡ Some (k + 1) = store has in absurd (cc) | inr other ↦ other ]
 linked m k (Some j) store later = (λ has. same_Some j (k + 1) (store has), λ is_later. later j refl is_later)
 
+-- a place more, from which no call comes back into a leaf
+follows : (m : Choice) (k : ℕ) (next : Option ℕ) →
+    ((item_of m.layout.program k).kind ≡ is.Return → (j : ℕ) → next ≡ Some j → is_outside m.layout j) → Follows m k next
+follows m k None back = tt
+follows m k (Some j) back = λ returns. back returns j refl
+
+back_on : (m : Choice) (places : List ℕ) (k : ℕ) (next : Option ℕ) → ComesBackOutside m places (Some k) → Follows m k next →
+    ComesBackOutside m (places ++ k ∷ []) next
+back_on m [] k next before behind = behind
+back_on m (j ∷ []) k next before behind = (before, behind)
+back_on m (j ∷ i ∷ places) k next before behind = (before.0, back_on m (i ∷ places) k next before.1 behind)
+
 -- n steps lead over as many places, which are linked
 pub record Led (m : Choice) (image : Contents) (n : ℕ) (start st : Source) : Type 0 where
   pub places : List ℕ
   pub counted : length places ≡ n
   pub run : PlacesRun m image places (own_of m.layout start) (own_of m.layout st)
   pub chain : Chained m None places st.place
-  pub fit : SitesFit (own_of m.layout st).pending
+  pub fits : Fits m.layout st
+  pub back : ComesBackOutside m places st.place
 
 module _ (m : Choice) (image : Contents) (of : IsImageOf m image) (input : List ℕ) where
   abbrev pub start : Source
@@ -86,12 +100,14 @@ module _ (m : Choice) (image : Contents) (of : IsImageOf m image) (input : List 
   led_on n s st before led on (at_closing nowhere is) =
       let wrong : None ≡ Some st =
       sym (ap (λ (a : SourceAfter). going_on a.turn a.state) is ∙ ap (λ (t : StepTurn). going_on t (closes m.layout s).state) (closes_turn m s)) ∙ on in absurd (cc)
-  led_on n s st before led on (at_place k at now own) =
+  led_on n s st before led on (at_place k at now own goes_fit) =
       let went = went_on (source_step m.layout s).turn (source_step m.layout s).state st on in
       let moved : IsOwn m.layout (place_step m k (own_of m.layout s)) ran (source_step m.layout s).state =
       subst (λ (t : StepTurn). IsOwn m.layout (place_step m k (own_of m.layout s)) t (source_step m.layout s).state) went.0 own in
       let is : place_step m k (own_of m.layout s) ≡ record { state = own_of m.layout st; turn = Ran } =
       moved ∙ ap (λ (x : Source). record { state = own_of m.layout x; turn = Ran }) went.1 in
+      let fit : GoesFit m.layout (item_of m.layout.program k).kind st =
+      subst (GoesFit m.layout (item_of m.layout.program k).kind) went.1 (goes_fit led.fits) in
       let longer = length-append led.places (k ∷ []) in
       let counted = led.counted in
       record {
@@ -101,7 +117,9 @@ module _ (m : Choice) (image : Contents) (of : IsImageOf m image) (input : List 
         chain =
             chained_on m None led.places k st.place (subst (λ (place : Option ℕ). Chained m None led.places place) at led.chain)
             (link_on s st k (there n s before).pending at went.0 went.1);
-        fit = subst (λ (a : OwnAfter). SitesFit a.state.pending) is (sites_after m image of k (own_of m.layout s) now led.fit);
+        fits = fit.fits;
+        back =
+            back_on m led.places k st.place (subst (λ (place : Option ℕ). ComesBackOutside m led.places place) at led.back) (follows m k st.place fit.back);
       }
 
   pub led : (n : ℕ) (st : Source) → after_steps m.layout n start ≡ Some st → Led m image n start st
@@ -113,7 +131,8 @@ module _ (m : Choice) (image : Contents) (of : IsImageOf m image) (input : List 
         counted = refl;
         run = refl;
         chain = entry_is m.layout (whole_at m.whole) of.accepted.groups;
-        fit = fitting m of.accepted start (omega arith);
+        fits = record { room = omega arith; outside = tt };
+        back = tt;
       })
   led (suc n) st e =
       option_and_then_some {P = Led m image (suc n) start st}

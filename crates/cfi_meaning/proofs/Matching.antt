@@ -1,29 +1,33 @@
--- A state matches just where it is one that a run of the program's own comes to; its pending sites are addresses of instructions.
-use Rattle.std.proofs.Common.{◌≡◌, ℕ, ◌%◌, ◌^◌, ◌<◌, ◌≤◌, inl, inr, List, [], ◌∷◌, length, Option, Some, None, arith}
+-- A state matches just where it is one that a run of the program's own comes to, as the machine has it; the pending sites are addresses of
+-- instructions.
+use Rattle.std.proofs.Common.{◌≡◌, ℕ, ◌%◌, ◌^◌, ◌<◌, inl, inr, Bool, true, false, List, [], ◌∷◌, Option, Some, None, arith}
 use Rattle.std.specs.List.{AllByRecursion}
 use Rattle.std.proofs.lemmas.Bool.{cases_lt}
 use Rattle.std.proofs.lemmas.List.{get_or_past}
 use Rattle.rv_word.specs.Image.{Contents}
 use Rattle.rv_word.specs.MemoryMap.{SHADOW_START}
 use Rattle.rv_word.specs.Memory.{loaded}
+use Rattle.rv_word.specs.declared.version.GraphVersion.{GraphVersion}
+use Rattle.rv_word.specs.declared.version.GraphVersion.TheVariants.{OneLabel, TwoLabels, CalleeSaves}
 use Rattle.rv_word.proofs.Profiles.{laid_out}
 use Rattle.rv_code.specs.State.{After}
 use Rattle.obj_program.specs.Program.{count}
-use Rattle.cfi_map.specs.GraphAtMap.{ProgramAtMap, gate}
+use Rattle.cfi_leads.specs.Leaves.{in_leaf}
+use Rattle.cfi_map.specs.GraphAtMap.{ProgramAtMap, entered_in, gate}
 use Rattle.cfi_map.specs.Source.{Source}
-use Rattle.cfi_unit.specs.Shadow.{MOST_PENDING}
 use Rattle.cfi_runs.specs.MatchLaws.{ComesTo}
 use Rattle.cfi_runs.specs.OwnRuns.{SitesFit}
 use Rattle.cfi_writer.specs.Accepted.{IsAccepted}
 use Rattle.cfi_writer.specs.Units.{Choice}
 use Rattle.cfi_writer.proofs.Gates.{gates_counted}
 use Rattle.cfi_writer.proofs.Standing.{gate_lies}
-use Rattle.cfi_meaning.specs.Matches.{Matches, MatchesIsOwn, own_of, sites_at, sites_now, sites_of}
+use Rattle.cfi_meaning.specs.Matches.{Matches, MatchesIsOwn, own_of, saved_at, saved_by, saved_now, shown_of, sites_at, sites_now, sites_of}
+use Rattle.cfi_meaning.proofs.KindFits.{Fits}
 
 module _ (layout : ProgramAtMap) (image : Contents) (st : Source) (after : After) where
   -- a run of the program's own comes to this state
   abbrev pub OwnComes : Type 0
-  OwnComes = ComesTo layout.profile.callee_saves SHADOW_START (loaded image) (loaded image) (own_of layout st) after
+  OwnComes = ComesTo layout.profile.callee_saves SHADOW_START (loaded image) (loaded image) (shown_of layout st.place (own_of layout st)) after
 
   -- of what is no data and no shadow stack code is a part
   pub to_own : Matches layout image st after → OwnComes
@@ -42,8 +46,8 @@ module _ (layout : ProgramAtMap) (image : Contents) (st : Source) (after : After
     },
   )
 
-  pub from_own : length (sites_now layout st) ≤ MOST_PENDING → OwnComes → Matches layout image st after
-  from_own room comes = record {
+  pub from_own : Fits layout st → OwnComes → Matches layout image st after
+  from_own fits comes = record {
     turn = comes.0;
     going = comes.1.context.going;
     pc = comes.1.pc;
@@ -54,25 +58,41 @@ module _ (layout : ProgramAtMap) (image : Contents) (st : Source) (after : After
     events = comes.1.shared.events;
     pointer = comes.1.pointer;
     slots = comes.1.context.kept.held;
-    room = room;
+    room = fits.room;
+    outside = fits.outside;
     mask = comes.1.mask;
     code = comes.1.context.kept.frame;
   }
 
+  pub fits_of : Matches layout image st after → Fits layout st
+  fits_of same = record { room = same.room; outside = same.outside }
+
 pub matches_is_own : MatchesIsOwn
 matches_is_own layout image st after = (
-  λ same. (same.room, to_own layout image st after same),
-  λ comes. from_own layout image st after comes.0 comes.1,
+  λ same. (same.room, same.outside, to_own layout image st after same),
+  λ comes. from_own layout image st after (record { room = comes.0; outside = comes.1 }) comes.2,
 )
 
 -- sites
 abbrev IsSite : ℕ → Type 0
 IsSite site = (site % 2 ≡ 0) × (site < 2 ^ 64)
 
+-- those that are saved are among those that are pending
+saved_fit : (version : GraphVersion) (inside : Bool) (sites : List ℕ) → SitesFit sites → SitesFit (saved_by version inside sites)
+saved_fit OneLabel inside sites fit = fit
+saved_fit TwoLabels inside sites fit = fit
+saved_fit CalleeSaves false sites fit = fit
+saved_fit CalleeSaves true [] fit = fit
+saved_fit CalleeSaves true (site ∷ sites) fit = record { each = fit.each.1; most = let most = fit.most in omega arith }
+
+fit_at : (layout : ProgramAtMap) (place : Option ℕ) (sites : List ℕ) → SitesFit sites → SitesFit (saved_at layout place sites)
+fit_at layout None sites fit = fit
+fit_at layout (Some k) sites fit = saved_fit layout.closed.version (in_leaf (entered_in layout) k) sites fit
+
 module _ (m : Choice) (ok : IsAccepted m) where
   closing_site : IsSite m.layout.profile.closing
   closing_site =
-      let laid = laid_out m.layout.profile (inl ok.profile) in
+      let laid = laid_out m.layout.profile ok.profile in
       let first_unit = laid.closing in
       let high = laid.high in
       let round = laid.round in
@@ -99,5 +119,6 @@ module _ (m : Choice) (ok : IsAccepted m) where
   sites_there None pending = tt
   sites_there (Some k) pending = all_sites pending
 
-  pub fitting : (st : Source) → length (sites_now m.layout st) ≤ MOST_PENDING → SitesFit (sites_now m.layout st)
-  fitting st room = record { each = sites_there st.place st.pending; most = room }
+  -- the sites on the shadow stack
+  pub fitting : (st : Source) → Fits m.layout st → SitesFit (saved_now m.layout st)
+  fitting st fits = fit_at m.layout st.place (sites_now m.layout st) (record { each = sites_there st.place st.pending; most = fits.room })

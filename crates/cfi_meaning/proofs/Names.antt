@@ -1,6 +1,8 @@
 -- The unit of a place names no register that units keep for themselves, since its instruction does not.
 use Rattle.std.proofs.Common.{◌≡◌, ℕ, suc, ◌+◌, ◌<◌, ◌≤◌, ◌==◌, ◌||◌, true, false, Bool, inl, inr, Some, refl, sym, ap, subst, ◌∙◌, arith, Option, None, List}
 use Rattle.std.proofs.lemmas.Bool.{cases_Bool, eq-eqb, eqb-true, or_cases, or_left, or_right}
+use Rattle.rv_word.specs.declared.version.GraphVersion.{GraphVersion}
+use Rattle.rv_word.specs.declared.version.GraphVersion.TheVariants.{OneLabel, TwoLabels, CalleeSaves}
 use Rattle.rv_instr.specs.Operands.{names}
 use Rattle.rv_instr.specs.Reserved.{is_reserved}
 use Rattle.rv_instr.specs.declared.instr.Instr.{Instr}
@@ -10,18 +12,18 @@ use Rattle.obj_input.specs.declared.item_kind.ItemKind.TheVariants as is
 use Rattle.obj_program.specs.Program.{count, is_end, item_of}
 use Rattle.obj_program.specs.Suits.{names_reserved, suits}
 use Rattle.obj_program.proofs.Kept.{kept}
-use Rattle.cfi_map.specs.GraphAtMap.{gate_to, words_at}
+use Rattle.cfi_leads.specs.Leaves.{in_leaf}
+use Rattle.cfi_map.specs.GraphAtMap.{aim_of, entered_in, words_at}
 use Rattle.cfi_map.specs.Groups.{base_of, is_store}
 use Rattle.cfi_map.specs.LabelOf.{site_label}
 use Rattle.cfi_map.specs.Placement.{whole_at}
-use Rattle.cfi_unit.specs.declared.mask.Mask.TheVariants.{Shifts}
 use Rattle.cfi_unit.specs.declared.target_word.TargetWord.{TargetWord}
 use Rattle.cfi_unit.specs.declared.unit.Unit.TheVariants as V
 use Rattle.cfi_runs.specs.Tame.{NamesNoReserved}
 use Rattle.cfi_runs.proofs.GroupMembers.{stores_free}
 use Rattle.cfi_rules.specs.Lines.{jump_word}
 use Rattle.cfi_writer.specs.Accepted.{IsAccepted}
-use Rattle.cfi_writer.specs.Units.{Choice, call_unit, Group, behind, group_at, instr_of, is_later_at, low_at, member_at, member_for, unit_here, unit_of}
+use Rattle.cfi_writer.specs.Units.{Choice, Group, behind, call_unit, group_at, instr_of, is_later_at, lean_unit_of, low_at, member_at, member_for, unit_by, unit_here, unit_of}
 use Rattle.cfi_writer.proofs.GroupUnit.{IsStore, inside, store_at}
 use Rattle.cfi_writer.proofs.Standing.{instr_is}
 use Rattle.cfi_meaning.specs.ImageOf.{IsPlace}
@@ -49,7 +51,7 @@ module _ (i : Instr) (none : names_reserved i ≡ false) (k : ℕ) (named : name
         ]
       ]
 
-  pub instr_free : is_reserved k ≡ false
+  instr_free : is_reserved k ≡ false
   instr_free = elim (cases_Bool (is_reserved k)) [ inl reserved ↦ absurd (not_reserved reserved) | inr free ↦ free ]
 
 -- a system call names none
@@ -76,6 +78,24 @@ unit_free calls is.Icall (I.Jalr rd rs1 imm) whole target which label group some
     λ k named. instr_free (I.Jalr rd rs1 imm) none k (or_right (rd == k) (rs1 == k) named)
 unit_free calls kind i whole target which label group some other_kind suit none = absurd (cc)
 
+lean_free : (calls : Option (List ℕ)) (inside : Bool) (kind : ItemKind) (i : Instr) (whole : Bool) (target label : ℕ) (group : Group) → is_end kind ≡ false → is_store kind ≡ false →
+    suits kind i ≡ true → names_reserved i ≡ false → NamesNoReserved (lean_unit_of calls inside kind i whole target label group)
+lean_free calls inside is.Call i whole target label group some other_kind suit none = λ k named. absurd (cc)
+lean_free calls true is.Return i whole target label group some other_kind suit none = λ k named. absurd (cc)
+lean_free calls false is.Return i whole target label group some other_kind suit none = λ k named. absurd (cc)
+lean_free calls inside is.Ijump (I.Jalr rd rs1 imm) whole target label group some other_kind suit none =
+    λ k named. instr_free (I.Jalr rd rs1 imm) none k (or_right (rd == k) (rs1 == k) named)
+lean_free calls inside is.Icall (I.Jalr rd rs1 imm) whole target label group some other_kind suit none =
+    λ k named. instr_free (I.Jalr rd rs1 imm) none k (or_right (rd == k) (rs1 == k) named)
+lean_free calls inside kind i whole target label group some other_kind suit none =
+    unit_free calls kind i whole target (jump_word CalleeSaves) label group some other_kind suit none
+
+free_by : (version : GraphVersion) (calls : Option (List ℕ)) (inside : Bool) (kind : ItemKind) (i : Instr) (whole : Bool) (target label : ℕ) (group : Group) → is_end kind ≡ false → is_store kind ≡ false →
+    suits kind i ≡ true → names_reserved i ≡ false → NamesNoReserved (unit_by version calls inside kind i whole target label group)
+free_by OneLabel calls inside kind i whole target label group = unit_free calls kind i whole target (jump_word OneLabel) label group
+free_by TwoLabels calls inside kind i whole target label group = unit_free calls kind i whole target (jump_word TwoLabels) label group
+free_by CalleeSaves calls inside kind i whole target label group = lean_free calls inside kind i whole target label group
+
 -- the base of a store and what it stores
 member_free : (low : ℕ) (i : Instr) → IsStore i → names_reserved i ≡ false → is_reserved (member_for low i).value ≡ false
 member_free low (I.Store op rs1 rs2 imm) store none =
@@ -87,11 +107,28 @@ base_free (I.Store op rs1 rs2 imm) store none = instr_free (I.Store op rs1 rs2 i
 base_free other store none = let is = store.is in absurd (cc)
 
 -- the unit of a group's first store
-pub stores_unit : (calls : Option (List ℕ)) (kind : ItemKind) (i : Instr) (whole : Bool) (target : ℕ) (which : TargetWord) (label : ℕ) (group : Group) → is_store kind ≡ true → IsStore i →
-    unit_of calls kind i whole target which label group ≡ V.Stores Shifts (base_of (Some i)) group.mask group.members
-stores_unit calls is.Store (I.Store op rs1 rs2 imm) whole target which label group store here = refl
-stores_unit calls is.Store other whole target which label group store here = let e = here.is in absurd (cc)
-stores_unit calls other i whole target which label group store here = absurd (cc)
+stores_of : (calls : Option (List ℕ)) (kind : ItemKind) (i : Instr) (whole : Bool) (target : ℕ) (which : TargetWord) (label : ℕ) (group : Group) → is_store kind ≡ true → IsStore i →
+    unit_of calls kind i whole target which label group ≡ V.Stores group.mask (base_of (Some i)) group.offset group.members
+stores_of calls is.Store (I.Store op rs1 rs2 imm) whole target which label group store here = refl
+stores_of calls is.Store other whole target which label group store here = let e = here.is in absurd (cc)
+stores_of calls other i whole target which label group store here = absurd (cc)
+
+lean_stores : (calls : Option (List ℕ)) (inside : Bool) (kind : ItemKind) (i : Instr) (whole : Bool) (target label : ℕ) (group : Group) → is_store kind ≡ true → IsStore i →
+    lean_unit_of calls inside kind i whole target label group ≡ V.Stores group.mask (base_of (Some i)) group.offset group.members
+lean_stores calls inside is.Store i whole target label group store here = stores_of calls is.Store i whole target (jump_word CalleeSaves) label group store here
+lean_stores calls inside other i whole target label group store here = absurd (cc)
+
+stores_by : (version : GraphVersion) (calls : Option (List ℕ)) (inside : Bool) (kind : ItemKind) (i : Instr) (whole : Bool) (target label : ℕ) (group : Group) → is_store kind ≡ true → IsStore i →
+    unit_by version calls inside kind i whole target label group ≡ V.Stores group.mask (base_of (Some i)) group.offset group.members
+stores_by OneLabel calls inside kind i whole target label group = stores_of calls kind i whole target (jump_word OneLabel) label group
+stores_by TwoLabels calls inside kind i whole target label group = stores_of calls kind i whole target (jump_word TwoLabels) label group
+stores_by CalleeSaves calls inside kind i whole target label group = lean_stores calls inside kind i whole target label group
+
+pub stores_unit : (m : Choice) (k : ℕ) → is_store (item_of m.layout.program k).kind ≡ true → IsStore (instr_of m k) →
+    unit_here m k ≡ V.Stores (group_at m k).mask (base_of (Some (instr_of m k))) (group_at m k).offset (group_at m k).members
+stores_unit m k =
+    stores_by m.layout.closed.version m.layout.closed.calls (in_leaf (entered_in m.layout) k) (item_of m.layout.program k).kind (instr_of m k) (whole_at m.whole k)
+    (aim_of m.layout (item_of m.layout.program k)) (site_label m.labels m.layout.closed.sides k) (group_at m k)
 
 -- the place of a store is no section's end
 store_no_end : (kind : ItemKind) → is_store kind ≡ true → is_end kind ≡ false
@@ -117,10 +154,8 @@ module _ (m : Choice) (ok : IsAccepted m) where
       let start : k + 0 ≡ k = omega arith in
       let here = store_at m ok k below store in
       let none = subst (λ (j : ℕ). names_reserved (instr_of m j) ≡ false) start (store_free k 0 below store first (omega arith)) in
-      subst NamesNoReserved
-      (sym (stores_unit m.layout.closed.calls (item_of m.layout.program k).kind (instr_of m k) (whole_at m.whole k) (gate_to m.layout (item_of m.layout.program k).target)
-      (jump_word m.layout.closed.version) (site_label m.labels m.layout.closed.sides k) (group_at m k) store here))
-      (stores_free (member_at m (low_at m k)) Shifts (base_of (Some (instr_of m k))) (group_at m k).mask k (suc (behind m k)) (base_free (instr_of m k) here none)
+      subst NamesNoReserved (sym (stores_unit m k store here))
+      (stores_free (member_at m (low_at m k)) (group_at m k).mask (base_of (Some (instr_of m k))) (group_at m k).offset k (suc (behind m k)) (base_free (instr_of m k) here none)
       (λ i less.
       let there = inside m ok k below store first i (omega arith) in
       member_free (low_at m k) (instr_of m (k + i)) (store_at m ok (k + i) there.0 there.1) (store_free k i below store first (omega arith))))
@@ -132,6 +167,6 @@ module _ (m : Choice) (ok : IsAccepted m) where
         | inl store ↦ group_free k place.below store first
         | inr other_kind ↦
             let is = kept_at k place in
-            unit_free m.layout.closed.calls (item_of m.layout.program k).kind (instr_of m k) (whole_at m.whole k) (gate_to m.layout (item_of m.layout.program k).target)
-            (jump_word m.layout.closed.version) (site_label m.labels m.layout.closed.sides k) (group_at m k) place.no_end other_kind is.0 is.1
+            free_by m.layout.closed.version m.layout.closed.calls (in_leaf (entered_in m.layout) k) (item_of m.layout.program k).kind (instr_of m k) (whole_at m.whole k)
+            (aim_of m.layout (item_of m.layout.program k)) (site_label m.labels m.layout.closed.sides k) (group_at m k) place.no_end other_kind is.0 is.1
       ]

@@ -1,6 +1,6 @@
 -- Nothing differs: where the program's run goes on its trace is the beginning of the image's, and where
 -- it has ended both are the same.
-use Rattle.std.proofs.Common.{inl, ◌≡◌, ℕ, zero, suc, ◌+◌, ◌-◌, ◌≤◌, ◌==◌, Bool, true, List, [], ◌∷◌, ◌++◌, length, map, Option, Some, None, append-nil, append_assoc, replicate, refl, sym, ap, subst, ◌∙◌, arith}
+use Rattle.std.proofs.Common.{◌≡◌, ℕ, zero, suc, ◌+◌, ◌-◌, ◌≤◌, ◌==◌, Bool, true, List, [], ◌∷◌, ◌++◌, length, map, Option, Some, None, append-nil, append_assoc, replicate, refl, sym, ap, subst, ◌∙◌, arith}
 use Rattle.std.proofs.lemmas.Bool.{eq-eqb, le-ltb}
 use Rattle.rv_word.specs.Image.{Contents}
 use Rattle.rv_word.specs.MemoryMap.{Profile}
@@ -18,7 +18,7 @@ use Rattle.cfi_runs.specs.WholeRun.{undisturbed}
 use Rattle.cfi_map.specs.Placement.{whole_at}
 use Rattle.cfi_writer.specs.Accepted.{IsAccepted}
 use Rattle.cfi_writer.specs.Units.{Choice}
-use Rattle.cfi_meaning.specs.PlacesKept.{last_words, most_steps}
+use Rattle.cfi_meaning.specs.Bounds.{most_steps}
 use Rattle.cfi_meaning.specs.Compared.{Compared, Difference, SourceRun, TraceItem, broke, called, compared_from, differs, exited, first_difference, has_ended, image_end, run_from, running, same_bytes, same_event, same_item, source_end, source_run, stopped, trace, verdict}
 use Rattle.cfi_meaning.specs.Meaning.{EndsAs, KeepsMeaning}
 use Rattle.cfi_meaning.specs.NeverDiffers as law
@@ -26,7 +26,7 @@ use Rattle.cfi_map.specs.Source.{Source, source_start}
 use Rattle.cfi_map.specs.SourceStep.{SourceAfter, StepTurn, after_steps, breaks, exits, ran, source_step, untame}
 use Rattle.cfi_meaning.proofs.Kept.{meaning_kept}
 use Rattle.cfi_map.proofs.LaterRuns.{AtLeader, reached}
-use Rattle.cfi_meaning.proofs.PlacesKept.{bound_rises}
+use Rattle.cfi_meaning.proofs.PlacesKept.{steps_rise}
 use Rattle.cfi_meaning.proofs.AtLater.{at_no_later}
 
 self : (n : ℕ) → (n == n) ≡ true
@@ -168,7 +168,7 @@ module _ (m : Choice) (ok : IsAccepted m) (image : Contents) (input : List ℕ) 
       let events : (after most).shared.events ≡ st.shared.events = ap (λ (x : After). x.shared.events) same ∙ answer.2.events in
       let turn : (after most).turn ≡ Break (word m.layout k) = ap (λ (x : After). x.turn) same ∙ answer.0 in
       let past = answer.1 in
-      let low = (laid_out p (inl ok.profile)).low in
+      let low = (laid_out p ok.profile).low in
       let own : image_end (Break (word m.layout k)) ≡ broke ∷ [] = rw (le-ltb (word m.layout k) OPENING (omega arith)) refl in
       let none : first_difference 0 true (trace st.shared.events (broke ∷ [])) (trace (after most).shared.events (image_end (after most).turn)) ≡ None =
       ap (λ (es : List Event). first_difference 0 true (trace st.shared.events (broke ∷ [])) (trace es (image_end (after most).turn))) events
@@ -195,7 +195,7 @@ module _ (m : Choice) (ok : IsAccepted m) (image : Contents) (input : List ℕ) 
         let here = kept.goes first.steps first.state first.runs (at_no_later m first.state.place ok first.place) in
         let few = here.1 in
         let least = first.few in
-        let rises = bound_rises (length m.layout.closed.sides) (last_words p) first.steps most (omega arith) in
+        let rises = steps_rise m.layout first.steps most (omega arith) in
         let more = added here.0 (most_steps m.layout most) (omega arith) here.2.turn in
         (more.0, more.1 ∙ ap (λ (old : List Event). old ++ more.0) (here.2.events ∙ sym first.world.events))
 

@@ -17,11 +17,12 @@ use Rattle.cfi_meaning.specs.Matches.{own_of}
 use Rattle.cfi_meaning.specs.PlaceSteps.{PlacesRun, TamePlace, holds_store, place_step}
 use Rattle.cfi_meaning.proofs.AtLater.{at_later_is}
 use Rattle.cfi_meaning.proofs.KindActs.{IsOwn}
+use Rattle.cfi_meaning.proofs.KindFits.{Fits}
 use Rattle.cfi_meaning.proofs.Steps.{Stepped, at_closing, at_place, has_ended, is_untame, stepped}
 use Rattle.cfi_meaning.proofs.StoreSteps.{store_goes, store_next}
 
 -- a run over the stores of a group from the first on, and the step from the last of them
-run_more : (m : Choice) (image : Contents) (n k : ℕ) (o middle : Own) (after : OwnAfter) → PlacesRun m image (range_with_len k n) o middle →
+pub run_more : (m : Choice) (image : Contents) (n k : ℕ) (o middle : Own) (after : OwnAfter) → PlacesRun m image (range_with_len k n) o middle →
     TamePlace m image (k + n) middle → place_step m (k + n) middle ≡ after → after.turn ≡ Ran → PlacesRun m image (range_with_len k (suc n)) o after.state
 run_more m image zero k o middle after same now leads going =
     let e : k + 0 ≡ k = omega arith in
@@ -44,7 +45,7 @@ pub record StoresMade (m : Choice) (image : Contents) (n k : ℕ) (st last : Sou
   pub at : last.place ≡ Some (k + n)
   pub store : holds_store m (k + n) ≡ true
   pub going : last_exit last.shared.events ≡ None
-  pub pending : (own_of m.layout last).pending ≡ (own_of m.layout st).pending
+  pub fits : Fits m.layout st → Fits m.layout last
 
 none_made : (m : Choice) (image : Contents) (k : ℕ) (st : Source) → st.place ≡ Some k → holds_store m k ≡ true → last_exit st.shared.events ≡ None →
     StoresMade m image 0 k st st
@@ -56,7 +57,7 @@ none_made m image k st at store going =
       at = at ∙ ap (λ (j : ℕ). Some j) e;
       store = subst (λ (j : ℕ). holds_store m j ≡ true) e store;
       going = going;
-      pending = refl;
+      fits = λ fits. fits;
     }
 
 -- a step from a store that goes on
@@ -64,7 +65,7 @@ record StepsOn (m : Choice) (image : Contents) (k : ℕ) (st next : Source) : Ty
   now : TamePlace m image k (own_of m.layout st)
   leads : place_step m k (own_of m.layout st) ≡ record { state = own_of m.layout next; turn = Ran }
   events : next.shared.events ≡ st.shared.events
-  pending : (own_of m.layout next).pending ≡ (own_of m.layout st).pending
+  fits : Fits m.layout st → Fits m.layout next
 
 -- and more of them behind it
 more_made : (m : Choice) (image : Contents) (n k : ℕ) (st next last : Source) → StepsOn m image k st next → is_later_at m (k + 1) ≡ true →
@@ -87,7 +88,7 @@ more_made m image n k st next last step later more =
       at = more.at ∙ ap (λ (d : ℕ). Some d) e;
       store = subst (λ (d : ℕ). holds_store m d ≡ true) e more.store;
       going = more.going;
-      pending = more.pending ∙ step.pending;
+      fits = λ fits. more.fits (step.fits fits);
     }
 
 module _ (m : Choice) (image : Contents) (of : IsImageOf m image) where
@@ -96,7 +97,7 @@ module _ (m : Choice) (image : Contents) (of : IsImageOf m image) where
   steps_on k st at store going on (has_ended status ended is) = let wrong : Some status ≡ None = sym ended ∙ going in absurd (cc)
   steps_on k st at store going on (is_untame why j is) = let wrong : untame why j ≡ ran = sym is ∙ on in absurd (cc)
   steps_on k st at store going on (at_closing nowhere is) = let wrong : Some k ≡ None = sym at ∙ nowhere in absurd (cc)
-  steps_on k st at store going on (at_place j there now own) =
+  steps_on k st at store going on (at_place j there now own goes_fit) =
       let here : j ≡ k = same_Some j k (sym there ∙ at) in
       let now_here = subst (λ (i : ℕ). TamePlace m image i (own_of m.layout st)) here now in
       let next = (source_step m.layout st).state in
@@ -108,7 +109,7 @@ module _ (m : Choice) (image : Contents) (of : IsImageOf m image) where
         now = now_here;
         leads = leads;
         events = sym (ap (λ (a : OwnAfter). a.state.shared.events) leads) ∙ goes.events;
-        pending = sym (ap (λ (a : OwnAfter). a.state.pending) leads) ∙ goes.pending;
+        fits = λ fits. (goes_fit fits).fits;
       }
 
   pub stores_made : (n k : ℕ) (st last : Source) → st.place ≡ Some k → holds_store m k ≡ true → last_exit st.shared.events ≡ None →
@@ -124,11 +125,8 @@ module _ (m : Choice) (image : Contents) (of : IsImageOf m image) where
       (stores_made n (k + 1) next last next_at (later_store m (k + 1) later).0 (ap last_exit step.events ∙ going) over.3)
 
   -- they are all of the group, if the next place is no later store
-  pub whole_group : (n k : ℕ) (st last : Source) (after : OwnAfter) → StoresMade m image n k st last → TamePlace m image (k + n) (own_of m.layout last) →
-      place_step m (k + n) (own_of m.layout last) ≡ after → after.turn ≡ Ran → is_later_at m (k + n + 1) ≡ false →
-      PlacesRun m image (range_with_len k (suc (behind m k))) (own_of m.layout st) after.state
-  whole_group n k st last after made now leads going free =
-      let all : n ≡ behind m k =
+  pub all_made : (n k : ℕ) (st last : Source) → StoresMade m image n k st last → is_later_at m (k + n + 1) ≡ false → n ≡ behind m k
+  all_made n k st last made free =
       elim (cases_lt n (behind m k)) [
         | inl less ↦
             let more = later_behind m k (n + 1) (omega arith) (omega arith) in
@@ -139,6 +137,11 @@ module _ (m : Choice) (image : Contents) (of : IsImageOf m image) where
               let wrong : true ≡ false = sym (made.others (behind m k + 1) (omega arith) (omega arith)) ∙ first_behind m k in absurd (cc)
           | inr not_more ↦ omega arith
         ]
-      ] in
-      subst (λ (j : ℕ). PlacesRun m image (range_with_len k (suc j)) (own_of m.layout st) after.state) all
+      ]
+
+  pub whole_group : (n k : ℕ) (st last : Source) (after : OwnAfter) → StoresMade m image n k st last → TamePlace m image (k + n) (own_of m.layout last) →
+      place_step m (k + n) (own_of m.layout last) ≡ after → after.turn ≡ Ran → is_later_at m (k + n + 1) ≡ false →
+      PlacesRun m image (range_with_len k (suc (behind m k))) (own_of m.layout st) after.state
+  whole_group n k st last after made now leads going free =
+      subst (λ (j : ℕ). PlacesRun m image (range_with_len k (suc j)) (own_of m.layout st) after.state) (all_made n k st last made free)
       (run_more m image n k (own_of m.layout st) (own_of m.layout last) after made.run now leads going)

@@ -1,44 +1,99 @@
--- From a place's gate the words before its unit, if it has any, lead to that.
-use Rattle.std.proofs.Common.{◌≡◌, ℕ, suc, ◌+◌, ◌*◌, ◌<◌, ◌==◌, inl, inr, ◌≤◌, true, false, List, [], ◌∷◌, length, Option, Some, None, lit≤, refl, sym, ap, subst, ◌∙◌, arith}
+-- From the state at a place the words before its unit, if any stand between, lead to that, whose step is tame.
+use Rattle.std.proofs.Common.{◌≡◌, ℕ, suc, ◌+◌, ◌-◌, ◌*◌, ◌^◌, ◌<◌, ◌==◌, inl, inr, ◌≤◌, Bool, true, false, List, [], ◌∷◌, length, Option, Some, None, lit≤, refl, sym, ap, subst, ◌∙◌, arith}
 use Rattle.std.specs.Prelude.{slice_get}
-use Rattle.std.proofs.lemmas.Bool.{cases_lt, eqb-true, false≢true, or_cases}
-use Rattle.rv_instr.specs.Reserved.{is_reserved}
-use Rattle.rv_instr.specs.Registers.{Registers}
-use Rattle.rv_code.specs.declared.turn.Turn.TheVariants.{Ran}
+use Rattle.std.proofs.lemmas.Bool.{cases_Bool, cases_lt, eqb-true, or_cases, true≢false}
+use Rattle.rv_word.specs.declared.version.GraphVersion.{GraphVersion}
+use Rattle.rv_word.specs.declared.version.GraphVersion.TheVariants.{OneLabel, TwoLabels, CalleeSaves}
 use Rattle.rv_word.specs.Image.{Contents}
 use Rattle.rv_word.specs.Memory.{Memory, loaded}
 use Rattle.rv_word.specs.MemoryMap.{Profile}
-use Rattle.rv_word.proofs.Profiles.{full_saves, laid_out}
+use Rattle.rv_word.proofs.Profiles.{laid_out}
+use Rattle.rv_instr.specs.Reserved.{is_reserved}
+use Rattle.rv_instr.specs.Registers.{Registers}
+use Rattle.rv_code.specs.declared.turn.Turn.TheVariants.{Ran}
 use Rattle.obj_program.specs.Program.{count, is_end, item_of}
-use Rattle.cfi_map.specs.GraphAtMap.{gate, word}
+use Rattle.cfi_graph.specs.Graph.{has_leaves}
+use Rattle.cfi_leads.specs.Leads.{enters}
+use Rattle.cfi_leads.specs.Leaves.{in_leaf}
+use Rattle.cfi_map.specs.GraphAtMap.{arrival, arrival_by, entered_in, gate, word}
+use Rattle.cfi_unit.specs.declared.mask.Mask.TheVariants.{Shifts, Short, Long}
 use Rattle.cfi_unit.specs.declared.unit.Unit as U
+use Rattle.cfi_unit.specs.declared.unit.Unit.TheVariants as V
+use Rattle.cfi_unit.specs.EffectLaw.{AsksSite}
+use Rattle.cfi_unit.specs.Leaving.{SameRegisters}
 use Rattle.cfi_unit.specs.Stand.{Stand}
-use Rattle.cfi_unit.specs.Templates.{is_full, is_lean}
+use Rattle.cfi_unit.specs.Templates.{Asks, is_lean}
 use Rattle.cfi_unit.specs.UnitWords.{Fits, instrs_of, word_count}
-use Rattle.cfi_unit.proofs.EffectRows.{site_asked}
 use Rattle.cfi_unit.proofs.Flows.{full_asks}
+use Rattle.cfi_pending.specs.StartLaw.{stands_in}
+use Rattle.cfi_runs.specs.Mask.{HoldsMask}
 use Rattle.cfi_runs.specs.Own.{Own, OwnAfter, own_step}
 use Rattle.cfi_runs.specs.OwnRuns.{OwnRuns, words_along}
 use Rattle.cfi_runs.specs.Tame.{IsTame, NamesNoReserved, TameStep}
 use Rattle.cfi_rules.specs.Split.{code_words, unit_at}
 use Rattle.cfi_rules.proofs.Places.{unit_facts}
+use Rattle.cfi_rules.proofs.RuleFacts.{unit_stands_in}
 use Rattle.cfi_rules.proofs.Standing.{unit_stands}
-use Rattle.cfi_rules.proofs.StartKinds.{stands_full}
 use Rattle.cfi_writer.specs.Accepted.{IsAccepted}
 use Rattle.cfi_writer.specs.Units.{Choice, behind, is_later_at, lead, lead_unit, unit_here}
 use Rattle.cfi_writer.proofs.Grouping.{later_behind, later_below, later_store, other_first}
-use Rattle.cfi_writer.proofs.Runs.{AreSingle, from_lead, lead_few, lead_single}
+use Rattle.cfi_writer.proofs.LeadWords.{IsLeadWord, from_lead, labels_there, lead_few, over, saver, saver_last, side_word, words_in}
+use Rattle.cfi_writer.proofs.LeanWords.{lead_word_count}
 use Rattle.cfi_writer.proofs.Standing.{gate_after, word_is}
 use Rattle.cfi_writer.proofs.WholeCode.{written_units}
 use Rattle.cfi_meaning.specs.PlaceLaws as law
 use Rattle.cfi_meaning.specs.ImageOf.{IsImageOf, IsPlace}
-use Rattle.cfi_meaning.specs.PlaceLaws.{ComesToPlace}
-use Rattle.cfi_meaning.specs.PlaceSteps.{at_word}
+use Rattle.cfi_meaning.specs.Matches.{home_by, saved_by}
+use Rattle.cfi_meaning.specs.PlaceLaws.{ComesToPlace, at_unit, shown}
 use Rattle.cfi_meaning.proofs.Names.{place_free, store_is_place}
 use Rattle.cfi_meaning.proofs.Prologue.{formed, written_graph}
 
--- a word before a unit names no reserved register, is tame and does nothing but go on
-lead_free : (o : Option ℕ) → NamesNoReserved (lead_unit o)
+-- where callers save sites the machine is at the place's gate with all sites; else it is at its word
+full_by : (version : GraphVersion) (gate word : ℕ) (inside : Bool) (o : Own) → has_leaves version ≡ false → o.pc ≡ gate →
+    record o { pc = home_by version gate word; pending = saved_by version inside o.pending } ≡ o
+full_by OneLabel gate word inside o full at = ap (λ (a : ℕ). record o { pc = a }) (sym at)
+full_by TwoLabels gate word inside o full at = ap (λ (a : ℕ). record o { pc = a }) (sym at)
+full_by CalleeSaves gate word inside o full at = absurd (cc)
+
+pub full_shown : (m : Choice) (k : ℕ) (o : Own) → has_leaves m.layout.closed.version ≡ false → o.pc ≡ gate m.layout k → shown m k o ≡ o
+full_shown m k o = full_by m.layout.closed.version (gate m.layout k) (word m.layout k) (in_leaf (entered_in m.layout) k) o
+
+lean_home : (version : GraphVersion) (gate word : ℕ) → has_leaves version ≡ true → home_by version gate word ≡ word
+lean_home OneLabel gate word leaves = absurd (cc)
+lean_home TwoLabels gate word leaves = absurd (cc)
+lean_home CalleeSaves gate word leaves = refl
+
+lean_shown : (m : Choice) (k : ℕ) (o : Own) → has_leaves m.layout.closed.version ≡ true → at_unit m k o ≡ shown m k o
+lean_shown m k o leaves =
+    ap (λ (a : ℕ). record (shown m k o) { pc = a }) (sym (lean_home m.layout.closed.version (gate m.layout k) (word m.layout k) leaves))
+
+-- what saves the sites of calls stands right before the unit
+arrival_by_saver : (version : GraphVersion) (gate word : ℕ) (saves : Bool) → has_leaves version ≡ true → saves ≡ true → arrival_by version saves gate word ≡ word - 20
+arrival_by_saver OneLabel gate word saves leaves is = absurd (cc)
+arrival_by_saver TwoLabels gate word saves leaves is = absurd (cc)
+arrival_by_saver CalleeSaves gate word saves leaves is = rw is refl
+
+-- a tame step tells what its unit asks: a pending site, and of the registers what they hold
+tame_site : (image : Memory) (u : U.Unit) (pending : List ℕ) (r : Registers) → IsTame image u pending r → AsksSite u pending
+tame_site image V.Return [] r tame = absurd tame
+tame_site image V.Return (site ∷ pending) r tame = omega arith
+tame_site image other pending r tame = tt
+
+lean_asks : (image : Memory) (u : U.Unit) (pending : List ℕ) (own r : Registers) → is_lean u ≡ true → IsTame image u pending own → SameRegisters own r →
+    HoldsMask true r → Asks u r
+lean_asks image (V.Stores Shifts rs1 imm members) pending own r lean tame same held = absurd (cc)
+lean_asks image (V.Stores Short rs1 imm members) pending own r lean tame same held = held
+lean_asks image (V.Stores Long rs1 imm members) pending own r lean tame same held = held
+lean_asks image V.Enter pending own r lean tame same held = subst (λ (v : ℕ). v < 2 ^ 64) (sym (same.same 1 refl)) tame.2
+lean_asks image other pending own r lean tame same held = tt
+
+asks_by : (masked : Bool) (image : Memory) (u : U.Unit) (pending : List ℕ) (own r : Registers) → stands_in masked u ≡ true → IsTame image u pending own →
+    SameRegisters own r → HoldsMask masked r → Asks u r
+asks_by true image u pending own r stands tame same held = lean_asks image u pending own r stands tame same held
+asks_by false image u pending own r stands tame same held = full_asks u r stands
+
+-- a word of a side names no reserved register, is tame and does nothing but go on
+pub lead_free : (o : Option ℕ) → NamesNoReserved (lead_unit o)
 lead_free None r named =
     elim (or_cases (0 == r) (0 == r) named) [
       | inl first ↦ ap is_reserved (sym (eqb-true 0 r first))
@@ -46,13 +101,33 @@ lead_free None r named =
     ]
 lead_free (Some label) r named = absurd (cc)
 
-lead_tame : (image : Memory) (o : Option ℕ) (pending : List ℕ) (regs : Registers) → IsTame image (lead_unit o) pending regs
+pub lead_tame : (image : Memory) (o : Option ℕ) (pending : List ℕ) (regs : Registers) → IsTame image (lead_unit o) pending regs
 lead_tame image None pending regs = lit≤ tt
 lead_tame image (Some label) pending regs = tt
 
-goes_on : (p : Profile) (label : Option ℕ) (o : Own) → own_step p o (lead_unit label) ≡ record { turn = Ran; state = record o { pc = o.pc + 4 } }
+pub goes_on : (p : Profile) (label : Option ℕ) (o : Own) → own_step p o (lead_unit label) ≡ record { turn = Ran; state = record o { pc = o.pc + 4 } }
 goes_on p None o = refl
 goes_on p (Some label) o = refl
+
+-- where callers save sites, each word before a unit is that of a side
+abbrev OfSide : U.Unit → Type 0
+OfSide u = (label : Option ℕ) × (lead_unit label ≡ u)
+
+abbrev AreOfSides : List U.Unit → Type 0
+AreOfSides us = (j : ℕ) (u : U.Unit) → slice_get us j ≡ Some u → OfSide u
+
+of_side : (m : Choice) (k j : ℕ) (u : U.Unit) → has_leaves m.layout.closed.version ≡ false → IsLeadWord m k j u → OfSide u
+of_side m k j u full (side_word i o there at target same) = (o, sym same)
+of_side m k j u full (over leaves saves at same) = absurd (true≢false (sym leaves ∙ full))
+of_side m k j u full (saver leaves saves last same) = absurd (true≢false (sym leaves ∙ full))
+
+words_led : (us : List U.Unit) → AreOfSides us → (words_along us ≡ length us) × (words_in us ≡ length us)
+words_led [] of = (refl, refl)
+words_led (v ∷ us) of =
+    let (label, same) = of 0 v refl in
+    let size : word_count v ≡ 1 = ap word_count (sym same) ∙ lead_word_count label in
+    let (along, inside) = words_led us (λ j w get. of (suc j) w get) in
+    (omega arith, omega arith)
 
 record Quiet (p : Profile) (image : Memory) (u : U.Unit) (o : Own) : Type 0 where
   label : Option ℕ
@@ -78,33 +153,34 @@ runs_led p image (u ∷ us) o each =
           (subst (λ (a : ℕ). OwnRuns p image us (record o { pc = o.pc + 4 }) (record o { pc = a })) last rest),
     )
 
-words_led : (us : List U.Unit) → AreSingle us → words_along us ≡ length us
-words_led [] single = refl
-words_led (v ∷ us) single =
-    let size : word_count v ≡ 1 = single 0 v refl in
-    let rest = words_led us (λ j w get. single (suc j) w get) in
-    omega arith
-
 module _ (m : Choice) (image : Contents) (of : IsImageOf m image) where
   -- a unit that is written stands
-  pub stands_here : (a : ℕ) (u : U.Unit) → unit_at m.layout.profile (code_words image.code) a ≡ Some u → Fits u a × Stand (loaded image) a (instrs_of u a)
+  stands_here : (a : ℕ) (u : U.Unit) → unit_at m.layout.profile (code_words image.code) a ≡ Some u → Fits u a × Stand (loaded image) a (instrs_of u a)
   stands_here a u e =
       let p = m.layout.profile in
-      let laid = laid_out p (inl of.accepted.profile) in
-      let here = unit_facts p (inl of.accepted.profile) image (written_graph m image of) of.bytes (formed m image of) a u e in
-      (here.begins.fits, unit_stands p laid image of.bytes a u here)
+      let here = unit_facts p of.accepted.profile image (written_graph m image of) of.bytes (formed m image of) a u e in
+      (here.begins.fits, unit_stands p (laid_out p of.accepted.profile) image of.bytes a u here)
 
-  -- and is one of code whose callers save sites
-  full_here : (a : ℕ) (u : U.Unit) → unit_at m.layout.profile (code_words image.code) a ≡ Some u → is_full u ≡ true
-  full_here a u e =
-      stands_full m.layout.profile (inl of.accepted.profile) image (written_graph m image of) of.bytes (formed m image of) a u
-      (full_saves m.layout.profile of.accepted.profile) e
+  version_here : (a : ℕ) (u : U.Unit) → unit_at m.layout.profile (code_words image.code) a ≡ Some u → stands_in m.layout.profile.callee_saves u ≡ true
+  version_here a u e = unit_stands_in m.layout.profile image (written_graph m image of) (formed m image of) a u e
 
-  -- whose callees do not, so nothing is asked of its units for the mask of stores in x4
-  not_lean : (u : U.Unit) → m.layout.profile.callee_saves ≡ true → is_lean u ≡ true
-  not_lean u callee = absurd (false≢true (sym (full_saves m.layout.profile of.accepted.profile) ∙ callee))
+  -- and its step is one that the machine keeps where it is tame and names no reserved register
+  pub steps_there : (a : ℕ) (u : U.Unit) (o : Own) → unit_at m.layout.profile (code_words image.code) a ≡ Some u → a ≡ o.pc → NamesNoReserved u →
+      IsTame (loaded image) u o.pending o.regs → TameStep m.layout.profile.callee_saves (loaded image) u o
+  steps_there a u o written at free tame =
+      let here = stands_here a u written in
+      let version = version_here a u written in
+      record {
+        fits = subst (Fits u) at here.0;
+        stands = subst (λ (n : ℕ). Stand (loaded image) n (instrs_of u n)) at here.1;
+        free = free;
+        some = tame_site (loaded image) u o.pending o.regs tame;
+        leaves = λ callee. subst (λ (masked : Bool). stands_in masked u ≡ true) callee version;
+        asks = λ r same held. asks_by m.layout.profile.callee_saves (loaded image) u o.pending o.regs r version tame same held;
+        tame = tame;
+      }
 
-  pub unit_written : (k : ℕ) → k < count m.layout.program → is_later_at m k ≡ false →
+  unit_written : (k : ℕ) → k < count m.layout.program → is_later_at m k ≡ false →
       unit_at m.layout.profile (code_words image.code) (word m.layout k) ≡ Some (unit_here m k)
   unit_written k below first =
       subst (λ (ws : List ℕ). unit_at m.layout.profile ws (word m.layout k) ≡ Some (unit_here m k)) (sym of.code)
@@ -116,60 +192,71 @@ module _ (m : Choice) (image : Contents) (of : IsImageOf m image) where
       subst (λ (ws : List ℕ). unit_at m.layout.profile ws (gate m.layout k + 4 * j) ≡ Some u) (sym of.code)
       ((written_units m of.accepted).led k j u below some)
 
-  -- a place that has a unit, whose step is tame
-  module _ (k : ℕ) (o : Own) (place : IsPlace m k) (first : is_later_at m k ≡ false) (at : o.pc ≡ gate m.layout k) (some : 0 < length o.pending)
-      (tame : IsTame (loaded image) (unit_here m k) o.pending o.regs) where
-    tame_step : TameStep m.layout.profile.callee_saves (loaded image) (unit_here m k) (at_word m k o)
-    tame_step =
-        let written = unit_written k place.below first in
-        let here = stands_here (word m.layout k) (unit_here m k) written in
-        record {
-          fits = here.0;
-          stands = here.1;
-          free = place_free m of.accepted k place first;
-          some = site_asked (unit_here m k) o.pending some;
-          leaves = not_lean (unit_here m k);
-          asks = λ r same held. full_asks (unit_here m k) r (full_here (word m.layout k) (unit_here m k) written);
-          tame = tame;
-        }
+  -- where callees save sites, what saves those of the calls that enter a place is its last word before the unit
+  pub saver_written : (k : ℕ) → k < count m.layout.program → has_leaves m.layout.closed.version ≡ true → enters (entered_in m.layout) k ≡ true →
+      (unit_at m.layout.profile (code_words image.code) (arrival m.layout k) ≡ Some V.Enter) × (arrival m.layout k + 20 ≡ word m.layout k)
+  saver_written k below leaves saves =
+      let (j, is) = saver_last m (labels_there m of.accepted) leaves k saves in
+      let behind = is.behind in
+      let own = word_is m of.accepted k in
+      let arrives = arrival_by_saver m.layout.closed.version (gate m.layout k) (word m.layout k) (enters (entered_in m.layout) k) leaves saves in
+      let at : gate m.layout k + 4 * j ≡ arrival m.layout k = omega arith in
+      (subst (λ (a : ℕ). unit_at m.layout.profile (code_words image.code) a ≡ Some V.Enter) at (lead_written k j V.Enter below is.there), omega arith)
 
-    lead_step : (j : ℕ) (u : U.Unit) → slice_get (lead m k) j ≡ Some u → Quiet m.layout.profile (loaded image) u (record o { pc = o.pc + 4 * j })
-    lead_step j u get =
-        let (label, led, same) = from_lead m k j u get in
-        let written = lead_written k j u place.below get in
-        let here = stands_here (gate m.layout k + 4 * j) u written in
-        let there : gate m.layout k + 4 * j ≡ o.pc + 4 * j = ap (λ (a : ℕ). a + 4 * j) (sym at) in
-        record {
-          label = label;
-          same = same;
-          step = record {
-            fits = subst (λ (a : ℕ). Fits u a) there here.0;
-            stands = subst (λ (a : ℕ). Stand (loaded image) a (instrs_of u a)) there here.1;
-            free = subst NamesNoReserved same (lead_free label);
-            some = site_asked u o.pending some;
-            leaves = not_lean u;
-            asks = λ r alike held. full_asks u r (full_here (gate m.layout k + 4 * j) u written);
-            tame = subst (λ (v : U.Unit). IsTame (loaded image) v o.pending o.regs) same (lead_tame (loaded image) label o.pending o.regs);
-          };
-        }
+  -- a place that has a unit, whose step is tame
+  module _ (k : ℕ) (o : Own) (place : IsPlace m k) (first : is_later_at m k ≡ false) (at : o.pc ≡ gate m.layout k)
+      (tame : IsTame (loaded image) (unit_here m k) (shown m k o).pending o.regs) where
+    unit_step : TameStep m.layout.profile.callee_saves (loaded image) (unit_here m k) (at_unit m k o)
+    unit_step = steps_there (word m.layout k) (unit_here m k) (at_unit m k o) (unit_written k place.below first) refl (place_free m of.accepted k place first) tame
+
+    -- where callers save sites
+    module _ (full : has_leaves m.layout.closed.version ≡ false) where
+      of_sides : AreOfSides (lead m k)
+      of_sides j u get = of_side m k j u full (from_lead m k j u get)
+
+      lead_step : (j : ℕ) (u : U.Unit) → slice_get (lead m k) j ≡ Some u → Quiet m.layout.profile (loaded image) u (record o { pc = o.pc + 4 * j })
+      lead_step j u get =
+          let (label, same) = of_sides j u get in
+          let there : gate m.layout k + 4 * j ≡ o.pc + 4 * j = ap (λ (a : ℕ). a + 4 * j) (sym at) in
+          record {
+            label = label;
+            same = same;
+            step = steps_there (gate m.layout k + 4 * j) u (record o { pc = o.pc + 4 * j }) (lead_written k j u place.below get) there
+                (subst NamesNoReserved same (lead_free label))
+                (subst (λ (v : U.Unit). IsTame (loaded image) v o.pending o.regs) same (lead_tame (loaded image) label o.pending o.regs));
+          }
+
+      unit_is : record o { pc = word m.layout k } ≡ at_unit m k o
+      unit_is = ap (λ (s : Own). record s { pc = word m.layout k }) (sym (full_shown m k o full at))
+
+      full_comes : ComesToPlace m image k o
+      full_comes =
+          let behind_gate = word_is m of.accepted k in
+          let (along, inside) = words_led (lead m k) of_sides in
+          let next : o.pc + 4 * length (lead m k) ≡ word m.layout k = omega arith in
+          let few = lead_few m k full in
+          let runs : OwnRuns m.layout.profile (loaded image) (lead m k) o (record o { pc = word m.layout k }) =
+          subst (λ (a : ℕ). OwnRuns m.layout.profile (loaded image) (lead m k) o (record o { pc = a })) next
+          (runs_led m.layout.profile (loaded image) (lead m k) o lead_step) in
+          record {
+            path = lead m k;
+            few = omega arith;
+            none = λ leaves. absurd (true≢false (sym leaves ∙ full));
+            leads =
+                subst (λ (s : Own). OwnRuns m.layout.profile (loaded image) (lead m k) s (at_unit m k o)) (sym (full_shown m k o full at))
+                (subst (OwnRuns m.layout.profile (loaded image) (lead m k) o) unit_is runs);
+            step = unit_step;
+          }
 
     pub comes : ComesToPlace m image k o
     comes =
-        let behind_gate = word_is m of.accepted k in
-        let next : o.pc + 4 * length (lead m k) ≡ word m.layout k = omega arith in
-        let words = words_led (lead m k) (lead_single m k) in
-        let few = lead_few m k in
-        record {
-          path = lead m k;
-          few = omega arith;
-          leads =
-              subst (λ (a : ℕ). OwnRuns m.layout.profile (loaded image) (lead m k) o (record o { pc = a })) next
-              (runs_led m.layout.profile (loaded image) (lead m k) o lead_step);
-          step = tame_step;
-        }
+        elim (cases_Bool (has_leaves m.layout.closed.version)) [
+          | inl leaves ↦ record { path = []; few = omega arith; none = λ callee. refl; leads = lean_shown m k o leaves; step = unit_step }
+          | inr full ↦ full_comes full
+        ]
 
 pub place_runs : law.PlaceRuns
-place_runs m image k o of other now = comes m image of k o now.place (other_first m k other) now.at now.some (now.tame other)
+place_runs m image k o of other now = comes m image of k o now.place (other_first m k other) now.at (now.tame other)
 
 -- the places of a group are no section's ends
 goes_on_at : (m : Choice) (k i : ℕ) → IsPlace m k → i ≤ behind m k → IsPlace m (k + i)

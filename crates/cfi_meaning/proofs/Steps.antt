@@ -12,10 +12,10 @@ use Rattle.obj_program.specs.Program.{count, is_end, item_of, no_item}
 use Rattle.obj_program.specs.Sound.{is_direct}
 use Rattle.obj_program.specs.Suits.{suits}
 use Rattle.obj_program.proofs.Kept.{kept}
-use Rattle.cfi_map.specs.GraphAtMap.{ProgramAtMap, gate, gate_to, word, words_at}
+use Rattle.cfi_leads.specs.Leaves.{in_leaf}
+use Rattle.cfi_map.specs.GraphAtMap.{ProgramAtMap, aim_of, entered_in, gate, gate_to, word, words_at}
 use Rattle.cfi_map.specs.LabelOf.{site_label}
 use Rattle.cfi_map.specs.Placement.{whole_at}
-use Rattle.cfi_rules.specs.Lines.{jump_word}
 use Rattle.cfi_writer.specs.Units.{Choice, group_at, instr_of}
 use Rattle.cfi_writer.proofs.Leading.{direct}
 use Rattle.cfi_writer.proofs.Standing.{gate_lies, instr_is, word_is}
@@ -28,7 +28,8 @@ use Rattle.cfi_map.specs.Source.{Source, instr_here}
 use Rattle.cfi_map.specs.SourceStep.{SourceAfter, acts, closes, exits, source_step, step_at, unless, unless_ended, untame}
 use Rattle.cfi_map.specs.Untame.{is_off_graph, is_off_window, is_too_deep, is_unlisted, is_wrong_return, reason}
 use Rattle.cfi_meaning.proofs.KindActs.{IsOwn, own_acts}
-use Rattle.cfi_meaning.proofs.KindTame.{NoReason, all_false, inside_of_kind, sites_counted, tame_of_kind}
+use Rattle.cfi_meaning.proofs.KindFits.{Fits, GoesFit, acts_fit, call_outside}
+use Rattle.cfi_meaning.proofs.KindTame.{NoReason, all_false, back_of_kind, base_of_kind, inside_of_kind, room_of_kind, sites_counted, tame_of_kind}
 
 module _ (m : Choice) (image : Contents) (of : IsImageOf m image) (k : ℕ) where
   abbrev g : ProgramAtMap
@@ -44,7 +45,7 @@ module _ (m : Choice) (image : Contents) (of : IsImageOf m image) (k : ℕ) wher
     module _ (none : reason g k item.kind (instr_here g k) here ≡ None) where
       no_reason : NoReason g k item.kind (instr_here g k) here
       no_reason =
-          let all = all_false (is_off_graph g k item.kind (instr_here g k) here) (is_wrong_return g item.kind here) (is_off_window item.kind (instr_here g k) here)
+          let all = all_false (is_off_graph g k item.kind (instr_here g k) here) (is_wrong_return g item.kind here) (is_off_window g k item.kind (instr_here g k) here)
           (is_too_deep item.kind here) (is_end item.kind) (is_unlisted g item.kind (instr_here g k) here) none in
           record { graph = all.0; return = all.1; window = all.2; deep = all.3; no_end = all.4; listed = all.5 }
 
@@ -75,10 +76,12 @@ module _ (m : Choice) (image : Contents) (of : IsImageOf m image) (k : ℕ) wher
         place = place;
         at = refl;
         some = let counted = sites_counted g pending in omega arith;
-        inside = inside_of_kind image g k (jump_word g.closed.version) (site_label m.labels g.closed.sides k) here item.kind (instr_of m k) no_reason;
-        tame = tame_of_kind image g k (jump_word g.closed.version) (site_label m.labels g.closed.sides k) here item.kind (instr_of m k)
-            (whole_at m.whole k) (gate_to g item.target) (group_at m k)
-            (λ site some t' reaches. target_bears m image k t' site of place.below some reaches) suit no_reason;
+        inside = inside_of_kind g k here item.kind (instr_of m k) no_reason;
+        base = base_of_kind g k here item.kind (instr_of m k) no_reason;
+        back = back_of_kind g k here item.kind (instr_of m k) no_reason;
+        room = room_of_kind g k here item.kind (instr_of m k) no_reason;
+        tame = tame_of_kind g k here image (site_label m.labels g.closed.sides k) (in_leaf (entered_in g) k) item.kind (instr_of m k) (whole_at m.whole k)
+            (aim_of g item) (group_at m k) (λ site some t' reaches. target_bears m image k t' site of place.below some reaches) suit no_reason;
       }
 
       past : g.profile.units_from ≤ word g k
@@ -92,12 +95,17 @@ module _ (m : Choice) (image : Contents) (of : IsImageOf m image) (k : ℕ) wher
           (acts g k item.kind (instr_here g k) (unwrap_or item.target 0) here).state
       own_here = own_acts g k past r t pending item.kind (instr_of m k) item.target suit no_reason aim
 
+      fits_here : Fits g here → GoesFit g item.kind (acts g k item.kind (instr_here g k) (unwrap_or item.target 0) here).state
+      fits_here fits =
+          acts_fit g k here fits.room fits.outside item.kind (instr_of m k) (unwrap_or item.target 0) no_reason (call_outside g k place.below)
+
 -- what a step is
 pub data Stepped (m : Choice) (image : Contents) (st : Source) : Type 0 where
   has_ended : (status : ℕ) → last_exit st.shared.events ≡ Some status → source_step m.layout st ≡ record { state = st; turn = exits status } → Stepped m image st
   is_untame : (why : Reason) (k : ℕ) → (source_step m.layout st).turn ≡ untame why k → Stepped m image st
   at_place : (k : ℕ) → st.place ≡ Some k → TamePlace m image k (own_of m.layout st) →
-      IsOwn m.layout (place_step m k (own_of m.layout st)) (source_step m.layout st).turn (source_step m.layout st).state → Stepped m image st
+      IsOwn m.layout (place_step m k (own_of m.layout st)) (source_step m.layout st).turn (source_step m.layout st).state →
+      (Fits m.layout st → GoesFit m.layout (item_of m.layout.program k).kind (source_step m.layout st).state) → Stepped m image st
   at_closing : st.place ≡ None → source_step m.layout st ≡ closes m.layout st → Stepped m image st
 
 module _ (m : Choice) (image : Contents) (of : IsImageOf m image) (st : Source) where
@@ -128,6 +136,9 @@ module _ (m : Choice) (image : Contents) (of : IsImageOf m image) (st : Source) 
             (subst (λ (a : SourceAfter). IsOwn m.layout (place_step m k (own_of m.layout st)) a.turn a.state) (sym acted)
             (subst (λ (x : Source). IsOwn m.layout (place_step m k (own_of m.layout x)) (acts m.layout k item.kind i (unwrap_or item.target 0) x).turn (acts m.layout k item.kind i (unwrap_or item.target 0) x).state) q
             (own_here m image of k st.regs st.shared st.pending none')))
+            (subst (λ (a : SourceAfter). Fits m.layout st → GoesFit m.layout item.kind a.state) (sym acted)
+            (subst (λ (x : Source). Fits m.layout x → GoesFit m.layout item.kind (acts m.layout k item.kind i (unwrap_or item.target 0) x).state) q
+            (fits_here m image of k st.regs st.shared st.pending none')))
       ]
 
   pub stepped : Stepped m image st

@@ -1,4 +1,4 @@
--- Steps from stores: each goes on to the next place, tells nothing to the world and leaves what is pending.
+-- Steps from stores: each goes on to the next place and tells nothing to the world.
 use Rattle.std.proofs.Common.{◌≡◌, ℕ, ◌+◌, ◌⊎◌, inl, inr, true, Option, Some, None, refl, sym, ap, subst, ◌∙◌}
 use Rattle.rv_word.specs.Image.{Contents}
 use Rattle.rv_instr.specs.declared.instr.Instr.{Instr}
@@ -25,7 +25,6 @@ use Rattle.cfi_meaning.proofs.KindStep.{store_step, stores_on}
 pub record StoreGoes (m : Choice) (k : ℕ) (o : Own) : Type 0 where
   pub turn : (place_step m k o).turn ≡ Ran
   pub events : (place_step m k o).state.shared.events ≡ o.shared.events
-  pub pending : (place_step m k o).state.pending ≡ o.pending
 
 pub store_goes : (m : Choice) (image : Contents) (k : ℕ) (o : Own) → IsAccepted m → TamePlace m image k o → holds_store m k ≡ true → StoreGoes m k o
 store_goes m image k o ok now store =
@@ -36,7 +35,6 @@ store_goes m image k o ok now store =
     record {
       turn = ap (λ (a : OwnAfter). a.turn) does ∙ on.turn;
       events = ap (λ (a : OwnAfter). a.state.shared.events) does ∙ on.events;
-      pending = ap (λ (a : OwnAfter). a.state.pending) does ∙ on.pending;
     }
 
 -- an own step that goes on is one of the source machine that does, or is untame

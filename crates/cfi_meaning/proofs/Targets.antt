@@ -1,5 +1,6 @@
--- The gates of a computed transfer's targets bear its label: they are targets of the class that serves it, in a graph that meets the rules.
-use Rattle.std.proofs.Common.{◌≡◌, ℕ, suc, ◌<◌, ◌==◌, inl, inr, true, false, List, [], ◌∷◌, length, Option, Some, None, refl, sym, ap, subst, ◌∙◌}
+-- The gates of a computed transfer's targets bear its label, at the word that its check reads: they are targets of the class that serves
+-- it, in a graph that meets the rules.
+use Rattle.std.proofs.Common.{◌≡◌, ℕ, suc, ◌<◌, ◌==◌, inl, inr, true, List, [], ◌∷◌, length, Option, Some, None, refl, sym, ap, subst, ◌∙◌}
 use Rattle.std.specs.Prelude.{map, option_and_then, slice_get, slice_index, slice_index_or}
 use Rattle.std.specs.List.{find, list_any}
 use Rattle.std.proofs.lemmas.Bool.{cases_Bool, eqb-true, or_cases, or_left, or_right}
@@ -7,33 +8,31 @@ use Rattle.std.proofs.lemmas.List.{get_or_append_left}
 use Rattle.std.proofs.lemmas.List.Quantifiers.{position-Some}
 use Rattle.std.proofs.lemmas.Option.{same_Some}
 use Rattle.rv_word.specs.declared.version.GraphVersion.{GraphVersion}
-use Rattle.rv_word.specs.declared.version.GraphVersion.TheVariants.{OneLabel, TwoLabels, CalleeSaves}
 use Rattle.rv_word.specs.Image.{Contents}
 use Rattle.rv_word.specs.Memory.{loaded}
 use Rattle.cfi_class.specs.Classes.{has}
 use Rattle.cfi_graph.specs.declared.line.GraphLine.{GraphLine}
 use Rattle.cfi_graph.specs.declared.line.SiteKind.{SiteKind}
 use Rattle.cfi_graph.specs.declared.line.SiteKind.TheVariants as K
-use Rattle.cfi_graph.specs.Graph.{has_leaves}
 use Rattle.cfi_closed.specs.declared.side.Site.{Site}
 use Rattle.cfi_closed.specs.Closed.{Side, class_at, class_if, class_of, has_site, is_same, side_reaches}
 use Rattle.cfi_map.specs.GraphAtMap.{gate, graph_lines}
 use Rattle.cfi_map.specs.LabelOf.{all_classes, empty_classes, next_after, site_label, site_number}
 use Rattle.cfi_unit.specs.declared.target_word.TargetWord.{TargetWord}
 use Rattle.cfi_unit.specs.Leads.{HasLabel}
-use Rattle.cfi_rules.specs.Lines.{class_with, holds_of, if_serves, is_among, jump_word, targets_for}
+use Rattle.cfi_rules.specs.Lines.{class_with, holds_of, if_serves, is_among, targets_for}
 use Rattle.cfi_rules.specs.Walk.{InClass}
 use Rattle.cfi_rules.proofs.Moves.{in_class_label}
 use Rattle.cfi_rules.proofs.PlacedLines.{class_before, no_class}
 use Rattle.cfi_rules.proofs.Served.{read_by}
 use Rattle.cfi_writer.specs.Accepted.{IsAccepted, IsSiteOf}
 use Rattle.cfi_writer.specs.Laws.{written_classes, written_heads}
-use Rattle.cfi_writer.specs.SideLaws.{AreLabelled, word_read}
+use Rattle.cfi_writer.specs.SideLaws.{AreLabelled, word_asked}
 use Rattle.cfi_writer.specs.Units.{Choice, units}
 use Rattle.cfi_writer.proofs.ClassLines.{among_to}
 use Rattle.cfi_writer.proofs.HeadLines.{heads_serve}
 use Rattle.cfi_writer.proofs.SideLabels.{sites_served}
-use Rattle.cfi_writer.proofs.WholeCode.{lines_are}
+use Rattle.cfi_writer.proofs.WholeLines.{lines_are}
 use Rattle.cfi_meaning.specs.PlaceLaws as law
 use Rattle.cfi_meaning.specs.ImageOf.{IsImageOf}
 use Rattle.cfi_meaning.proofs.Prologue.{formed, written_graph}
@@ -94,47 +93,49 @@ classes_alone m ok kind which label =
     ∙ heads_serve m kind which label
 
 are_labelled : (m : Choice) → IsAccepted m → AreLabelled m.layout.closed.version m.labels m.layout.closed.sides
-are_labelled m ok = record { full = ok.version; sorts = ok.sorts; counted = ok.counted; rising = ok.labels_rise; apart = ok.apart; site_classes = ok.site_classes }
+are_labelled m ok = record { sorts = ok.sorts; counted = ok.counted; rising = ok.labels_rise; apart = ok.apart; site_classes = ok.site_classes }
 
--- the word that a check reads is the one that it reads in code of its graph's version
-reads_it : (version : GraphVersion) (kind : SiteKind) → has_leaves version ≡ false → word_read (jump_word version) kind ≡ read_by version kind
-reads_it version K.Jump full = refl
-reads_it OneLabel K.Call full = refl
-reads_it TwoLabels K.Call full = refl
-reads_it CalleeSaves K.Call full = absurd (cc)
+-- the word that the check of a transfer asks for is the one that it reads in code of its graph's version
+pub reads_it : (version : GraphVersion) (kind : SiteKind) → word_asked version kind ≡ read_by version kind
+reads_it version K.Call = refl
+reads_it version K.Jump = refl
+
+-- the class that serves a site, by its number among those of its side
+pub served : (m : Choice) → IsAccepted m → (k : ℕ) (kind : SiteKind) (at : IsSiteOf m.layout.closed.sides k kind) →
+    targets_for (graph_lines m.layout m.labels) kind (word_asked m.layout.closed.version kind) (site_label m.labels m.layout.closed.sides k)
+    ≡ Some (map (slice_index m.layout.gates) (slice_index_or (all_classes at.side) (site_number at.side.sites (length at.side.classes) k) []))
+served m ok k kind at =
+    classes_alone m ok kind (word_asked m.layout.closed.version kind) (site_label m.labels m.layout.closed.sides k)
+    ∙ sites_served m.layout.closed.version m.layout.gates m.labels m.layout.closed.sides (are_labelled m ok) k kind at
 
 module _ (m : Choice) (image : Contents) (of : IsImageOf m image) (k t : ℕ) (kind : SiteKind) (at : IsSiteOf m.layout.closed.sides k kind) (class : ℕ)
     (reached : class_of at.side k ≡ Some class) (target : class_at at.side t ≡ Some class) where
   abbrev which : TargetWord
-  which = word_read (jump_word m.layout.closed.version) kind
+  which = word_asked m.layout.closed.version kind
 
   abbrev label : ℕ
   label = site_label m.labels m.layout.closed.sides k
 
   abbrev members : List ℕ
-  members = slice_index_or at.side.classes class []
+  members = slice_index_or (all_classes at.side) (site_number at.side.sites (length at.side.classes) k) []
 
-  found : (class < length at.side.classes) × (has t members ≡ true)
+  found : (class < length at.side.classes) × (has t (slice_index_or at.side.classes class []) ≡ true)
   found = let is = position-Some (has t) at.side.classes class [] target in (is.0, is.1)
 
-  class_is : slice_index_or (all_classes at.side) (site_number at.side.sites (length at.side.classes) k) [] ≡ members
+  class_is : members ≡ slice_index_or at.side.classes class []
   class_is =
       ap (λ (n : ℕ). slice_index_or (all_classes at.side) n []) (site_found at.side.sites (length at.side.classes) k class reached).numbered
       ∙ get_or_append_left at.side.classes (empty_classes at.side.sites) [] class found.0
 
-  served : targets_for (graph_lines m.layout m.labels) kind which label ≡ Some (map (slice_index m.layout.gates) members)
-  served =
-      classes_alone m of.accepted kind which label
-      ∙ sites_served m.layout.closed.version m.layout.gates m.labels m.layout.closed.sides (are_labelled m of.accepted) k kind at
-      ∙ ap (λ (ts : List ℕ). Some (map (slice_index m.layout.gates) ts)) class_is
-
   inside : InClass (graph_lines m.layout m.labels) kind which label (gate m.layout t)
-  inside = ap (λ (o : Option (List ℕ)). holds_of o (is_among (gate m.layout t))) served ∙ among_to (slice_index m.layout.gates) members t found.1
+  inside =
+      ap (λ (o : Option (List ℕ)). holds_of o (is_among (gate m.layout t))) (served m of.accepted k kind at)
+      ∙ among_to (slice_index m.layout.gates) members t (ap (has t) class_is ∙ found.1)
 
-  pub label_borne : HasLabel (loaded image) which label (gate m.layout t)
+  label_borne : HasLabel (loaded image) which label (gate m.layout t)
   label_borne =
-      in_class_label m.layout.profile (inl of.accepted.profile) image (written_graph m image of) of.bytes (formed m image of) kind which label (gate m.layout t)
-      (reads_it m.layout.closed.version kind of.accepted.version) inside
+      in_class_label m.layout.profile of.accepted.profile image (written_graph m image of) of.bytes (formed m image of) kind which label (gate m.layout t)
+      (reads_it m.layout.closed.version kind) inside
 
 pub target_bears : law.TargetBears
 target_bears m image k t kind of below some reaches =

@@ -11,7 +11,7 @@ use Rattle.rv_code.specs.declared.turn.Turn.TheVariants.{Ran, Exit, Break}
 use Rattle.cfi_map.specs.GraphAtMap.{ProgramAtMap}
 use Rattle.cfi_unit.specs.Prologue.{OPENING}
 use Rattle.cfi_runs.specs.WholeRun.{undisturbed}
-use Rattle.cfi_meaning.specs.PlacesKept.{most_steps}
+use Rattle.cfi_meaning.specs.Bounds.{most_steps}
 use Rattle.cfi_map.specs.declared.reason.Reason.{Reason}
 use Rattle.cfi_map.specs.Source.{Source, source_start}
 use Rattle.cfi_map.specs.SourceStep.{StepTurn, breaks, exits, ran, source_step, untame}

@@ -1,3 +1,4 @@
+pub mod Bounds
 pub mod ImageOf
 pub mod KindStep
 pub mod PlaceSteps

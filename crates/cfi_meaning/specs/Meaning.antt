@@ -1,7 +1,7 @@
 -- Meaning kept: after n tame steps of the source machine, none of which ends the run, the undisturbed run of the image is at a
 -- matching state within 21 n + 13 steps, unless the program is at a later store of a group; and where the next step ends the run, the
 -- image's has ended alike within 21 (n + 1) + 13 in all. An image for several harts runs with one alone, and for 13 reads 17; with a graph of version 2 for 21 reads 22.
-use Rattle.std.specs.Prelude.{◌≡◌, ℕ, ◌+◌, ◌≤◌, true, false, Some, List, length}
+use Rattle.std.specs.Prelude.{◌≡◌, ℕ, ◌+◌, ◌-◌, ◌≤◌, true, false, Some, List}
 use Rattle.rv_word.specs.Image.{Contents}
 use Rattle.rv_code.specs.State.{After}
 use Rattle.rv_code.specs.Step.{step}
@@ -12,7 +12,7 @@ use Rattle.cfi_runs.specs.WholeRun.{RunsTo}
 use Rattle.cfi_runs.specs.Within.{Within}
 use Rattle.cfi_writer.specs.Units.{Choice}
 use Rattle.cfi_meaning.specs.ImageOf.{IsImageOf}
-use Rattle.cfi_meaning.specs.PlacesKept.{most_steps}
+use Rattle.cfi_meaning.specs.Bounds.{most_steps, most_words}
 use Rattle.cfi_map.specs.Source.{Source, init_here, source_start}
 use Rattle.cfi_map.specs.SourceStep.{StepTurn, after_steps, breaks, exits, ran, source_step}
 use Rattle.cfi_meaning.specs.Matches.{Matches}
@@ -37,7 +37,7 @@ abbrev pub KeepsStep : ProgramAtMap → Contents → Type 0
 KeepsStep layout image =
     (st : Source) (after : After) (n : ℕ) (last : Source) → Matches layout image st after → is_at_later layout st.place ≡ false →
     LeadsOver layout n st last → is_at_later layout (source_step layout last).state.place ≡ false →
-    Within layout.profile (19 + length layout.closed.sides) (Answers layout image (source_step layout last).turn (source_step layout last).state)
+    Within layout.profile (most_words layout - 1) (Answers layout image (source_step layout last).turn (source_step layout last).state)
     (step layout.profile after.hart after.shared)
 
 pub record KeepsMeaning (layout : ProgramAtMap) (image : Contents) (input : List ℕ) : Type 0 where

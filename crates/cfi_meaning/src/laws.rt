@@ -3,7 +3,7 @@ ghost use Rattle.cfi_meaning.specs.Hardened.{HardenedKeepsMeaning, HardenedNever
 ghost use Rattle.cfi_meaning.specs.Matches.{MatchesIsOwn};
 ghost use Rattle.cfi_meaning.specs.Meaning.{MeaningKept, StepKept};
 ghost use Rattle.cfi_meaning.specs.NeverDiffers.{NeverDiffers};
-ghost use Rattle.cfi_meaning.specs.PlaceLaws.{GroupRuns, NextGate, PlaceRuns, StepOfKind, TargetBears, WrittenPrologue};
+ghost use Rattle.cfi_meaning.specs.PlaceLaws.{EntryRuns, GroupRuns, NextGate, PlaceRuns, StepGoesOn, StepOfKind, TargetBears, WrittenPrologue};
 ghost use Rattle.cfi_meaning.specs.PlacesKept.{PlacesKept};
 
 /// The opening and the closing stand in an image of what is written.
@@ -11,7 +11,12 @@ pub fn written_prologue()
     ensures { WrittenPrologue }
 {}
 
-/// From the gate of a place that holds no store the words before its unit, if it has any, lead to that, whose step is tame.
+/// The opening leads to the state at the entry, over what saves the closing's address there, if that does.
+pub fn entry_runs()
+    ensures { EntryRuns }
+{}
+
+/// From the state at a place that holds no store the words before its unit, if any are to be passed, lead to that, whose step is tame.
 pub fn place_runs()
     ensures { PlaceRuns }
 {}
@@ -31,16 +36,22 @@ pub fn target_bears()
     ensures { TargetBears }
 {}
 
+/// The own step of a tame place that holds no store ends as that of its instruction's kind does, whatever unit stands for it.
+pub fn step_of_kind()
+    ensures { StepOfKind }
+{}
+
+/// Where the step of such a place goes on, its unit leads to the state at the place that is next, over what saves the site of a call
+/// there, or to the closing.
+pub fn step_goes_on()
+    ensures { StepGoesOn }
+{}
+
 /// The undisturbed run of an image of what is written keeps the program's own run: after n tame steps of
 /// the program the machine is at a matching state within 21 n steps, or 22 n with a graph of version 2, and 13
 /// more in version 1 of images or 17 in version 2.
 pub fn places_kept()
     ensures { PlacesKept }
-{}
-
-/// The own step of a tame place that holds no store is that of its instruction's kind, whatever unit stands for it.
-pub fn step_of_kind()
-    ensures { StepOfKind }
 {}
 
 /// Meaning kept.

@@ -7,7 +7,7 @@ use Rattle.cfi_graph.specs.Graph.{GraphParts}
 use Rattle.cfi_unit.specs.declared.unit.Unit as U
 use Rattle.obj_program.specs.DataAtMap.{data_at}
 use Rattle.obj_program.specs.declared.item.Item.{Item}
-use Rattle.cfi_map.specs.GraphAtMap.{ProgramAtMap, gate, graph_lines}
+use Rattle.cfi_map.specs.GraphAtMap.{ProgramAtMap, arrival, graph_lines}
 use Rattle.cfi_flow.specs.Labels.{used_labels}
 use Rattle.cfi_rules.specs.Placed.{placed_code}
 use Rattle.cfi_writer.specs.Hardened.{AreGiven, HardenedParts, IsWritten, chosen}
@@ -34,7 +34,7 @@ module _ (p : PreparedParts) (s t : Spaced) (labels others code more init filled
   code_written : written_code (chosen s labels) ≡ written_code (chosen t others)
   code_written =
       ap (λ (l : ProgramAtMap). written_code (under l labels s.whole)) layouts_are
-      ∙ ap (λ (us : List U.Unit). placed_code t.layout.profile (gate t.layout t.layout.entry) us)
+      ∙ ap (λ (us : List U.Unit). placed_code t.layout.profile (arrival t.layout t.layout.entry) us)
       (units_same t.layout labels s.whole t.whole (sizes_same p.form p.program p.closed p.entry s t hs ht))
       ∙ ap (λ (ls : List ℕ). written_code (under t.layout ls t.whole)) labels_are
 

@@ -4,6 +4,8 @@ use Rattle.std.specs.Prelude.{◌-◌, ◌&&◌, not, if◌then◌else◌, slice
 use Rattle.std.proofs.Math.Seq.{take-suc}
 use Rattle.std.proofs.lemmas.Bool.{cases_Bool, cases_lt, or_left, or_right}
 use Rattle.std.proofs.lemmas.List.{get_or_past, take_all}
+use Rattle.rv_word.specs.declared.version.GraphVersion.{GraphVersion}
+use Rattle.rv_word.specs.declared.version.GraphVersion.TheVariants.{OneLabel, TwoLabels, CalleeSaves}
 use Rattle.rv_instr.specs.declared.instr.Instr.{Instr}
 use Rattle.rv_instr.specs.declared.instr.Instr.TheVariants as I
 use Rattle.obj_input.specs.declared.item_kind.ItemKind.{ItemKind}
@@ -12,7 +14,8 @@ use Rattle.obj_program.specs.declared.item.Item.{Item}
 use Rattle.obj_program.specs.Program.{count, item_of, no_item}
 use Rattle.cfi_map_text.specs.declared.map.MapLine.{MapLine}
 use Rattle.cfi_class.specs.Labels.{AreLabels, IsLeastFree}
-use Rattle.cfi_map.specs.GraphAtMap.{ProgramAtMap, gate_to}
+use Rattle.cfi_map.specs.GraphAtMap.{ProgramAtMap, aim_of, entered_in}
+use Rattle.cfi_leads.specs.Leaves.{in_leaf}
 use Rattle.cfi_map.specs.LabelOf.{site_label}
 use Rattle.cfi_map.specs.Placement.{whole_at}
 use Rattle.cfi_unit.specs.declared.target_word.TargetWord.{TargetWord}
@@ -23,7 +26,7 @@ use Rattle.cfi_map.specs.Groups.{is_store}
 use Rattle.cfi_runs.specs.Distances.{field, level, lowest}
 use Rattle.cfi_runs.specs.GroupStores.{members_from}
 use Rattle.cfi_rules.specs.Lines.{jump_word}
-use Rattle.cfi_writer.specs.Units.{Choice, Group, followers, group_at, instr_of, is_later_at, lead, member_at, offset_at, unit_here, unit_of, unit_places, units, units_of}
+use Rattle.cfi_writer.specs.Units.{Choice, Group, followers, group_at, instr_of, is_later_at, lead, lean_unit_of, low_by, mask_at, member_at, offset_at, unit_by, unit_here, unit_of, unit_places, units, units_of}
 use Rattle.cfi_writer.proofs.Runs.{place_there}
 use Rattle.cfi_single.proofs.Placed.{SameSizes, is_sized}
 
@@ -54,21 +57,37 @@ labels_unique used a b many ha hb =
     ∙ take_all (length a) b (omega arith)
 
 -- units
-unit_same : (calls : Option (List ℕ)) (kind : ItemKind) (i : Instr) (a b : Bool) (target : ℕ) (which : TargetWord) (label : ℕ) (group : Group) → (is_branch kind ≡ true → a ≡ b)
+kind_same : (calls : Option (List ℕ)) (kind : ItemKind) (i : Instr) (a b : Bool) (target : ℕ) (which : TargetWord) (label : ℕ) (group : Group) → (is_branch kind ≡ true → a ≡ b)
     → unit_of calls kind i a target which label group ≡ unit_of calls kind i b target which label group
-unit_same calls is.Branch i a b target which label group same = ap (λ (l : Bool). unit_of calls is.Branch i l target which label group) (same refl)
-unit_same calls is.Gate (I.Upper op rd imm) a b target which label group same = refl
-unit_same calls is.Gate other a b target which label group same = refl
-unit_same calls is.Store (I.Store op rs1 rs2 imm) a b target which label group same = refl
-unit_same calls is.Store other a b target which label group same = refl
-unit_same calls is.System I.Ecall a b target which label group same = refl
-unit_same calls is.System I.Ebreak a b target which label group same = refl
-unit_same calls is.System other a b target which label group same = refl
-unit_same calls is.Ijump (I.Jalr rd rs1 imm) a b target which label group same = refl
-unit_same calls is.Ijump other a b target which label group same = refl
-unit_same calls is.Icall (I.Jalr rd rs1 imm) a b target which label group same = refl
-unit_same calls is.Icall other a b target which label group same = refl
-unit_same calls kind i a b target which label group same = refl
+kind_same calls is.Branch i a b target which label group same = ap (λ (l : Bool). unit_of calls is.Branch i l target which label group) (same refl)
+kind_same calls is.Gate (I.Upper op rd imm) a b target which label group same = refl
+kind_same calls is.Gate other a b target which label group same = refl
+kind_same calls is.Store (I.Store op rs1 rs2 imm) a b target which label group same = refl
+kind_same calls is.Store other a b target which label group same = refl
+kind_same calls is.System I.Ecall a b target which label group same = refl
+kind_same calls is.System I.Ebreak a b target which label group same = refl
+kind_same calls is.System other a b target which label group same = refl
+kind_same calls is.Ijump (I.Jalr rd rs1 imm) a b target which label group same = refl
+kind_same calls is.Ijump other a b target which label group same = refl
+kind_same calls is.Icall (I.Jalr rd rs1 imm) a b target which label group same = refl
+kind_same calls is.Icall other a b target which label group same = refl
+kind_same calls kind i a b target which label group same = refl
+
+lean_same : (calls : Option (List ℕ)) (inside : Bool) (kind : ItemKind) (i : Instr) (a b : Bool) (target label : ℕ) (group : Group) → (is_branch kind ≡ true → a ≡ b)
+    → lean_unit_of calls inside kind i a target label group ≡ lean_unit_of calls inside kind i b target label group
+lean_same calls inside is.Call i a b target label group same = refl
+lean_same calls inside is.Return i a b target label group same = refl
+lean_same calls inside is.Ijump (I.Jalr rd rs1 imm) a b target label group same = refl
+lean_same calls inside is.Ijump other a b target label group same = refl
+lean_same calls inside is.Icall (I.Jalr rd rs1 imm) a b target label group same = refl
+lean_same calls inside is.Icall other a b target label group same = refl
+lean_same calls inside other i a b target label group same = kind_same calls other i a b target (jump_word CalleeSaves) label group same
+
+unit_same : (version : GraphVersion) (calls : Option (List ℕ)) (inside : Bool) (kind : ItemKind) (i : Instr) (a b : Bool) (target label : ℕ) (group : Group)
+    → (is_branch kind ≡ true → a ≡ b) → unit_by version calls inside kind i a target label group ≡ unit_by version calls inside kind i b target label group
+unit_same OneLabel calls inside kind i a b target label group same = kind_same calls kind i a b target (jump_word OneLabel) label group same
+unit_same TwoLabels calls inside kind i a b target label group same = kind_same calls kind i a b target (jump_word TwoLabels) label group same
+unit_same CalleeSaves calls inside kind i a b target label group same = lean_same calls inside kind i a b target label group same
 
 -- a program at a map with these labels, under these flags
 abbrev pub under : ProgramAtMap → List ℕ → List Bool → Choice
@@ -109,20 +128,26 @@ module _ (layout : ProgramAtMap) (labels : List ℕ) (whole more : List Bool) (s
       ap (λ (b : Bool). if b then suc (followers one (k + 1) n) else 0) (later_same k)
       ∙ ap (λ (m : ℕ). if is_later_at other k then suc m else 0) (followers_same n (k + 1))
 
+  -- the level of a group's mask, with so many stores behind the first
+  abbrev low_of : ℕ → ℕ → ℕ
+  low_of k n = low_by (mask_at one k) (lowest (λ (j : ℕ). level (offset_at one j)) k n)
+
   group_same : (k : ℕ) → group_at one k ≡ group_at other k
   group_same k =
       ap (λ (n : ℕ). record {
-        mask = field (lowest (λ (j : ℕ). level (offset_at one j)) k n);
-        members = members_from (member_at one (lowest (λ (j : ℕ). level (offset_at one j)) k n)) k (suc n);
+        mask = mask_at one k;
+        offset = field (low_of k n);
+        members = members_from (member_at one (low_of k n)) k (suc n);
       }) (followers_same (count layout.program - (k + 1)) (k + 1))
 
   here_same : (k : ℕ) → k < count layout.program → unit_here one k ≡ unit_here other k
   here_same k below =
-      let kind = (item_of layout.program k).kind in
-      ap (unit_of layout.closed.calls kind (instr_of one k) (whole_at whole k) (gate_to layout (item_of layout.program k).target) (jump_word layout.closed.version)
-      (site_label labels layout.closed.sides k)) (group_same k)
-      ∙ unit_same layout.closed.calls kind (instr_of one k) (whole_at whole k) (whole_at more k) (gate_to layout (item_of layout.program k).target) (jump_word layout.closed.version)
-      (site_label labels layout.closed.sides k) (group_at other k) (λ branch. flag_same k below (or_left (is_branch kind) (is_store kind) branch))
+      let item = item_of layout.program k in
+      let inside = in_leaf (entered_in layout) k in
+      let label = site_label labels layout.closed.sides k in
+      ap (unit_by layout.closed.version layout.closed.calls inside item.kind (instr_of one k) (whole_at whole k) (aim_of layout item) label) (group_same k)
+      ∙ unit_same layout.closed.version layout.closed.calls inside item.kind (instr_of one k) (whole_at whole k) (whole_at more k) (aim_of layout item) label
+      (group_at other k) (λ branch. flag_same k below (or_left (is_branch item.kind) (is_store item.kind) branch))
 
   places_same : (n k : ℕ) → unit_places one k n ≡ unit_places other k n
   places_same zero k = refl

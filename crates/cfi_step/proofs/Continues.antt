@@ -18,14 +18,15 @@ use Rattle.cfi_rules.specs.Trails.{Begin, IsInPlace, if_own_begin, newest_of, tr
 use Rattle.cfi_rules.specs.Walks.{if_own, if_starts, walk_of}
 use Rattle.cfi_script.specs.Plan.{Plan, Planned, harts_of, numbered, planned, step_of, steps_of}
 use Rattle.cfi_step.specs.Report.{end_of, break_at}
-use Rattle.cfi_step.specs.Running.{is_stop, AreNoted, IsOver, IsSameMachine, StaysFrom, trails_of}
+use Rattle.rv_code.specs.SameMachine.{IsSameMachine}
+use Rattle.cfi_step.specs.Running.{is_stop, AreNoted, IsOver, StaysFrom, trails_of}
 use Rattle.cfi_step.specs.Taken.{AreTurnsOf}
 use Rattle.cfi_step.specs.Trail.{IsTrailOf, TrailParts}
 use Rattle.cfi_step.specs.declared.report.RunEnd.{RunEnd}
 use Rattle.cfi_step.specs.declared.report.RunEnd.TheVariants as ends
 use Rattle.cfi_step.specs.declared.running.Running.{Running}
 use Rattle.cfi_step.specs.declared.turns.TakenTurns.{TakenTurns}
-use Rattle.cfi_step.proofs.SameSteps.{stepped_same}
+use Rattle.rv_code.proofs.SameSteps.{stepped_same}
 
 pub record Continues (p : Profile) (image : Contents) (count : ℕ) (harts0 : Harts) (s0 : Shared) (whole : List Planned) (k : ℕ) (harts : Harts) (s : Shared) (rest : List Planned) (made : List (ℕ × (ℕ × ℕ))) (taken : TakenTurns) (trails : List TrailParts) : Type 0 where
   pub steps : length whole ≡ k + length rest

@@ -6,7 +6,6 @@ mod PairProfile
 mod Preparing
 mod Replay
 mod Reported
-mod SameSteps
 mod Started
 mod Stepping
 mod Stretched

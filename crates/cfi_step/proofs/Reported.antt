@@ -21,7 +21,8 @@ use Rattle.cfi_rules.proofs.Walks.{safe_walks}
 use Rattle.cfi_script.specs.Plan.{Plan, Planned, harts_of, numbered, planned, steps_of}
 use Rattle.cfi_script.specs.Turns.{turns_of}
 use Rattle.cfi_step.specs.Report.{AreWalked, IsReport, IsWalkOf, stopping_hart}
-use Rattle.cfi_step.specs.Running.{IsBegun, IsOver, IsSameMachine, StaysFrom, trails_of}
+use Rattle.rv_code.specs.SameMachine.{IsSameMachine}
+use Rattle.cfi_step.specs.Running.{IsBegun, IsOver, StaysFrom, trails_of}
 use Rattle.cfi_step.specs.Taken.{AreTurnsOf}
 use Rattle.cfi_step.specs.Trail.{IsTrailOf, told_of}
 use Rattle.cfi_step.specs.declared.report.HartWalk.{HartWalk}

@@ -17,7 +17,8 @@ use Rattle.cfi_rules.specs.Along.{MayEnd}
 use Rattle.cfi_rules.specs.Split.{code_words, place_at}
 use Rattle.cfi_script.specs.Plan.{Plan, Planned, planned, step_of}
 use Rattle.cfi_step.specs.Report.{end_of}
-use Rattle.cfi_step.specs.Running.{is_stop, AreNoted, IsOver, IsReady, IsSameMachine, StaysFrom, trails_of}
+use Rattle.rv_code.specs.SameMachine.{IsSameMachine}
+use Rattle.cfi_step.specs.Running.{is_stop, AreNoted, IsOver, IsReady, StaysFrom, trails_of}
 use Rattle.cfi_step.specs.Starts.{AreStartsOf}
 use Rattle.cfi_step.specs.Stretch.{at, AreQuiet, IsQuiet, IsStaying, IsStretch, MayFetch, goes_on, stops}
 use Rattle.cfi_step.specs.Taken.{AreTurnsOf}
@@ -28,7 +29,7 @@ use Rattle.cfi_step.proofs.Continues.{Continues, Took, has_end, may_end, next, s
 use Rattle.cfi_step.proofs.Noting.{selected_pc}
 use Rattle.cfi_step.proofs.Preparing as preparing
 use Rattle.cfi_step.proofs.Preparing.{ready_next}
-use Rattle.cfi_step.proofs.SameSteps.{stepped_same}
+use Rattle.rv_code.proofs.SameSteps.{stepped_same}
 use Rattle.cfi_step.proofs.TurnsTaken.{takes_own}
 
 -- what is noted of a word is so at its address

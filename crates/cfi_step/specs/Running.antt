@@ -3,6 +3,7 @@ use Rattle.std.specs.Prelude.{◌≡◌, ◌≤◌, ◌<◌, ◌+◌, ◌==◌, 
 use Rattle.std.specs.List.{All, AllByRecursion}
 use Rattle.rv_word.specs.Image.{Contents}
 use Rattle.rv_word.specs.MemoryMap.{Profile, profile_of}
+use Rattle.rv_code.specs.SameMachine.{IsSameMachine}
 use Rattle.rv_code.specs.Run.{HartStep, IsDataChange, disturbed, run}
 use Rattle.rv_code.specs.State.{Harts, Shared}
 use Rattle.rv_code.specs.declared.turn.Turn.{Turn}
@@ -29,10 +30,6 @@ is_stop (LoadFault pc address) = true
 is_stop (StoreFault pc address) = true
 is_stop (FetchFault pc) = true
 is_stop (Illegal pc) = true
-
--- machines of these two profiles take the same steps: a step asks nothing else of its profile
-abbrev pub IsSameMachine : Profile → Profile → Type 0
-IsSameMachine q p = q.shadow_size ≡ p.shadow_size
 
 -- a run from this state stays in its place, whichever harts step and whatever changes data: each begun instruction of
 -- each hart is in its place, from the newest address of its walk

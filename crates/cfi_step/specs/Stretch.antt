@@ -7,7 +7,8 @@ use Rattle.rv_code.specs.declared.turn.Turn.{Turn}
 use Rattle.rv_code.specs.declared.turn.Turn.TheVariants.{Ran}
 use Rattle.rv_machine.specs.Harts.{at_pc, harts_in, harts_share, run_after}
 use Rattle.rv_machine.specs.Parts.{IsNoFetch}
-use Rattle.cfi_step.specs.Running.{is_stop, AreNoted, IsSameMachine, StaysFrom, trails_of}
+use Rattle.rv_code.specs.SameMachine.{IsSameMachine}
+use Rattle.cfi_step.specs.Running.{is_stop, AreNoted, StaysFrom, trails_of}
 use Rattle.cfi_step.specs.Starts.{AreStartsOf}
 use Rattle.cfi_step.specs.declared.running.Running.{Running}
 

@@ -22,7 +22,6 @@ use Rattle.cfi_unit.specs.Members.{AreMembers, MOST_MEMBERS, member_instr, membe
 use Rattle.cfi_unit.specs.Guarded.{AreNumbers, guards}
 use Rattle.cfi_unit.specs.declared.handlers.TheConstants as handlers
 use Rattle.cfi_unit.specs.declared.target_word.TargetWord.{TargetWord}
-use Rattle.cfi_unit.specs.declared.lean_words.TheConstants as lean
 use Rattle.cfi_unit.specs.declared.mask.Mask.{Mask}
 use Rattle.cfi_unit.specs.declared.mask.Mask.TheVariants.{Shifts, Short, Long}
 use Rattle.cfi_unit.specs.declared.target_word.TargetWord.TheVariants.{First, Second, Third}
@@ -244,9 +243,9 @@ word_count (V.Ijump which rs1 imm label) = counts.IJUMP_WORDS
 word_count (V.Icall rs1 imm label) = counts.ICALL_WORDS
 word_count V.Return = counts.RETURN_WORDS
 word_count (V.LinkCall target) = 1
-word_count V.Enter = lean.ENTER_WORDS
-word_count (V.LeanIjump rs1 imm label) = lean.LEAN_TRANSFER_WORDS
-word_count (V.LeanIcall rs1 imm label) = lean.LEAN_TRANSFER_WORDS
+word_count V.Enter = counts.ENTER_WORDS
+word_count (V.LeanIjump rs1 imm label) = counts.LEAN_TRANSFER_WORDS
+word_count (V.LeanIcall rs1 imm label) = counts.LEAN_TRANSFER_WORDS
 word_count V.LeafReturn = 1
 
 -- the address after it

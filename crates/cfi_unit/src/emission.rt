@@ -7,12 +7,14 @@ ghost use Rattle.cfi_unit.specs.UnitWords.{BAD_TARGET, Fits, MaskFits, Reaches, 
 
 use crate::handlers::{BAD_RETURN, BAD_TARGET, DEEP};
 use crate::jump::{is_close, is_reached};
-use crate::lean_words::{ENTER_WORDS, LEAN_TRANSFER_WORDS};
 use crate::mask::Mask;
 use crate::template::unit_code;
 use crate::unit::Unit;
 use rv_instr::{Immediate, Instr, UpperOp};
-use rv_word::unit_words::{BRANCH_WORDS, CALL_WORDS, ICALL_WORDS, IJUMP_WORDS, RETURN_WORDS};
+use rv_word::unit_words::{
+    BRANCH_WORDS, CALL_WORDS, ENTER_WORDS, ICALL_WORDS, IJUMP_WORDS, LEAN_TRANSFER_WORDS,
+    RETURN_WORDS,
+};
 use rv_word::{NoMemory, Numbers};
 use std::alloc::Global;
 

@@ -23,7 +23,6 @@ mod emission;
 pub mod handlers;
 mod jump;
 pub mod laws;
-mod lean_words;
 mod mask;
 mod members;
 mod pattern;

@@ -1,11 +1,12 @@
--- Two of the worked programs are accepted, one with a short branch, also as an image for several harts, and one with a class and a site,
--- so what holds of each accepted choice holds of their code.
-use Rattle.std.proofs.Common.{◌≡◌, ℕ, zero, suc, ◌+◌, ◌^◌, ◌<◌, ◌||◌, inl, inr, Bool, true, false, [], ◌∷◌, Some, length, refl, sym, ap, subst, ◌∙◌, lit<, lit≤, arith, Contains, All, get_or, not, ◌==◌, slice_get, eqb-true}
+-- Worked programs that are accepted: one with a short branch, also as an image for several harts, one with a class and a site, and one with
+-- a leaf under a graph of version 3. So what holds of each accepted choice holds of their code.
+use Rattle.std.proofs.Common.{◌≡◌, ℕ, zero, suc, ◌+◌, ◌^◌, ◌<◌, ◌||◌, inl, inr, Bool, true, false, List, [], ◌∷◌, Some, length, refl, sym, ap, subst, ◌∙◌, lit<, lit≤, arith, Contains, All, get_or, not, ◌==◌, slice_get, eqb-true}
 use Rattle.std.specs.Prelude.{is_some, nat_lt, slice_index_or}
 use Rattle.std.proofs.lemmas.Bool.{agree_below, agree_below_at, ltb-true}
 use Rattle.std.proofs.lemmas.Option.{same_Some}
 use Rattle.rv_code.specs.Decode.{decoded}
 use Rattle.rv_code.specs.Encode.{code_of}
+use Rattle.obj_program.specs.declared.item.Item.{Item}
 use Rattle.obj_program.specs.AtMap.{instr_at}
 use Rattle.obj_program.specs.Program.{AreInOrder, count, is_before, is_end, item_of, no_item}
 use Rattle.obj_program.specs.Sound.{IsSound, aims, is_patch, is_read}
@@ -16,6 +17,7 @@ use Rattle.cfi_graph.specs.declared.line.SiteKind.{SiteKind}
 use Rattle.cfi_graph.specs.declared.line.Sort.TheVariants.{Both}
 use Rattle.cfi_closed.specs.declared.side.Site.{Site}
 use Rattle.cfi_closed.specs.Closed.{Side, has_site, is_of}
+use Rattle.cfi_leads.specs.Leaves.{head, is_spoilt_by}
 use Rattle.cfi_map.specs.GraphAtMap.{ProgramAtMap, words_at}
 use Rattle.cfi_flow.specs.Labels.{used_labels}
 use Rattle.cfi_map.specs.LabelOf.{empty_classes, label_at, labels_of, site_label, site_number, tagged}
@@ -28,14 +30,15 @@ use Rattle.cfi_writer.specs.Accepted.{IsAccepted}
 use Rattle.cfi_map.specs.Shorts.{IsShortAt, is_branch}
 use Rattle.cfi_writer.specs.Units.{Choice, bounds_at, followers, is_later_at, units_of}
 use Rattle.cfi_writer.proofs.Grouping.{later_below}
+use Rattle.cfi_writer.proofs.LeanRows.{calling_leaf, no_sides}
 use Rattle.cfi_writer.proofs.WrittenRows.{pointer, short, short_of_harts}
 
 abbrev no_side : Side
 no_side = record { sort = Both; classes = []; sites = [] }
 
--- what a test finds of each of the four places
-each : (test : ℕ → Bool) → agree_below test (λ k. true) 4 ≡ true → (k : ℕ) → k < 4 → test k ≡ true
-each test all k below = agree_below_at test (λ n. true) 4 k all below
+-- what a test finds of each of so many places
+each : (n : ℕ) (test : ℕ → Bool) → agree_below test (λ k. true) n ≡ true → (k : ℕ) → k < n → test k ≡ true
+each n test all k below = agree_below_at test (λ i. true) n k all below
 
 none_in : (k : ℕ) → Contains [] k → ⊥
 none_in k (i, below, e) = absurd (omega arith)
@@ -53,21 +56,24 @@ no_groups m none k later =
     let wrong : true ≡ false = sym later ∙ first in
     absurd (cc)
 
-ordered : AreInOrder short.layout.program.items
-ordered i j less below =
-    agree_below_at (λ n. is_before (slice_index_or short.layout.program.items n no_item) (slice_index_or short.layout.program.items j no_item).section (slice_index_or short.layout.program.items j no_item).offset)
-    (λ n. true) j i
-    (each (λ n. agree_below (λ m. is_before (slice_index_or short.layout.program.items m no_item) (slice_index_or short.layout.program.items n no_item).section (slice_index_or short.layout.program.items n no_item).offset) (λ m. true) n)
-    refl j below) less
+-- places are in order where a test finds so of each two
+is_past : List Item → ℕ → ℕ → Bool
+is_past items j i =
+    is_before (slice_index_or items i no_item) (slice_index_or items j no_item).section (slice_index_or items j no_item).offset
+
+ordered : (items : List Item) → agree_below (λ j. agree_below (is_past items j) (λ i. true) j) (λ j. true) (length items) ≡ true → AreInOrder items
+unfolding is_past
+ordered items all i j less below =
+    agree_below_at (is_past items j) (λ n. true) j i (each (length items) (λ n. agree_below (is_past items n) (λ m. true) n) all j below) less
 
 sound : IsSound short.layout.program
-unfolding decoded
+unfolding is_past decoded
 sound = record {
-  in_order = ordered;
+  in_order = ordered short.layout.program.items refl;
   few = lit< tt;
-  read = each (λ k. is_read (item_of short.layout.program k)) refl;
-  patches = each (λ k. is_patch short.layout.program (item_of short.layout.program k).patch) refl;
-  targets = each (λ k. aims short.layout.program (item_of short.layout.program k).kind (item_of short.layout.program k).target) refl;
+  read = each 4 (λ k. is_read (item_of short.layout.program k)) refl;
+  patches = each 4 (λ k. is_patch short.layout.program (item_of short.layout.program k).patch) refl;
+  targets = each 4 (λ k. aims short.layout.program (item_of short.layout.program k).kind (item_of short.layout.program k).target) refl;
   relocations = λ j r get. absurd (cc);
 }
 
@@ -89,10 +95,10 @@ one_short layout (suc (suc (suc (suc k)))) target branch some is = absurd (cc)
 pub short_accepted : IsAccepted short
 unfolding AreGates decoded instr_at words_from units_of followers code_from words_of code_of labels_of label_at site_label site_number empty_classes tagged
 short_accepted = record {
-  profile = inl refl;
-  version = refl;
+  profile = inl (inl refl);
+  saves = refl;
   sound = sound;
-  words = λ k below. ltb-true (item_of short.layout.program k).word (2 ^ 32) (each (λ n. nat_lt (item_of short.layout.program n).word (2 ^ 32)) refl k below);
+  words = λ k below. ltb-true (item_of short.layout.program k).word (2 ^ 32) (each 4 (λ n. nat_lt (item_of short.layout.program n).word (2 ^ 32)) refl k below);
   last = (3, refl, refl);
   entry_there = lit< tt;
   legal = (refl, (refl, (refl, (refl, tt))));
@@ -100,7 +106,7 @@ short_accepted = record {
   room = lit≤ tt;
   values = λ k below some. values_there (is_end (item_of short.layout.program k).kind)
       (is_some (instr_at short.layout.program short.layout.gates (words_at short.layout) k))
-      (each (λ n. is_end (item_of short.layout.program n).kind || is_some (instr_at short.layout.program short.layout.gates (words_at short.layout) n)) refl k below) some;
+      (each 4 (λ n. is_end (item_of short.layout.program n).kind || is_some (instr_at short.layout.program short.layout.gates (words_at short.layout) n)) refl k below) some;
   calls = refl;
   sorts = refl;
   members = λ j c k side there in_class. absurd (none_in k (subst (λ (s : Side). IsIn s.classes c k) (sym (only_side no_side j side there).1) in_class));
@@ -120,8 +126,8 @@ short_accepted = record {
 pub short_of_harts_accepted : IsAccepted short_of_harts
 unfolding AreGates decoded instr_at words_from units_of followers code_from words_of code_of labels_of label_at site_label site_number empty_classes tagged
 short_of_harts_accepted = record {
-  profile = inr refl;
-  version = refl;
+  profile = inl (inr refl);
+  saves = refl;
   sound = sound;
   words = short_accepted.words;
   last = (3, refl, refl);
@@ -131,7 +137,7 @@ short_of_harts_accepted = record {
   room = lit≤ tt;
   values = λ k below some. values_there (is_end (item_of short_of_harts.layout.program k).kind)
       (is_some (instr_at short_of_harts.layout.program short_of_harts.layout.gates (words_at short_of_harts.layout) k))
-      (each (λ n. is_end (item_of short_of_harts.layout.program n).kind || is_some (instr_at short_of_harts.layout.program short_of_harts.layout.gates (words_at short_of_harts.layout) n)) refl k below) some;
+      (each 4 (λ n. is_end (item_of short_of_harts.layout.program n).kind || is_some (instr_at short_of_harts.layout.program short_of_harts.layout.gates (words_at short_of_harts.layout) n)) refl k below) some;
   calls = refl;
   sorts = refl;
   members = short_accepted.members;
@@ -150,25 +156,14 @@ short_of_harts_accepted = record {
 abbrev pointer_side : Side
 pointer_side = record { sort = Both; classes = (8 ∷ 10 ∷ []) ∷ []; sites = record { place = 4; class = Some 0 } ∷ [] }
 
--- what a test finds of each of the thirteen places of the other program
-each_of : (test : ℕ → Bool) → agree_below test (λ k. true) 13 ≡ true → (k : ℕ) → k < 13 → test k ≡ true
-each_of test all k below = agree_below_at test (λ n. true) 13 k all below
-
-pointer_ordered : AreInOrder pointer.layout.program.items
-pointer_ordered i j less below =
-    agree_below_at (λ n. is_before (slice_index_or pointer.layout.program.items n no_item) (slice_index_or pointer.layout.program.items j no_item).section (slice_index_or pointer.layout.program.items j no_item).offset)
-    (λ n. true) j i
-    (each_of (λ n. agree_below (λ m. is_before (slice_index_or pointer.layout.program.items m no_item) (slice_index_or pointer.layout.program.items n no_item).section (slice_index_or pointer.layout.program.items n no_item).offset) (λ m. true) n)
-    refl j below) less
-
 pointer_sound : IsSound pointer.layout.program
-unfolding decoded
+unfolding is_past decoded
 pointer_sound = record {
-  in_order = pointer_ordered;
+  in_order = ordered pointer.layout.program.items refl;
   few = lit< tt;
-  read = each_of (λ k. is_read (item_of pointer.layout.program k)) refl;
-  patches = each_of (λ k. is_patch pointer.layout.program (item_of pointer.layout.program k).patch) refl;
-  targets = each_of (λ k. aims pointer.layout.program (item_of pointer.layout.program k).kind (item_of pointer.layout.program k).target) refl;
+  read = each 13 (λ k. is_read (item_of pointer.layout.program k)) refl;
+  patches = each 13 (λ k. is_patch pointer.layout.program (item_of pointer.layout.program k).patch) refl;
+  targets = each 13 (λ k. aims pointer.layout.program (item_of pointer.layout.program k).kind (item_of pointer.layout.program k).target) refl;
   relocations = λ j r get. absurd (cc);
 }
 
@@ -198,7 +193,7 @@ site_there : (k : ℕ) → k < count pointer.layout.program → is_some (site_ki
     has_site k pointer_side ≡ true
 site_there k below some =
     let four : (k == 4) ≡ true = or_else (is_some (site_kind (item_of pointer.layout.program k).kind)) (k == 4)
-    (each_of (λ n. not (is_some (site_kind (item_of pointer.layout.program n).kind)) || (n == 4)) refl k below) some in
+    (each 13 (λ n. not (is_some (site_kind (item_of pointer.layout.program n).kind)) || (n == 4)) refl k below) some in
     ap (λ (n : ℕ). has_site n pointer_side) (eqb-true k 4 four)
 
 sort_has : (kind : SiteKind) → is_of Both kind ≡ true
@@ -226,10 +221,10 @@ label_below (suc k) d below = absurd (omega arith)
 pub pointer_accepted : IsAccepted pointer
 unfolding AreGates decoded instr_at words_from units_of followers code_from words_of code_of labels_of label_at site_label site_number empty_classes tagged
 pointer_accepted = record {
-  profile = inl refl;
-  version = refl;
+  profile = inl (inl refl);
+  saves = refl;
   sound = pointer_sound;
-  words = λ k below. ltb-true (item_of pointer.layout.program k).word (2 ^ 32) (each_of (λ n. nat_lt (item_of pointer.layout.program n).word (2 ^ 32)) refl k below);
+  words = λ k below. ltb-true (item_of pointer.layout.program k).word (2 ^ 32) (each 13 (λ n. nat_lt (item_of pointer.layout.program n).word (2 ^ 32)) refl k below);
   last = (12, refl, refl);
   entry_there = lit< tt;
   legal = (refl, (refl, (refl, (refl, (refl, (refl, (refl, (refl, (refl, (refl, (refl, (refl, (refl, tt)))))))))))));
@@ -237,7 +232,7 @@ pointer_accepted = record {
   room = lit≤ tt;
   values = λ k below some. values_there (is_end (item_of pointer.layout.program k).kind)
       (is_some (instr_at pointer.layout.program pointer.layout.gates (words_at pointer.layout) k))
-      (each_of (λ n. is_end (item_of pointer.layout.program n).kind || is_some (instr_at pointer.layout.program pointer.layout.gates (words_at pointer.layout) n)) refl k below) some;
+      (each 13 (λ n. is_end (item_of pointer.layout.program n).kind || is_some (instr_at pointer.layout.program pointer.layout.gates (words_at pointer.layout) n)) refl k below) some;
   calls = refl;
   sorts = refl;
   members = λ j c k side there inside.
@@ -264,4 +259,57 @@ pointer_accepted = record {
   labels_small = label_below;
   shorts = λ k target below branch flag some. absurd (none_some (is_branch (item_of pointer.layout.program k).kind)
       (agree_below_at (λ n. is_branch (item_of pointer.layout.program n).kind) (λ n. false) 13 k refl below) branch);
+}
+
+-- the program that calls a leaf, under a graph of version 3, which has two sides
+lean_sound : IsSound calling_leaf.layout.program
+unfolding is_past decoded
+lean_sound = record {
+  in_order = ordered calling_leaf.layout.program.items refl;
+  few = lit< tt;
+  read = each 5 (λ k. is_read (item_of calling_leaf.layout.program k)) refl;
+  patches = each 5 (λ k. is_patch calling_leaf.layout.program (item_of calling_leaf.layout.program k).patch) refl;
+  targets = each 5 (λ k. aims calling_leaf.layout.program (item_of calling_leaf.layout.program k).kind (item_of calling_leaf.layout.program k).target) refl;
+  relocations = λ j r get. absurd (cc);
+}
+
+-- neither side has a class or a site
+no_classes : (j : ℕ) (side : Side) → slice_get no_sides j ≡ Some side → ([] ≡ side.classes) × ([] ≡ side.sites)
+no_classes zero side there = let same = same_Some _ side there in (ap (λ (s : Side). s.classes) same, ap (λ (s : Side). s.sites) same)
+no_classes (suc zero) side there = let same = same_Some _ side there in (ap (λ (s : Side). s.classes) same, ap (λ (s : Side). s.sites) same)
+no_classes (suc (suc j)) side there = absurd (cc)
+
+none_of : (j c k : ℕ) (side : Side) → slice_get no_sides j ≡ Some side → IsIn side.classes c k → ⊥
+none_of j c k side there inside = none_in k (subst (λ (cs : List (List ℕ)). IsIn cs c k) (sym (no_classes j side there).0) inside)
+
+pub lean_accepted : IsAccepted calling_leaf
+unfolding AreGates decoded instr_at words_from units_of followers code_from words_of code_of labels_of label_at site_label site_number empty_classes tagged head is_spoilt_by
+lean_accepted = record {
+  profile = inr (inl refl);
+  saves = refl;
+  sound = lean_sound;
+  words = λ k below. ltb-true (item_of calling_leaf.layout.program k).word (2 ^ 32) (each 5 (λ n. nat_lt (item_of calling_leaf.layout.program n).word (2 ^ 32)) refl k below);
+  last = (4, refl, refl);
+  entry_there = lit< tt;
+  legal = (refl, (refl, (refl, (refl, (refl, tt)))));
+  groups = no_groups calling_leaf refl;
+  room = lit≤ tt;
+  values = λ k below some. values_there (is_end (item_of calling_leaf.layout.program k).kind)
+      (is_some (instr_at calling_leaf.layout.program calling_leaf.layout.gates (words_at calling_leaf.layout) k))
+      (each 5 (λ n. is_end (item_of calling_leaf.layout.program n).kind || is_some (instr_at calling_leaf.layout.program calling_leaf.layout.gates (words_at calling_leaf.layout) n)) refl k below) some;
+  calls = refl;
+  sorts = refl;
+  members = λ j c k side there inside. absurd (none_of j c k side there inside);
+  rising = λ j side there. subst (λ (cs : List (List ℕ)). All IsStrictlyIncreasing cs) (no_classes j side there).0 (λ k d below. absurd (omega arith));
+  apart = λ j a b k side there in_one in_other. absurd (none_of j a k side there in_one);
+  site_classes = λ j i c side site there.
+      subst (λ (sites : List Site). slice_get sites i ≡ Some site → site.class ≡ Some c → c < length side.classes) (no_classes j side there).1 (λ get. absurd (cc));
+  sites = λ k kind below site. absurd (none_some (is_some (site_kind (item_of calling_leaf.layout.program k).kind))
+      (agree_below_at (λ n. is_some (site_kind (item_of calling_leaf.layout.program n).kind)) (λ n. false) 5 k refl below) (ap is_some site));
+  counted = refl;
+  labels = λ k below. absurd (omega arith);
+  labels_rise = λ k below. absurd (omega arith);
+  labels_small = λ k d below. absurd (omega arith);
+  shorts = λ k target below branch flag some. absurd (none_some (is_branch (item_of calling_leaf.layout.program k).kind)
+      (agree_below_at (λ n. is_branch (item_of calling_leaf.layout.program n).kind) (λ n. false) 5 k refl below) branch);
 }

@@ -17,9 +17,8 @@ use Rattle.obj_input.specs.declared.item_kind.ItemKind.{ItemKind}
 use Rattle.obj_input.specs.declared.item_kind.ItemKind.TheVariants as is
 use Rattle.rv_code.specs.Decode.{decoded}
 use Rattle.cfi_map.specs.GraphAtMap.{entered_in, gate, words_at}
-use Rattle.cfi_graph.specs.Graph.{has_leaves}
 use Rattle.cfi_closed.specs.Closed.{is_target}
-use Rattle.cfi_leads.specs.Leads.{lead_size}
+use Rattle.cfi_leads.specs.Leaves.{in_leaf}
 use Rattle.cfi_map.specs.Groups.{AreGroups, is_direct_target}
 use Rattle.cfi_map.specs.Placement.{AreGates, is_ecall, is_ecall_instr, whole_at}
 use Rattle.cfi_unit.specs.declared.unit.Unit as U
@@ -27,29 +26,30 @@ use Rattle.cfi_unit.specs.UnitWords.{word_count}
 use Rattle.cfi_rules.specs.Placed.{code_from, placed_code}
 use Rattle.cfi_rules.proofs.UnitIn.{length-code_from, length-placed_code}
 use Rattle.cfi_map.specs.Sizes.{part_sizes}
-use Rattle.cfi_writer.specs.Units.{Choice, behind, bounds_at, entry_gate, group_at, instr_of, is_later_at, later_from, lead, low_at, member_at, unit_here, unit_places, units, units_of}
-use Rattle.cfi_writer.proofs.Grouping.{entered_first, no_first_later, none_behind, none_later, whole_first}
+use Rattle.cfi_writer.specs.Units.{Choice, behind, bounds_at, entry_arrival, group_at, instr_of, later_from, lead, low_at, member_at, unit_here, unit_places, units, units_of}
+use Rattle.cfi_writer.proofs.Entering.{unentered_lead}
+use Rattle.cfi_writer.proofs.Grouping.{later_joins, no_first_later, none_behind, none_later, whole_first}
 use Rattle.cfi_writer.proofs.InstrAt.{own_system}
-use Rattle.cfi_writer.proofs.Plain.{no_plain_lead, plain_size}
-use Rattle.cfi_writer.proofs.Runs.{AreSingle, AreSized, Run, lead_bytes, lead_single, lead_sized, legal_run}
+use Rattle.cfi_writer.proofs.Runs.{AreSized, IsLabelled, Run, lead_bytes, lead_sized, legal_run, words_in}
 use Rattle.cfi_writer.proofs.UnitOf.{is_right, unit_size}
 
 -- the words before a unit, and of what follows them
-length-lead : (us rest : List U.Unit) (at : ℕ) → AreSingle us → length (code_from at (us ++ rest)) ≡ length us + length (code_from (at + 4 * length us) rest)
-length-lead [] rest at single = let same : at ≡ at + 4 * 0 = omega arith in subst (λ (b : ℕ). length (code_from at rest) ≡ 0 + length (code_from b rest)) same (omega arith)
-length-lead (v ∷ us) rest at single =
-    let size : word_count v ≡ 1 = single 0 v refl in
+length-lead : (us rest : List U.Unit) (at : ℕ) → length (code_from at (us ++ rest)) ≡ words_in us + length (code_from (at + 4 * words_in us) rest)
+length-lead [] rest at =
+    let same : at ≡ at + 4 * 0 = omega arith in
+    subst (λ (b : ℕ). length (code_from at rest) ≡ 0 + length (code_from b rest)) same (omega arith)
+length-lead (v ∷ us) rest at =
     let first = length-code_from v (us ++ rest) at in
-    let later = length-lead us rest (at + 4 * word_count v) (λ j w get. single (suc j) w get) in
-    let same : at + 4 * word_count v + 4 * length us ≡ at + 4 * length (v ∷ us) = omega arith in
-    subst (λ (b : ℕ). length (code_from at (v ∷ us ++ rest)) ≡ length (v ∷ us) + length (code_from b rest)) same (omega (arith, size, first, later))
+    let later = length-lead us rest (at + 4 * word_count v) in
+    let same : at + 4 * word_count v + 4 * words_in us ≡ at + 4 * words_in (v ∷ us) = omega arith in
+    subst (λ (b : ℕ). length (code_from at (v ∷ us ++ rest)) ≡ words_in (v ∷ us) + length (code_from b rest)) same (omega (arith, first, later))
 
 -- the code of units that stand one after another has as many bytes as lie between
 pub run_bytes : (m : Choice) (at last : ℕ) (places : List ℕ) → Run m at places last → at + 4 * length (code_from at (units_of m places)) ≡ last
 unfolding Run units_of code_from
 run_bytes m at last [] run = let e : at ≡ last = run in omega arith
 run_bytes m at last (k ∷ places) run =
-    let led = length-lead (lead m k) (unit_here m k ∷ units_of m places) at (lead_single m k) in
+    let led = length-lead (lead m k) (unit_here m k ∷ units_of m places) at in
     let own = length-code_from (unit_here m k) (units_of m places) (at + lead_bytes m k) in
     let rest = run_bytes m (at + lead_bytes m k + 4 * word_count (unit_here m k)) last places run.2 in
     omega arith
@@ -62,7 +62,7 @@ target_entered m k target =
 module _ (m : Choice) (sound : IsSound m.layout.program)
     (values : (k : ℕ) → k < count m.layout.program → is_end (item_of m.layout.program k).kind ≡ false →
     is_some (instr_at m.layout.program m.layout.gates (words_at m.layout) k) ≡ true)
-    (plain : has_leaves m.layout.closed.version ≡ false) where
+    (labels : IsLabelled m) where
   -- the instruction that has a value is the one at the map
   instr_is : (k : ℕ) → k < count m.layout.program → is_end (item_of m.layout.program k).kind ≡ false →
       instr_at m.layout.program m.layout.gates (words_at m.layout) k ≡ Some (instr_of m k)
@@ -93,25 +93,15 @@ module _ (m : Choice) (sound : IsSound m.layout.program)
       ap is_ecall_instr (own_system m.layout.program m.layout.gates (words_at m.layout) k (instr_of m k) read (instr_is k below some))
 
   module _ (groups : AreGroups (item_of m.layout.program) (bounds_at m) (whole_at m.whole)) where
-    no_lead : (k : ℕ) → is_later_at m k ≡ true → lead_size (entered_in m.layout) k ≡ 0
-    no_lead k later =
-        elim (cases_Bool (is_target m.layout.closed.sides k)) [
-          | inl target ↦
-              let wrong : true ≡ false = sym later ∙ entered_first m groups k (target_entered m k target) in
-              absurd (cc)
-          | inr other ↦ no_plain_lead (entered_in m.layout) k plain other
-        ]
-
     pub sized : AreSized m
     sized = record {
-      led = λ k. lead_sized m k plain;
-      later = no_lead;
+      led = lead_sized m labels;
+      later = λ k later. unentered_lead (entered_in m.layout) k (later_joins m groups k later).free;
       first = λ k below first.
-          ap (λ (n : ℕ). n + 4 * behind m k) (plain_size (entered_in m.layout) k (item_of m.layout.program k) (whole_at m.whole k) plain)
-          ∙ unit_size m.layout.closed.calls (item_of m.layout.program k).kind (instr_of m k) (is_ecall (item_of m.layout.program k)) (whole_at m.whole k) _ _ _ (group_at m k)
-          (behind m k) (right k below) (ecall_told k below)
+          unit_size m.layout.closed.version m.layout.closed.calls (in_leaf (entered_in m.layout) k) (item_of m.layout.program k) (instr_of m k) (whole_at m.whole k) _ _
+          (group_at m k) (behind m k) (right k below) (ecall_told k below)
           (λ store. (whole_first m k store first, length-map-range_with_len (member_at m (low_at m k)) k (suc (behind m k))))
-          (none_behind m groups k);
+          refl (none_behind m groups k);
     }
 
     start : 0 + 0 ≡ 0
@@ -133,8 +123,8 @@ module _ (m : Choice) (sound : IsSound m.layout.program)
     pub room_there : IsProfile m.layout.profile →
         AreGates (entered_in m.layout) m.whole 0 m.layout.profile.units_from m.layout.program.items m.layout.gates →
         m.layout.profile.units_from - CODE_START + sum (part_sizes (entered_in m.layout) m.whole 0 m.layout.program.items) ≤ CODE_SIZE →
-        4 * length (placed_code m.layout.profile (entry_gate m) (units m)) ≤ CODE_SIZE
+        4 * length (placed_code m.layout.profile (entry_arrival m) (units m)) ≤ CODE_SIZE
     room_there is legal room =
-        let whole = length-placed_code m.layout.profile is (entry_gate m) (units m) in
+        let whole = length-placed_code m.layout.profile is (entry_arrival m) (units m) in
         let bytes = run_bytes m m.layout.profile.units_from _ (unit_places m 0 (count m.layout.program)) (whole_run m.layout.gates refl legal) in
         omega arith

@@ -1,70 +1,89 @@
 -- The words of a code while it is written.
-use Rattle.std.proofs.Common.{◌≡◌, ℕ, suc, ◌+◌, ◌*◌, ◌<◌, ◌≤◌, List, [], ◌∷◌, ◌++◌, length, length-append, map, drop, arith, ap, refl, ◌∙◌, sym, subst, append_assoc, append-nil, get_or}
+use Rattle.std.proofs.Common.{◌≡◌, ℕ, suc, ◌+◌, ◌*◌, ◌<◌, ◌≤◌, List, [], ◌∷◌, ◌++◌, length, length-append, map, drop, arith, ap, refl, ◌∙◌, sym, subst, append_assoc, append-nil, get_or, lit<}
 use Rattle.std.proofs.Math.Seq.{drop-cons}
-use Rattle.rv_word.specs.Form.{profile_for}
-use Rattle.rv_word.specs.MemoryMap.{CODE_SIZE, CODE_START, version_1, version_2}
-use Rattle.rv_word.specs.declared.form.Form.{Form}
-use Rattle.rv_word.specs.declared.form.Form.TheVariants.{Plain, Harts, Split, HartsSplit}
+use Rattle.rv_word.specs.MemoryMap.{CODE_SIZE, CODE_START, profile_under, profile_with}
+use Rattle.rv_word.specs.declared.version.GraphVersion.{GraphVersion}
+use Rattle.rv_word.specs.declared.version.GraphVersion.TheVariants.{OneLabel, TwoLabels, CalleeSaves}
+use Rattle.rv_word.specs.declared.version.ImageVersion.{ImageVersion}
+use Rattle.rv_word.specs.declared.version.ImageVersion.TheVariants.{OneHart, EightHarts}
+use Rattle.rv_word.specs.declared.version.Versions.{Versions}
 use Rattle.rv_code.specs.Encode.{code_of}
 use Rattle.cfi_unit.specs.declared.unit.Unit as U
-use Rattle.cfi_unit.specs.declared.unit.Unit.TheVariants as V
-use Rattle.cfi_unit.specs.Prologue.{call_at, closing_instrs, prologue_instrs}
-use Rattle.cfi_unit.specs.UnitWords.{Fits, after_unit, word_count, words_of}
+use Rattle.cfi_unit.specs.Prologue.{closing_instrs, prologue_instrs}
+use Rattle.cfi_unit.specs.UnitWords.{Fits, Reaches, after_unit, word_count, words_of}
 use Rattle.cfi_unit.proofs.Counts.{some_word}
 use Rattle.cfi_unit.proofs.Found.{words_counted}
 use Rattle.cfi_rules.specs.Placed.{AllFit, code_from, placed_code}
 use Rattle.cfi_rules.specs.Split.{code_words}
-use Rattle.cfi_writer.specs.Prologue.{before_call}
+use Rattle.cfi_writer.specs.Prologue.{before_call, begins_with, call_with}
 
--- the words of the prologue in its four parts, of images of each version
-lone_words : (entry : ℕ) (call first second third : List ℕ) → call ≡ words_of (V.Call entry) (call_at version_1)
-    → code_words first ≡ code_words [] ++ map code_of (before_call version_1) → code_words second ≡ code_words first ++ call
-    → code_words third ≡ code_words second ++ map code_of closing_instrs → code_words third ≡ map code_of (prologue_instrs version_1 entry)
+abbrev versions_of : GraphVersion → ImageVersion → Versions
+versions_of graph image = record { image = image; graph = graph }
+
+-- the words of the prologue in its parts: they are its instructions' in each version
+parts_by : (graph : GraphVersion) (image : ImageVersion) (entry : ℕ) →
+    ((code_words [] ++ map code_of (before_call (versions_of graph image))) ++ words_of (call_with (versions_of graph image) entry) (begins_with (versions_of graph image)))
+    ++ map code_of closing_instrs
+    ≡ map code_of (prologue_instrs (profile_under graph image) entry)
 unfolding words_of code_words
-lone_words entry call first second third call_is first_is second_is third_is =
-    let two : code_words second ≡ (code_words [] ++ map code_of (before_call version_1)) ++ words_of (V.Call entry) (call_at version_1) =
-    second_is ∙ ap (λ ws. ws ++ call) first_is ∙ ap (λ ws. (code_words [] ++ map code_of (before_call version_1)) ++ ws) call_is in
-    third_is ∙ ap (λ ws. ws ++ map code_of closing_instrs) two
+parts_by OneLabel OneHart entry = refl
+parts_by OneLabel EightHarts entry = refl
+parts_by TwoLabels OneHart entry = refl
+parts_by TwoLabels EightHarts entry = refl
+parts_by CalleeSaves OneHart entry = refl
+parts_by CalleeSaves EightHarts entry = refl
 
-own_words : (entry : ℕ) (call first second third : List ℕ) → call ≡ words_of (V.Call entry) (call_at version_2)
-    → code_words first ≡ code_words [] ++ map code_of (before_call version_2) → code_words second ≡ code_words first ++ call
-    → code_words third ≡ code_words second ++ map code_of closing_instrs → code_words third ≡ map code_of (prologue_instrs version_2 entry)
-unfolding words_of code_words
-own_words entry call first second third call_is first_is second_is third_is =
-    let two : code_words second ≡ (code_words [] ++ map code_of (before_call version_2)) ++ words_of (V.Call entry) (call_at version_2) =
-    second_is ∙ ap (λ ws. ws ++ call) first_is ∙ ap (λ ws. (code_words [] ++ map code_of (before_call version_2)) ++ ws) call_is in
-    third_is ∙ ap (λ ws. ws ++ map code_of closing_instrs) two
-
-pub prologue_words : (form : Form) (entry : ℕ) (call first second third : List ℕ) → call ≡ words_of (V.Call entry) (call_at (profile_for form))
-    → code_words first ≡ code_words [] ++ map code_of (before_call (profile_for form)) → code_words second ≡ code_words first ++ call
-    → code_words third ≡ code_words second ++ map code_of closing_instrs → code_words third ≡ map code_of (prologue_instrs (profile_for form) entry)
-prologue_words Plain = lone_words
-prologue_words Harts = own_words
-prologue_words Split = lone_words
-prologue_words HartsSplit = own_words
+pub prologue_words : (versions : Versions) (entry : ℕ) (call first second third : List ℕ) → call ≡ words_of (call_with versions entry) (begins_with versions)
+    → code_words first ≡ code_words [] ++ map code_of (before_call versions) → code_words second ≡ code_words first ++ call
+    → code_words third ≡ code_words second ++ map code_of closing_instrs → code_words third ≡ map code_of (prologue_instrs (profile_with versions) entry)
+prologue_words versions entry call first second third call_is first_is second_is third_is =
+    third_is
+    ∙ ap (λ (ws : List ℕ). ws ++ map code_of closing_instrs)
+    (second_is ∙ ap (λ (ws : List ℕ). ws ++ call) first_is ∙ ap (λ (ws : List ℕ). (code_words [] ++ map code_of (before_call versions)) ++ ws) call_is)
+    ∙ parts_by versions.graph versions.image entry
 
 -- where the prologue ends
-lone_size : (entry : ℕ) (call first second third : List ℕ) → call ≡ words_of (V.Call entry) (call_at version_1) →
-    length first ≡ 4 * length (before_call version_1) → length second ≡ length first + 4 * length call →
-    length third ≡ length second + 4 * length closing_instrs → CODE_START + length third ≡ version_1.units_from
-lone_size entry call first second third call_is first_is second_is third_is =
-    let eight = ap length call_is ∙ words_counted (V.Call entry) (call_at version_1) in
+counted_by : (graph : GraphVersion) (image : ImageVersion) (entry : ℕ) →
+    CODE_START + 4 * length (before_call (versions_of graph image)) + 4 * word_count (call_with (versions_of graph image) entry) + 4 * length closing_instrs
+    ≡ (profile_under graph image).units_from
+counted_by OneLabel OneHart entry = refl
+counted_by OneLabel EightHarts entry = refl
+counted_by TwoLabels OneHart entry = refl
+counted_by TwoLabels EightHarts entry = refl
+counted_by CalleeSaves OneHart entry = refl
+counted_by CalleeSaves EightHarts entry = refl
+
+pub prologue_size : (versions : Versions) (entry : ℕ) (call first second third : List ℕ) → call ≡ words_of (call_with versions entry) (begins_with versions) →
+    length first ≡ 4 * length (before_call versions) → length second ≡ length first + 4 * length call →
+    length third ≡ length second + 4 * length closing_instrs → CODE_START + length third ≡ (profile_with versions).units_from
+prologue_size versions entry call first second third call_is first_is second_is third_is =
+    let words = ap length call_is ∙ words_counted (call_with versions entry) (begins_with versions) in
+    let all = counted_by versions.graph versions.image entry in
     omega arith
 
-own_size : (entry : ℕ) (call first second third : List ℕ) → call ≡ words_of (V.Call entry) (call_at version_2) →
-    length first ≡ 4 * length (before_call version_2) → length second ≡ length first + 4 * length call →
-    length third ≡ length second + 4 * length closing_instrs → CODE_START + length third ≡ version_2.units_from
-own_size entry call first second third call_is first_is second_is third_is =
-    let eight = ap length call_is ∙ words_counted (V.Call entry) (call_at version_2) in
-    omega arith
+-- the call may stand there
+fits_by : (graph : GraphVersion) (image : ImageVersion) (entry : ℕ) → Reaches (profile_under graph image).opening_call entry →
+    Fits (call_with (versions_of graph image) entry) (begins_with (versions_of graph image))
+fits_by OneLabel OneHart entry reached = (refl, reached)
+fits_by OneLabel EightHarts entry reached = (refl, reached)
+fits_by TwoLabels OneHart entry reached = (refl, reached)
+fits_by TwoLabels EightHarts entry reached = (refl, reached)
+fits_by CalleeSaves OneHart entry reached = reached
+fits_by CalleeSaves EightHarts entry reached = reached
 
-pub prologue_size : (form : Form) (entry : ℕ) (call first second third : List ℕ) → call ≡ words_of (V.Call entry) (call_at (profile_for form)) →
-    length first ≡ 4 * length (before_call (profile_for form)) → length second ≡ length first + 4 * length call →
-    length third ≡ length second + 4 * length closing_instrs → CODE_START + length third ≡ (profile_for form).units_from
-prologue_size Plain = lone_size
-prologue_size Harts = own_size
-prologue_size Split = lone_size
-prologue_size HartsSplit = own_size
+pub call_fits : (versions : Versions) (entry : ℕ) → Reaches (profile_with versions).opening_call entry → Fits (call_with versions entry) (begins_with versions)
+call_fits versions entry reached = fits_by versions.graph versions.image entry reached
+
+inside_by : (graph : GraphVersion) (image : ImageVersion) → begins_with (versions_of graph image) < CODE_START + CODE_SIZE
+inside_by OneLabel OneHart = lit< tt
+inside_by OneLabel EightHarts = lit< tt
+inside_by TwoLabels OneHart = lit< tt
+inside_by TwoLabels EightHarts = lit< tt
+inside_by CalleeSaves OneHart = lit< tt
+inside_by CalleeSaves EightHarts = lit< tt
+
+pub call_inside : (versions : Versions) → begins_with versions < CODE_START + CODE_SIZE
+call_inside versions = inside_by versions.graph versions.image
 
 -- bytes with the words of some units after them are a whole code, and these units fit there
 pub record IsWritten (whole : List ℕ) (units : List U.Unit) (bytes : List ℕ) : Type 0 where
@@ -118,20 +137,23 @@ module _ (whole : List ℕ) (unit : U.Unit) (rest : List U.Unit) (bytes : List �
         fit = subst (λ a. AllFit a rest) after written.fit.1;
       }
 
-prologue_counted : (form : Form) (entry : ℕ) → CODE_START + 4 * length (map code_of (prologue_instrs (profile_for form) entry)) ≡ (profile_for form).units_from
-prologue_counted Plain entry = refl
-prologue_counted Harts entry = refl
-prologue_counted Split entry = refl
-prologue_counted HartsSplit entry = refl
+instrs_by : (graph : GraphVersion) (image : ImageVersion) (entry : ℕ) →
+    CODE_START + 4 * length (map code_of (prologue_instrs (profile_under graph image) entry)) ≡ (profile_under graph image).units_from
+instrs_by OneLabel OneHart entry = refl
+instrs_by OneLabel EightHarts entry = refl
+instrs_by TwoLabels OneHart entry = refl
+instrs_by TwoLabels EightHarts entry = refl
+instrs_by CalleeSaves OneHart entry = refl
+instrs_by CalleeSaves EightHarts entry = refl
 
-pub first_written : (form : Form) (entry : ℕ) (units : List U.Unit) (bytes : List ℕ) → code_words bytes ≡ map code_of (prologue_instrs (profile_for form) entry) →
-    CODE_START + length bytes ≡ (profile_for form).units_from → AllFit (profile_for form).units_from units
-    → IsWritten (placed_code (profile_for form) entry units) units bytes
-first_written form entry units bytes words place fit =
+pub first_written : (versions : Versions) (entry : ℕ) (units : List U.Unit) (bytes : List ℕ) → code_words bytes ≡ map code_of (prologue_instrs (profile_with versions) entry) →
+    CODE_START + length bytes ≡ (profile_with versions).units_from → AllFit (profile_with versions).units_from units
+    → IsWritten (placed_code (profile_with versions) entry units) units bytes
+first_written versions entry units bytes words place fit =
     record {
       words = ap (λ ws. ws ++ code_from (CODE_START + length bytes) units) words
-          ∙ ap (λ a. map code_of (prologue_instrs (profile_for form) entry) ++ code_from a units) place;
-      size = omega (arith, place, ap length words, prologue_counted form entry);
+          ∙ ap (λ a. map code_of (prologue_instrs (profile_with versions) entry) ++ code_from a units) place;
+      size = omega (arith, place, ap length words, instrs_by versions.graph versions.image entry);
       fit = subst (λ a. AllFit a units) (sym place) fit;
     }
 

@@ -4,6 +4,8 @@ use Rattle.std.specs.Prelude.{◌&&◌, ◌||◌, ◌==◌, nat_le, nat_lt, not}
 use Rattle.std.specs.List.{AllByRecursion, list_all}
 use Rattle.std.proofs.lemmas.Bool.{and_from, and_parts, leb-true, ltb-true, not-true, or_parts}
 use Rattle.rv_word.specs.MemoryMap.{CODE_SIZE, CODE_START, START}
+use Rattle.rv_word.specs.declared.version.GraphVersion.{GraphVersion}
+use Rattle.rv_word.specs.declared.version.GraphVersion.TheVariants.{OneLabel, TwoLabels, CalleeSaves}
 use Rattle.rv_instr.specs.InRange.{IsInstr}
 use Rattle.rv_instr.specs.Reserved.{is_reserved}
 use Rattle.rv_instr.specs.declared.instr.Instr.{Instr}
@@ -19,12 +21,14 @@ use Rattle.cfi_graph.specs.Calls.{may_be_calls}
 use Rattle.cfi_graph.specs.Graph.{are_calls, is_rising}
 use Rattle.cfi_unit.specs.Guarded.{AreNumbers}
 use Rattle.cfi_unit.specs.Members.{AreMembers}
-use Rattle.cfi_unit.specs.UnitWords.{BAD_RETURN, BAD_TARGET, DEEP, Fits, IsNear, Reaches, is_lui, is_plain, word_count}
+use Rattle.cfi_unit.specs.UnitWords.{BAD_RETURN, BAD_TARGET, CheckFits, DEEP, Fits, IsNear, MaskFits, Reaches, is_lui, is_plain, word_count}
 use Rattle.cfi_unit.proofs.Near.{branch_reached, near_reached}
 use Rattle.cfi_map.specs.Groups.{is_store}
 use Rattle.cfi_map.specs.Shorts.{is_branch}
 use Rattle.cfi_unit.specs.declared.target_word.TargetWord.{TargetWord}
-use Rattle.cfi_writer.specs.Units.{Group, call_unit, unit_of}
+use Rattle.cfi_unit.specs.declared.unit.Unit.TheVariants as V
+use Rattle.cfi_rules.specs.Lines.{jump_word}
+use Rattle.cfi_writer.specs.Units.{Group, call_unit, lean_unit_of, unit_by, unit_of}
 use Rattle.cfi_writer.proofs.UnitOf.{is_right}
 
 -- a register that is not named is not reserved
@@ -126,8 +130,9 @@ near_target a target low high round there back ahead =
 
 -- the unit of stores may stand anywhere, where its mask and its members are in range
 pub record FitsMask (group : Group) : Type 0 where
-  pub small : group.mask < 2 ^ 12
+  pub small : group.offset < 2 ^ 12
   pub members : AreMembers group.members
+  pub mask : MaskFits group.mask group.offset
 
 each_number : (numbers : List ℕ) → list_all (λ (n : ℕ). nat_lt n (2 ^ 11)) numbers ≡ true → AllByRecursion IsNumber numbers
 each_number [] all = tt
@@ -153,47 +158,91 @@ call_fits None a right low high round = tt
 call_fits (Some numbers) a right low high round =
     (numbers_are numbers right, reach (a + 8 * length numbers) BAD_TARGET (in_code a (8 * length numbers) low (omega arith) round (omega arith)) bad_target_in)
 
-pub unit_fits : (calls : Option (List ℕ)) (kind : ItemKind) (i : Instr) (whole : Bool) (target : ℕ) (which : TargetWord) (label : ℕ) (group : Group) (a : ℕ) → is_right kind i ≡ true → IsInstr i → label < 2 ^ 20 →
-    START ≤ a → a + 4 * word_count (unit_of calls kind i whole target which label group) ≤ CODE_START + CODE_SIZE → a % 4 ≡ 0 → (is_direct kind ≡ true → IsThere target) →
-    (is_branch kind ≡ true → whole ≡ false → (a ≤ target + 4096) × (target ≤ a + 4092)) → (is_store kind ≡ true → FitsMask group) →
-    may_be_calls calls ≡ true →
-    Fits (unit_of calls kind i whole target which label group) a
-unit_fits calls is.Gate (I.Upper op rd imm) whole target which label group a right range small low high round there near masked listed = range.1
-unit_fits calls is.Plain i whole target which label group a right range small low high round there near masked listed = (range, plain_is i right)
-unit_fits calls is.Store (I.Store op rs1 rs2 imm) whole target which label group a right range small low high round there near masked listed =
-    let mask = masked refl in (range.0, mask.small, mask.members, tt)
-unit_fits calls is.System I.Ecall whole target which label group a right range small low high round there near masked listed =
-    call_fits calls a listed low high round
-unit_fits calls is.System I.Ebreak whole target which label group a right range small low high round there near masked listed = tt
-unit_fits calls is.Branch (I.Branch op rs1 rs2 imm) true target which label group a right range small low high round there near masked listed =
-    (range.0, range.1, reach (a + 4) target (in_code a 4 low (omega arith) round refl) (target_in_code target (there refl)))
-unit_fits calls is.Branch (I.Branch op rs1 rs2 imm) false target which label group a right range small low high round there near masked listed =
-    (range.0, range.1, let bounds = near refl refl in near_target a target low (omega arith) round (there refl) bounds.0 bounds.1)
-unit_fits calls is.Jump i whole target which label group a right range small low high round there near masked listed =
-    let here : IsInCode a = record { from = omega arith; to = omega arith; round = round } in
-    (no_handler target (there refl), reach a target here (target_in_code target (there refl)))
-unit_fits calls is.Call i whole target which label group a right range small low high round there near masked listed =
-    (reach (a + 8) DEEP (in_code a 8 low (omega arith) round refl) deep_in, reach (a + 28) target (in_code a 28 low (omega arith) round refl) (target_in_code target (there refl)))
-unit_fits calls is.Return i whole target which label group a right range small low high round there near masked listed =
-    reach (a + 12) BAD_RETURN (in_code a 12 low (omega arith) round refl) bad_return_in
-unit_fits calls is.Ijump (I.Jalr rd rs1 imm) whole target which label group a right range small low high round there near masked listed = (
-  range.1,
-  range.2,
+-- the check of a computed transfer may stand where its words lie in the code
+check_fits : (a rs1 imm label : ℕ) → rs1 < 32 → imm < 2 ^ 12 → label < 2 ^ 20 → START ≤ a → a + 48 ≤ CODE_START + CODE_SIZE → a % 4 ≡ 0 →
+    CheckFits a rs1 imm label
+check_fits a rs1 imm label register field small low high round = (
+  register,
+  field,
   small,
   reach (a + 24) BAD_TARGET (in_code a 24 low (omega arith) round refl) bad_target_in,
   reach (a + 44) BAD_TARGET (in_code a 44 low (omega arith) round refl) bad_target_in,
 )
-unit_fits calls is.Icall (I.Jalr rd rs1 imm) whole target which label group a right range small low high round there near masked listed = (
-  (
-    range.1,
-    range.2,
-    small,
-    reach (a + 24) BAD_TARGET (in_code a 24 low (omega arith) round refl) bad_target_in,
-    reach (a + 44) BAD_TARGET (in_code a 44 low (omega arith) round refl) bad_target_in,
-  ),
+
+of_fits : (calls : Option (List ℕ)) (kind : ItemKind) (i : Instr) (whole : Bool) (target : ℕ) (which : TargetWord) (label : ℕ) (group : Group) (a : ℕ) →
+    is_right kind i ≡ true → IsInstr i → label < 2 ^ 20 →
+    START ≤ a → a + 4 * word_count (unit_of calls kind i whole target which label group) ≤ CODE_START + CODE_SIZE → a % 4 ≡ 0 → (is_direct kind ≡ true → IsThere target) →
+    (is_branch kind ≡ true → whole ≡ false → (a ≤ target + 4096) × (target ≤ a + 4092)) → (is_store kind ≡ true → FitsMask group) →
+    may_be_calls calls ≡ true →
+    Fits (unit_of calls kind i whole target which label group) a
+of_fits calls is.Gate (I.Upper op rd imm) whole target which label group a right range small low high round there near masked listed = range.1
+of_fits calls is.Plain i whole target which label group a right range small low high round there near masked listed = (range, plain_is i right)
+of_fits calls is.Store (I.Store op rs1 rs2 imm) whole target which label group a right range small low high round there near masked listed =
+    let mask = masked refl in (range.0, mask.small, mask.members, mask.mask)
+of_fits calls is.System I.Ecall whole target which label group a right range small low high round there near masked listed =
+    call_fits calls a listed low high round
+of_fits calls is.System I.Ebreak whole target which label group a right range small low high round there near masked listed = tt
+of_fits calls is.Branch (I.Branch op rs1 rs2 imm) true target which label group a right range small low high round there near masked listed =
+    (range.0, range.1, reach (a + 4) target (in_code a 4 low (omega arith) round refl) (target_in_code target (there refl)))
+of_fits calls is.Branch (I.Branch op rs1 rs2 imm) false target which label group a right range small low high round there near masked listed =
+    (range.0, range.1, let bounds = near refl refl in near_target a target low (omega arith) round (there refl) bounds.0 bounds.1)
+of_fits calls is.Jump i whole target which label group a right range small low high round there near masked listed =
+    let here : IsInCode a = record { from = omega arith; to = omega arith; round = round } in
+    (no_handler target (there refl), reach a target here (target_in_code target (there refl)))
+of_fits calls is.Call i whole target which label group a right range small low high round there near masked listed =
+    (reach (a + 8) DEEP (in_code a 8 low (omega arith) round refl) deep_in, reach (a + 28) target (in_code a 28 low (omega arith) round refl) (target_in_code target (there refl)))
+of_fits calls is.Return i whole target which label group a right range small low high round there near masked listed =
+    reach (a + 12) BAD_RETURN (in_code a 12 low (omega arith) round refl) bad_return_in
+of_fits calls is.Ijump (I.Jalr rd rs1 imm) whole target which label group a right range small low high round there near masked listed =
+    check_fits a rs1 imm label range.1 range.2 small low (omega arith) round
+of_fits calls is.Icall (I.Jalr rd rs1 imm) whole target which label group a right range small low high round there near masked listed = (
+  check_fits a rs1 imm label range.1 range.2 small low (omega arith) round,
   reach (a + 56) DEEP (in_code a 56 low (omega arith) round refl) deep_in,
 )
-unit_fits calls is.End i whole target which label group a right range small low high round there near masked listed =
+of_fits calls is.End i whole target which label group a right range small low high round there near masked listed =
     let here : IsInCode a = record { from = omega arith; to = omega arith; round = round } in
     reach a BAD_TARGET here bad_target_in
-unit_fits calls kind i whole target which label group a right range small low high round there near masked listed = absurd (cc)
+of_fits calls kind i whole target which label group a right range small low high round there near masked listed = absurd (cc)
+
+lean_fits : (calls : Option (List ℕ)) (inside : Bool) (kind : ItemKind) (i : Instr) (whole : Bool) (target label : ℕ) (group : Group) (a : ℕ) →
+    is_right kind i ≡ true → IsInstr i → label < 2 ^ 20 →
+    START ≤ a → a + 4 * word_count (lean_unit_of calls inside kind i whole target label group) ≤ CODE_START + CODE_SIZE → a % 4 ≡ 0 → (is_direct kind ≡ true → IsThere target) →
+    (is_branch kind ≡ true → whole ≡ false → (a ≤ target + 4096) × (target ≤ a + 4092)) → (is_store kind ≡ true → FitsMask group) →
+    may_be_calls calls ≡ true →
+    Fits (lean_unit_of calls inside kind i whole target label group) a
+lean_fits calls inside is.Call i whole target label group a right range small low high round there near masked listed =
+    let here : IsInCode a = record { from = omega arith; to = omega arith; round = round } in
+    reach a target here (target_in_code target (there refl))
+lean_fits calls true is.Return i whole target label group a right range small low high round there near masked listed = tt
+lean_fits calls false is.Return i whole target label group a right range small low high round there near masked listed =
+    reach (a + 12) BAD_RETURN (in_code a 12 low (omega arith) round refl) bad_return_in
+lean_fits calls inside is.Ijump (I.Jalr rd rs1 imm) whole target label group a right range small low high round there near masked listed =
+    check_fits a rs1 imm label range.1 range.2 small low (omega arith) round
+lean_fits calls inside is.Icall (I.Jalr rd rs1 imm) whole target label group a right range small low high round there near masked listed =
+    check_fits a rs1 imm label range.1 range.2 small low (omega arith) round
+lean_fits calls inside kind i whole target label group a right range small low high round there near masked listed =
+    of_fits calls kind i whole target (jump_word CalleeSaves) label group a right range small low high round there near masked listed
+
+-- the unit of each version fits
+pub unit_fits : (version : GraphVersion) (calls : Option (List ℕ)) (inside : Bool) (kind : ItemKind) (i : Instr) (whole : Bool) (target label : ℕ) (group : Group) (a : ℕ) →
+    is_right kind i ≡ true → IsInstr i → label < 2 ^ 20 →
+    START ≤ a → a + 4 * word_count (unit_by version calls inside kind i whole target label group) ≤ CODE_START + CODE_SIZE → a % 4 ≡ 0 → (is_direct kind ≡ true → IsThere target) →
+    (is_branch kind ≡ true → whole ≡ false → (a ≤ target + 4096) × (target ≤ a + 4092)) → (is_store kind ≡ true → FitsMask group) →
+    may_be_calls calls ≡ true →
+    Fits (unit_by version calls inside kind i whole target label group) a
+unit_fits OneLabel calls inside kind i whole target label group a right range small low high round there near masked listed =
+    of_fits calls kind i whole target (jump_word OneLabel) label group a right range small low high round there near masked listed
+unit_fits TwoLabels calls inside kind i whole target label group a right range small low high round there near masked listed =
+    of_fits calls kind i whole target (jump_word TwoLabels) label group a right range small low high round there near masked listed
+unit_fits CalleeSaves calls inside kind i whole target label group a right range small low high round there near masked listed =
+    lean_fits calls inside kind i whole target label group a right range small low high round there near masked listed
+
+-- what saves a site reaches the handler that halts where the shadow stack is full
+pub enter_fits : (a : ℕ) → START ≤ a → a + 4 * word_count V.Enter ≤ CODE_START + CODE_SIZE → a % 4 ≡ 0 → Fits V.Enter a
+enter_fits a low high round = reach (a + 8) DEEP (in_code a 8 low (omega arith) round refl) deep_in
+
+-- and a jump its target
+pub jump_fits : (a target : ℕ) → START ≤ a → a + 4 ≤ CODE_START + CODE_SIZE → a % 4 ≡ 0 → IsThere target → Fits (V.Jump target) a
+jump_fits a target low high round there =
+    let here : IsInCode a = record { from = omega arith; to = omega arith; round = round } in
+    (no_handler target there, reach a target here (target_in_code target there))

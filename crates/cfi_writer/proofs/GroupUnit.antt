@@ -1,9 +1,11 @@
--- The unit of a group: what its stores are as members, and that they are in range.
-use Rattle.std.proofs.Common.{◌≡◌, ℕ, zero, suc, ◌+◌, ◌-◌, ◌^◌, ◌<◌, ◌≤◌, true, false, inl, inr, List, length, Option, Some, None, refl, sym, subst, ap, ◌∙◌, arith, lit<}
+-- The unit of a group: what its stores are as members, how they are masked, and that they are in range.
+use Rattle.std.proofs.Common.{◌≡◌, ◌⊎◌, ℕ, zero, suc, ◌+◌, ◌-◌, ◌^◌, ◌<◌, ◌≤◌, Bool, true, false, inl, inr, List, length, Option, Some, None, refl, sym, subst, ap, ◌∙◌, arith, lit<}
 use Rattle.std.specs.Prelude.{option_and_then}
 use Rattle.std.specs.List.{AllByRecursion}
-use Rattle.std.proofs.lemmas.Bool.{cases_lt}
+use Rattle.std.proofs.lemmas.Bool.{and_parts, cases_lt, leb-true}
 use Rattle.std.proofs.lemmas.List.FromFn.{length-map-range_with_len}
+use Rattle.rv_word.specs.declared.version.GraphVersion.{GraphVersion}
+use Rattle.rv_word.specs.declared.version.GraphVersion.TheVariants.{OneLabel, TwoLabels, CalleeSaves}
 use Rattle.rv_instr.specs.InRange.{IsInstr}
 use Rattle.rv_instr.specs.declared.instr.Instr.{Instr}
 use Rattle.rv_instr.specs.declared.instr.Instr.TheVariants as I
@@ -16,18 +18,22 @@ use Rattle.obj_program.specs.declared.item.Patch.TheVariants as put
 use Rattle.obj_program.specs.AtMap.{instr_at, patched_instr}
 use Rattle.obj_program.specs.Program.{Program, count, is_end, item_of}
 use Rattle.obj_program.specs.Sound.{is_own}
+use Rattle.cfi_graph.specs.Graph.{has_leaves}
 use Rattle.cfi_map.specs.GraphAtMap.{words_at}
-use Rattle.cfi_map.specs.Groups.{Grouped, base, base_of, is_store, level_of}
+use Rattle.cfi_map.specs.Groups.{Grouped, base, base_of, is_forward, is_short, is_store, level_of}
 use Rattle.cfi_map.specs.Groups as groups
 use Rattle.cfi_map.specs.Placement.{whole_at}
 use Rattle.cfi_map.proofs.GroupFacts.{grouped}
+use Rattle.cfi_unit.specs.declared.mask.Mask.{Mask}
+use Rattle.cfi_unit.specs.declared.mask.Mask.TheVariants.{Shifts, Short, Long}
 use Rattle.cfi_unit.specs.Members.{IsMember, MOST_MEMBERS}
 use Rattle.cfi_unit.specs.declared.members.Member.{Member}
-use Rattle.cfi_runs.specs.Distances.{level}
-use Rattle.cfi_runs.specs.GroupStores.{IsMasked, members_from}
-use Rattle.cfi_runs.proofs.Distances.{groups_are_masked}
+use Rattle.cfi_unit.specs.UnitWords.{MaskFits}
+use Rattle.cfi_runs.specs.Distances.{field, level}
+use Rattle.cfi_runs.specs.GroupStores.{IsMasked, IsPast, members_from}
+use Rattle.cfi_runs.proofs.Distances.{groups_are_masked, lowest_least, offsets_are_past}
 use Rattle.cfi_writer.specs.Accepted.{IsAccepted}
-use Rattle.cfi_writer.specs.Units.{Choice, behind, bounds_at, group_at, instr_of, is_later_at, low_at, member_at, member_for, offset_at, offset_of}
+use Rattle.cfi_writer.specs.Units.{Choice, behind, bounds_at, group_at, instr_of, is_later_at, least_at, low_at, low_by, mask_at, mask_by, member_at, member_for, offset_at, offset_of}
 use Rattle.cfi_writer.proofs.Fitting.{FitsMask}
 use Rattle.cfi_writer.proofs.Grouping.{group_there, later_below, later_behind, later_store}
 use Rattle.cfi_writer.proofs.Standing.{instr_in_range, instr_is, right}
@@ -78,6 +84,39 @@ each_member member k (suc n) each =
           (λ i less. let next : k + suc i ≡ k + 1 + i = omega arith in subst (λ (j : ℕ). IsMember (member j)) next (each (suc i) (omega arith))),
     )
 
+-- a short mask is one of version 3, for a first store with an offset of its own that is not negative
+short_by : (version : GraphVersion) (short : Bool) → mask_by version short ≡ Short → (has_leaves version ≡ true) × (short ≡ true)
+short_by OneLabel short e = absurd (cc)
+short_by TwoLabels short e = absurd (cc)
+short_by CalleeSaves true e = (refl, refl)
+short_by CalleeSaves false e = absurd (cc)
+
+-- another one is for the least offset
+mask_cases : (mask : Mask) → (mask ≡ Short) ⊎ ((least : ℕ) → low_by mask least ≡ least)
+mask_cases Shifts = inr (λ least. refl)
+mask_cases Short = inl refl
+mask_cases Long = inr (λ least. refl)
+
+mask_fits : (mask : Mask) (least : ℕ) → MaskFits mask (field (low_by mask least))
+mask_fits Shifts least = tt
+mask_fits Short least = refl
+mask_fits Long least = tt
+
+-- an offset at such a level is not negative, and lies its own distance past none
+past_none : (imm : ℕ) → imm < 2 ^ 12 → 2048 ≤ level imm → IsPast 0 imm (level imm - level 0)
+past_none imm small forward =
+    let own : imm ≡ level imm - level 0 = omega arith in
+    subst (IsPast 0 imm) own (offsets_are_past imm (omega arith))
+
+-- how the stores of a group are masked that begins at a place: each lies past the mask's offset; one of them just there, or the mask is
+-- short and has no offset
+pub record AreMasked (m : Choice) (k : ℕ) : Type 0 where
+  pub small : low_at m k < 2 ^ 12
+  pub least : (i : ℕ) → i ≤ behind m k → low_at m k ≤ level (offset_at m (k + i))
+  pub past : (i : ℕ) → i ≤ behind m k → IsPast (field (low_at m k)) (offset_at m (k + i)) (level (offset_at m (k + i)) - low_at m k)
+  pub told : ((index : ℕ) × (index ≤ behind m k) × (level (offset_at m (k + index)) - low_at m k ≡ 0))
+      ⊎ ((mask_at m k ≡ Short) × (field (low_at m k) ≡ 0))
+
 module _ (m : Choice) (ok : IsAccepted m) where
   pub store_at : (k : ℕ) → k < count m.layout.program → is_store (item_of m.layout.program k).kind ≡ true → IsStore (instr_of m k)
   store_at k below store = store_is (item_of m.layout.program k).kind (instr_of m k) store (right m ok k below)
@@ -92,6 +131,16 @@ module _ (m : Choice) (ok : IsAccepted m) where
   level_is : (i : Instr) → IsStore i → level_of (Some i) ≡ level (offset_of i)
   level_is (I.Store op rs1 rs2 imm) store = refl
   level_is other store = let is = store.is in absurd (cc)
+
+  -- the level of an own store's offset
+  own_level : (k : ℕ) → k < count m.layout.program → is_store (item_of m.layout.program k).kind ≡ true → is_own (item_of m.layout.program k).patch ≡ true →
+      level_of (decoded (item_of m.layout.program k).word) ≡ level (offset_at m k)
+  own_level k below store own = ap level_of (own_word k below store own) ∙ level_is (instr_of m k) (store_at k below store)
+
+  own_forward : (k : ℕ) → k < count m.layout.program → is_store (item_of m.layout.program k).kind ≡ true → is_own (item_of m.layout.program k).patch ≡ true →
+      is_forward (item_of m.layout.program k) ≡ true → 2048 ≤ level (offset_at m k)
+  own_forward k below store own forward =
+      subst (λ (n : ℕ). 2048 ≤ n) (own_level k below store own) (leb-true 2048 (level_of (decoded (item_of m.layout.program k).word)) forward)
 
   -- the stores of the group that begins at a place
   module _ (k : ℕ) (below : k < count m.layout.program) (store : is_store (item_of m.layout.program k).kind ≡ true) (first : is_later_at m k ≡ false) where
@@ -119,7 +168,7 @@ module _ (m : Choice) (ok : IsAccepted m) where
         groups.level (item_of m.layout.program) (k + i) ≡ level (offset_at m (k + i))
     level_here some i few =
         let there = inside i few in
-        ap level_of (word_says some i few) ∙ level_is (instr_of m (k + i)) (store_at (k + i) there.0 there.1)
+        own_level (k + i) there.0 there.1 ((of_group some).own i (omega arith))
 
     pub near : (i j : ℕ) → i ≤ behind m k → j ≤ behind m k → level (offset_at m (k + i)) ≤ level (offset_at m (k + j)) + 2047
     near i j one two =
@@ -138,8 +187,50 @@ module _ (m : Choice) (ok : IsAccepted m) where
     small i few = let there = inside i few in offset_small (instr_of m (k + i)) (instr_in_range m ok (k + i) there.0)
 
     -- the least offset masks them all
-    pub masked : IsMasked (offset_at m) k (behind m k) (low_at m k)
-    masked = groups_are_masked (offset_at m) k (behind m k) small near
+    least_masks : IsMasked (offset_at m) k (behind m k) (least_at m k)
+    least_masks = groups_are_masked (offset_at m) k (behind m k) small near
+
+    -- behind a short mask no offset is negative
+    forward : has_leaves m.layout.closed.version ≡ true → is_short (item_of m.layout.program k) ≡ true → (i : ℕ) → i ≤ behind m k →
+        2048 ≤ level (offset_at m (k + i))
+    forward saves short i few =
+        let parts = and_parts (is_own (item_of m.layout.program k).patch) (is_forward (item_of m.layout.program k)) short in
+        let there = inside i few in
+        elim (cases_lt 0 i) [
+          | inr none ↦
+              let here : k ≡ k + i = omega arith in
+              subst (λ (n : ℕ). 2048 ≤ level (offset_at m n)) here (own_forward k below store parts.0 parts.1)
+          | inl some ↦
+              let group = of_group (omega arith) in
+              let fits = group.mask i (omega arith) (omega arith) in
+              let goes : is_forward (item_of m.layout.program (k + i)) ≡ true = rw (saves, short) at fits in
+              own_forward (k + i) there.0 there.1 (group.own i (omega arith)) goes
+        ]
+
+    pub masked : AreMasked m k
+    masked =
+        elim (mask_cases (mask_at m k)) [
+          | inr plain ↦
+              let low : low_at m k ≡ least_at m k = plain (least_at m k) in
+              let of = least_masks in
+              record {
+                small = subst (λ (n : ℕ). n < 2 ^ 12) (sym low) of.small;
+                least = λ i few. subst (λ (n : ℕ). n ≤ level (offset_at m (k + i))) (sym low) (lowest_least (λ (j : ℕ). level (offset_at m j)) k (behind m k) i few);
+                past = λ i few. subst (λ (n : ℕ). IsPast (field n) (offset_at m (k + i)) (level (offset_at m (k + i)) - n)) (sym low) (of.past i few);
+                told = inl (of.index, of.inside, subst (λ (n : ℕ). level (offset_at m (k + of.index)) - n ≡ 0) (sym low) of.none);
+              }
+          | inl short ↦
+              let by = short_by m.layout.closed.version (is_short (item_of m.layout.program k)) short in
+              let low : low_at m k ≡ level 0 = ap (λ (mask : Mask). low_by mask (least_at m k)) short in
+              record {
+                small = subst (λ (n : ℕ). n < 2 ^ 12) (sym low) (lit< tt);
+                least = λ i few. subst (λ (n : ℕ). n ≤ level (offset_at m (k + i))) (sym low) (forward by.0 by.1 i few);
+                past = λ i few.
+                    subst (λ (n : ℕ). IsPast (field n) (offset_at m (k + i)) (level (offset_at m (k + i)) - n)) (sym low)
+                    (past_none (offset_at m (k + i)) (small i few) (forward by.0 by.1 i few));
+                told = inr (short, ap field low);
+              }
+        ]
 
     pub most_members : behind m k + 1 ≤ MOST_MEMBERS
     most_members =
@@ -154,6 +245,7 @@ module _ (m : Choice) (ok : IsAccepted m) where
     pub fits_mask : FitsMask (group_at m k)
     fits_mask = record {
       small = omega arith;
+      mask = mask_fits (mask_at m k) (least_at m k);
       members = record {
         some = let all = many in omega arith;
         most = let all = many in let few = most_members in omega arith;

@@ -117,7 +117,7 @@ group_there m k store first = record {
 }
 
 module _ (m : Choice) (groups : AreGroups (item_of m.layout.program) (bounds_at m) (whole_at m.whole)) where
-  later_joins : (k : ℕ) → is_later_at m k ≡ true → Joins (item_of m.layout.program) (bounds_at m) (whole_at m.whole) k (members_before (item_of m.layout.program) (whole_at m.whole) k)
+  pub later_joins : (k : ℕ) → is_later_at m k ≡ true → Joins (item_of m.layout.program) (bounds_at m) (whole_at m.whole) k (members_before (item_of m.layout.program) (whole_at m.whole) k)
   later_joins k later = joins (item_of m.layout.program) (bounds_at m) (whole_at m.whole) k _ (groups k later)
 
   -- what is entered is no later store

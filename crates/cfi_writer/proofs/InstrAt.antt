@@ -1,5 +1,6 @@
--- The instruction of a place at a map has its fields in range, and `lui x0` has the number that its word has.
-use Rattle.std.proofs.Common.{◌≡◌, ℕ, ◌/◌, ◌^◌, ◌<◌, inl, inr, true, List, Some, None, ap, subst, ◌∙◌, lit<, arith, rules, unwrap_or}
+-- The instruction of a place at a map has its fields in range, and writes the register that its word names; `lui x0` has the number that
+-- its word has.
+use Rattle.std.proofs.Common.{◌≡◌, ℕ, ◌/◌, ◌^◌, ◌<◌, inl, inr, true, List, Some, None, refl, sym, ap, subst, ◌∙◌, lit<, arith, rules, unwrap_or}
 use Rattle.std.specs.Prelude.{ℤ, pos, negsuc, ◌&&◌, not}
 use Rattle.std.proofs.lemmas.Bool.{and_parts}
 use Rattle.std.proofs.lemmas.Option.{cond_some, same_Some}
@@ -7,6 +8,7 @@ use Rattle.rv_word.proofs.Cases.{cases_Option, mapped}
 use Rattle.rv_reloc.specs.Value.{hi20, lo12, low_bits}
 use Rattle.rv_reloc.specs.Word.{is_high_in_range}
 use Rattle.rv_instr.specs.InRange.{IsInstr}
+use Rattle.rv_instr.specs.Operands.{written}
 use Rattle.rv_instr.specs.declared.instr.Instr.{Instr}
 use Rattle.rv_instr.specs.declared.instr.Instr.TheVariants.{Upper, Jalr, Load, Store, Immediate}
 use Rattle.rv_instr.specs.declared.instr.UpperOp.{UpperOp}
@@ -73,6 +75,43 @@ instr_there program gates words k d small range =
       | inl none ↦ rw none range
       | inr (j, some) ↦ rw some (instr_range program gates words k j small some)
     ]
+
+-- it writes what its word does: a relocation changes immediates alone
+upper_written : (i : Instr) (field : ℕ) → written (with_upper i field) ≡ written i
+upper_written (Upper op rd imm) field = refl
+upper_written other field = refl
+
+lower_written : (i : Instr) (field : ℕ) → written (with_lower i field) ≡ written i
+lower_written (Jalr rd rs1 imm) field = refl
+lower_written (Load op rd rs1 imm) field = refl
+lower_written (Store op rs1 rs2 imm) field = refl
+lower_written (Immediate op rd rs1 imm) field = refl
+lower_written other field = refl
+
+high_written : (i j : Instr) (value : ℤ) → high_part i value ≡ Some j → written j ≡ written i
+high_written i j value gives =
+    let g = cond_some (is_high_in_range value) (with_upper i (low_bits 20 (hi20 value))) j gives in
+    sym (ap written g.1) ∙ upper_written i (low_bits 20 (hi20 value))
+
+low_written : (i j : Instr) (value : ℤ) → low_part i value ≡ j → written j ≡ written i
+low_written i j value gives = sym (ap written gives) ∙ lower_written i (low_bits 12 (lo12 value))
+
+patched_written : (program : Program) (gates words : List ℕ) (k : ℕ) (i j : Instr) (patch : Patch) →
+    patched_instr program gates words k i patch ≡ Some j → written j ≡ written i
+patched_written program gates words k i j put.Own gives = sym (ap written (same_Some i j gives))
+patched_written program gates words k i j (put.High v) gives = high_written i j (value_at gates v) gives
+patched_written program gates words k i j (put.RelativeHigh v) gives = high_written i j (distance_to gates words k v) gives
+patched_written program gates words k i j (put.Low v) gives = low_written i j (value_at gates v) (same_Some (low_part i (value_at gates v)) j gives)
+patched_written program gates words k i j (put.RelativeLow n) gives =
+    let from = mapped (low_part i) (distance gates words n (item_of program n).patch) j gives in
+    low_written i j from.0 from.2
+
+pub instr_written : (program : Program) (gates words : List ℕ) (k : ℕ) (i j : Instr) → decoded (item_of program k).word ≡ Some i →
+    instr_at program gates words k ≡ Some j → written j ≡ written i
+unfolding instr_at
+instr_written program gates words k i j read gives =
+    let own : patched_instr program gates words k i (item_of program k).patch ≡ Some j = rw read at gives in
+    patched_written program gates words k i j (item_of program k).patch own
 
 -- no relocation stands on `lui x0`, and none on a system instruction
 own_gate : (program : Program) (gates words : List ℕ) (k : ℕ) (i j : Instr) (patch : Patch) → stands_on patch is.Gate i ≡ true →

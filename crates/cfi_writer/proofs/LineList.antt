@@ -1,25 +1,34 @@
--- The lines of classes and of places, one after another.
+-- The lines of leaves, of classes and of places, one after another.
 use Rattle.std.proofs.Common.{◌≡◌, ℕ, zero, suc, ◌+◌, ◌<◌, ◌≤◌, ◌-◌, Option, Some, None, List, [], ◌∷◌, ◌++◌, refl, length, map, take, drop, arith, ap, ◌∙◌, sym, subst, append_assoc, append-nil, get_or, Contains}
-use Rattle.std.specs.Prelude.{slice_get, slice_index, slice_index_or}
+use Rattle.std.specs.Prelude.{Bool, true, false, if◌then◌else◌, slice_get, slice_index, slice_index_or}
 use Rattle.std.specs.List.{All}
 use Rattle.std.proofs.Math.ListN.{drop_of_length-le}
 use Rattle.std.proofs.Math.Seq.{drop-cons, take-suc}
 use Rattle.std.proofs.lemmas.List.{get_or_append_left, get_or-append-add, drop_more, get_or_default, length-drop, length-map, map-append, take_all}
 use Rattle.std.proofs.lemmas.Option.{get_or_from_slice_get, slice_get_within}
 use Rattle.rv_word.specs.MemoryMap.{START}
+use Rattle.rv_word.specs.declared.version.GraphVersion.{GraphVersion}
+use Rattle.rv_word.specs.declared.version.GraphVersion.TheVariants.{OneLabel, TwoLabels, CalleeSaves}
+use Rattle.obj_input.specs.declared.item_kind.ItemKind.{ItemKind}
+use Rattle.obj_input.specs.declared.item_kind.ItemKind.TheVariants as is
 use Rattle.obj_program.specs.declared.item.Item.{Item}
-use Rattle.obj_program.specs.Program.{count, item_of, no_item}
+use Rattle.obj_program.specs.MapFit.{EndsLast}
+use Rattle.obj_program.specs.Program.{count, is_end, item_of, no_item}
 use Rattle.cfi_graph.specs.declared.line.GraphLine.{GraphLine}
 use Rattle.cfi_graph.specs.declared.line.GraphLine.TheVariants as line
 use Rattle.cfi_graph.specs.declared.line.Sort.{Sort}
 use Rattle.cfi_class.specs.Classes.{IsIn}
 use Rattle.cfi_closed.specs.declared.side.Site.{Site}
-use Rattle.cfi_closed.specs.Closed.{Side}
-use Rattle.cfi_map.specs.GraphAtMap.{ProgramAtMap, class_lines, gate, graph_lines, head_lines, line_for, place_lines, with_line}
-use Rattle.cfi_map.specs.LabelOf.{Tagged, all_classes, empty_classes, tag, tagged, with_empty}
+use Rattle.cfi_graph.specs.Graph.{has_leaves}
+use Rattle.cfi_closed.specs.Closed.{Side, is_target}
+use Rattle.cfi_leads.specs.Entries.{is_call}
+use Rattle.cfi_leads.specs.Leads.{enters}
+use Rattle.cfi_map.specs.GraphAtMap.{ProgramAtMap, arrival, arrival_to, class_lines, entered_in, gate, gate_to, graph_lines, head_lines, jump_line, jump_line_by, leaf_line, leaf_lines_from, line_for, line_of_kind, place_lines, with_line, word}
+use Rattle.cfi_map.specs.LabelOf.{Tagged, all_classes, empty_classes, site_label, tag, tagged, with_empty}
 use Rattle.cfi_writer.specs.Accepted.{IsAccepted}
 use Rattle.cfi_writer.specs.Chosen.{labels_before}
 use Rattle.cfi_writer.specs.Units.{Choice}
+use Rattle.cfi_writer.proofs.PlaceUnits.{full_aim}
 use Rattle.cfi_writer.proofs.SideLabels.{drop_more as drop_twice}
 use Rattle.cfi_writer.proofs.Starts.{before_first, before_next, counted_at}
 
@@ -31,11 +40,12 @@ split_line : (one : Option GraphLine) (rest : List GraphLine) → with_line one 
 split_line None rest = refl
 split_line (Some one) rest = refl
 
-pub next_lines : (layout : ProgramAtMap) (labels : List ℕ) (k : ℕ) (first more whole : List GraphLine) → k < count layout.program
-    → AreLines layout labels k first whole → more ≡ first ++ with_line (line_for layout labels k (item_of layout.program k)) []
-    → AreLines layout labels (k + 1) more whole
+pub next_lines : (layout : ProgramAtMap) (labels : List ℕ) (k : ℕ) (first jumped more whole : List GraphLine) → k < count layout.program
+    → AreLines layout labels k first whole → jumped ≡ first ++ with_line (jump_line layout k) []
+    → more ≡ jumped ++ with_line (line_for layout labels k (item_of layout.program k)) [] → AreLines layout labels (k + 1) more whole
 unfolding place_lines
-next_lines layout labels k first more whole below are is =
+next_lines layout labels k first jumped more whole below are jumped_is is =
+    let jump = jump_line layout k in
     let one = line_for layout labels k (item_of layout.program k) in
     let rest = place_lines layout labels (k + 1) (drop (suc k) layout.program.items) in
     let next : k + 1 ≡ suc k = omega arith in
@@ -44,8 +54,84 @@ next_lines layout labels k first more whole below are is =
     let all : first ++ place_lines layout labels k (item_of layout.program k ∷ drop (suc k) layout.program.items) ≡ whole =
     subst (λ (items : List Item). first ++ place_lines layout labels k items ≡ whole) left are in
     subst (λ (j : ℕ). more ++ place_lines layout labels (k + 1) (drop j layout.program.items) ≡ whole) (sym next)
-    (ap (λ (ls : List GraphLine). ls ++ rest) is ∙ append_assoc first (with_line one []) rest
-    ∙ ap (λ (ls : List GraphLine). first ++ ls) (split_line one rest) ∙ all)
+    (ap (λ (ls : List GraphLine). ls ++ rest) is ∙ append_assoc jumped (with_line one []) rest
+    ∙ ap (λ (ls : List GraphLine). jumped ++ ls) (split_line one rest)
+    ∙ ap (λ (ls : List GraphLine). ls ++ with_line one rest) jumped_is ∙ append_assoc first (with_line jump []) (with_line one rest)
+    ∙ ap (λ (ls : List GraphLine). first ++ ls) (split_line jump (with_line one rest)) ∙ all)
+
+-- under graphs of versions 1 and 2 there is no jump before a unit, and each direct transfer leads to a gate
+no_jump : (version : GraphVersion) (saves target : Bool) (at behind : ℕ) → has_leaves version ≡ false → jump_line_by version saves target at behind ≡ None
+no_jump OneLabel saves target at behind full = refl
+no_jump TwoLabels saves target at behind full = refl
+no_jump CalleeSaves saves target at behind full = absurd (cc)
+
+pub next_full : (layout : ProgramAtMap) (labels : List ℕ) (k : ℕ) (first more whole : List GraphLine) → k < count layout.program
+    → has_leaves layout.closed.version ≡ false → AreLines layout labels k first whole
+    → more ≡ first ++ with_line (line_of_kind (item_of layout.program k).kind (word layout k) (gate_to layout (item_of layout.program k).target)
+    (site_label labels layout.closed.sides k)) [] → AreLines layout labels (k + 1) more whole
+next_full layout labels k first more whole below full are is =
+    let item = item_of layout.program k in
+    let none = no_jump layout.closed.version (enters (entered_in layout) k) (is_target layout.closed.sides k) (gate layout k) (word layout k) full in
+    next_lines layout labels k first first more whole below are
+    (sym (append-nil first) ∙ ap (λ (one : Option GraphLine). first ++ with_line one []) (sym none))
+    (is ∙ ap (λ (target : ℕ). first ++ with_line (line_of_kind item.kind (word layout k) target (site_label labels layout.closed.sides k)) []) (sym (full_aim layout item full)))
+
+-- where callees save the sites of calls, the line of a call, and that of another place
+pub call_line : (layout : ProgramAtMap) (labels : List ℕ) (k : ℕ) (item : Item) → is_call item.kind ≡ true →
+    Some (line.Call (word layout k) (arrival_to layout item.target)) ≡ line_for layout labels k item
+call_line layout labels k item call = by_kind item.kind call
+  where
+    by_kind : (kind : ItemKind) → is_call kind ≡ true →
+        Some (line.Call (word layout k) (arrival_to layout item.target))
+        ≡ line_of_kind kind (word layout k) (if is_call kind then arrival_to layout item.target else gate_to layout item.target) (site_label labels layout.closed.sides k)
+    by_kind is.Call call = refl
+    by_kind other call = absurd (cc)
+
+pub other_line : (layout : ProgramAtMap) (labels : List ℕ) (k : ℕ) (item : Item) → is_call item.kind ≡ false →
+    line_of_kind item.kind (word layout k) (gate_to layout item.target) (site_label labels layout.closed.sides k) ≡ line_for layout labels k item
+other_line layout labels k item other =
+    ap (λ (call : Bool). line_of_kind item.kind (word layout k) (if call then arrival_to layout item.target else gate_to layout item.target)
+    (site_label labels layout.closed.sides k)) (sym other)
+
+-- and that of the jump before a unit
+pub jump_line_is : (layout : ProgramAtMap) (k : ℕ) → has_leaves layout.closed.version ≡ true →
+    jump_line layout k
+    ≡ (if enters (entered_in layout) k then Some (line.Edge (if is_target layout.closed.sides k then gate layout k + 4 else gate layout k) (word layout k)) else None)
+jump_line_is layout k lean = by_version layout.closed.version (enters (entered_in layout) k) (is_target layout.closed.sides k) lean
+  where
+    by_version : (version : GraphVersion) (saves target : Bool) → has_leaves version ≡ true →
+        jump_line_by version saves target (gate layout k) (word layout k)
+        ≡ (if saves then Some (line.Edge (if target then gate layout k + 4 else gate layout k) (word layout k)) else None)
+    by_version OneLabel saves target lean = absurd (cc)
+    by_version TwoLabels saves target lean = absurd (cc)
+    by_version CalleeSaves saves target lean = refl
+
+-- these are lines before those of the leaves that begin from index k on
+abbrev pub AreLeafLines : ProgramAtMap → ℕ → List GraphLine → List GraphLine → Type 0
+AreLeafLines layout k first whole = first ++ leaf_lines_from layout k (count layout.program - k) ≡ whole
+
+pub next_leaf : (layout : ProgramAtMap) (k : ℕ) (first more whole : List GraphLine) → k < count layout.program → AreLeafLines layout k first whole →
+    more ≡ first ++ with_line (leaf_line layout k) [] → AreLeafLines layout (k + 1) more whole
+unfolding leaf_lines_from
+next_leaf layout k first more whole below are is =
+    let rest = leaf_lines_from layout (k + 1) (count layout.program - (k + 1)) in
+    let left : count layout.program - k ≡ suc (count layout.program - (k + 1)) = omega arith in
+    ap (λ (ls : List GraphLine). ls ++ rest) is ∙ append_assoc first (with_line (leaf_line layout k) []) rest
+    ∙ ap (λ (ls : List GraphLine). first ++ ls) (split_line (leaf_line layout k) rest)
+    ∙ ap (λ (n : ℕ). first ++ leaf_lines_from layout k n) (sym left) ∙ are
+
+pub all_leaves : (layout : ProgramAtMap) (k : ℕ) (first whole : List GraphLine) → count layout.program ≤ k → AreLeafLines layout k first whole → first ≡ whole
+unfolding leaf_lines_from
+all_leaves layout k first whole past are =
+    let none : count layout.program - k ≡ 0 = omega arith in
+    sym (append-nil first) ∙ subst (λ (n : ℕ). first ++ leaf_lines_from layout k n ≡ whole) none are
+
+-- a leaf ends at a place
+pub leaf_ends : (m : Choice) → IsAccepted m → EndsLast m.layout.program
+leaf_ends m ok some =
+    let (k, counted, ends) = ok.last in
+    let last : k ≡ count m.layout.program - 1 = omega arith in
+    subst (λ (j : ℕ). is_end (item_of m.layout.program j).kind ≡ true) last ends
 
 pub all_lines : (layout : ProgramAtMap) (labels : List ℕ) (k : ℕ) (first whole : List GraphLine) → count layout.program ≤ k
     → AreLines layout labels k first whole → first ≡ whole
@@ -174,7 +260,7 @@ members_there m j side accepted there c d inside i e within =
         (i, within, get_or_default (get_or classes c d) i (get_or (get_or classes c d) i e) e within)
 
 pub joined : (layout : ProgramAtMap) (labels : List ℕ) (entry : ℕ) (first second third : List GraphLine)
-    → entry ≡ gate layout layout.entry → first ≡ head_lines layout labels
+    → entry ≡ arrival layout layout.entry → first ≡ head_lines layout labels
     → second ≡ first ++ line.Call START entry ∷ [] → third ≡ second ++ place_lines layout labels 0 layout.program.items
     → third ≡ graph_lines layout labels
 joined layout labels entry first second third entry_is first_is second_is third_is =

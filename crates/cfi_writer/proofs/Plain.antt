@@ -1,5 +1,6 @@
--- Where callers save the sites of calls: a place's lead has a word for each side where it is a target, and the size of a unit is by its kind.
-use Rattle.std.proofs.Common.{◌≡◌, ℕ, ◌*◌, ◌≤◌, Bool, true, false, List, [], ◌∷◌, length, Option, refl, ap, ◌∙◌, arith, if◌then◌else◌}
+-- Sizes of leads and of units. Where callers save the sites of calls that of a unit is by its kind. In each version a target has a word before
+-- its unit, a later store has one word, and the first store of a group the words of its mask too.
+use Rattle.std.proofs.Common.{◌≡◌, ℕ, ◌+◌, ◌*◌, ◌≤◌, Bool, true, false, List, [], ◌∷◌, length, Option, refl, arith}
 use Rattle.rv_word.specs.declared.version.GraphVersion.{GraphVersion}
 use Rattle.rv_word.specs.declared.version.GraphVersion.TheVariants.{OneLabel, TwoLabels, CalleeSaves}
 use Rattle.obj_input.specs.declared.item_kind.ItemKind.{ItemKind}
@@ -12,19 +13,9 @@ use Rattle.cfi_leads.specs.Leads.{lead_size, lead_words, words_of_entry, words_o
 use Rattle.cfi_leads.specs.Leaves.{in_leaf}
 use Rattle.cfi_map.specs.Groups.{is_short, is_store}
 use Rattle.cfi_map.specs.Placement.{is_ecall, kind_size, lean_size, size_by, size_of}
-
-lead_by : (version : GraphVersion) (of : Entered) (k : ℕ) → has_leaves version ≡ false → lead_words version of k ≡ words_of_sides of k
-lead_by OneLabel of k plain = refl
-lead_by TwoLabels of k plain = refl
-lead_by CalleeSaves of k plain = absurd (cc)
-
-pub plain_lead : (of : Entered) (k : ℕ) → has_leaves of.closed.version ≡ false →
-    lead_size of k ≡ 4 * (if is_target of.closed.sides k then length of.closed.sides else 0)
-plain_lead of k plain = ap (λ (n : ℕ). 4 * n) (lead_by of.closed.version of k plain)
-
--- none stand before what is no target
-pub no_plain_lead : (of : Entered) (k : ℕ) → has_leaves of.closed.version ≡ false → is_target of.closed.sides k ≡ false → lead_size of k ≡ 0
-no_plain_lead of k plain none = plain_lead of k plain ∙ ap (λ (b : Bool). 4 * (if b then length of.closed.sides else 0)) none
+use Rattle.cfi_unit.specs.declared.mask.Mask.TheVariants.{Shifts}
+use Rattle.cfi_unit.specs.UnitWords.{mask_words}
+use Rattle.cfi_writer.specs.Units.{mask_by}
 
 size_plain : (version : GraphVersion) (calls : Option (List ℕ)) (inside : Bool) (item : Item) (whole : Bool) → has_leaves version ≡ false →
     size_by version calls inside item whole ≡ kind_size calls item.kind (is_ecall item) whole
@@ -73,3 +64,25 @@ later_by CalleeSaves calls inside item whole store less = later_lean calls item.
 
 pub size_later : (of : Entered) (k : ℕ) (item : Item) (whole : Bool) → is_store item.kind ≡ true → whole ≡ false → size_of of k item whole ≡ 4
 size_later of k item whole store less = later_by of.closed.version of.closed.calls (in_leaf of k) item whole store less
+
+-- and the first of a group has those of its mask too
+first_kind : (calls : Option (List ℕ)) (kind : ItemKind) (ecall whole : Bool) → is_store kind ≡ true → whole ≡ true →
+    kind_size calls kind ecall whole ≡ 4 * (mask_words Shifts + 1)
+first_kind calls is.Store ecall whole store is_whole = rw is_whole refl
+first_kind calls other ecall whole store is_whole = absurd (cc)
+
+first_lean : (calls : Option (List ℕ)) (kind : ItemKind) (ecall short inside whole : Bool) → is_store kind ≡ true → whole ≡ true →
+    lean_size calls kind ecall short inside whole ≡ 4 * (mask_words (mask_by CalleeSaves short) + 1)
+first_lean calls is.Store ecall true inside whole store is_whole = rw is_whole refl
+first_lean calls is.Store ecall false inside whole store is_whole = rw is_whole refl
+first_lean calls other ecall short inside whole store is_whole = absurd (cc)
+
+first_by : (version : GraphVersion) (calls : Option (List ℕ)) (inside : Bool) (item : Item) (whole : Bool) → is_store item.kind ≡ true → whole ≡ true →
+    size_by version calls inside item whole ≡ 4 * (mask_words (mask_by version (is_short item)) + 1)
+first_by OneLabel calls inside item whole store is_whole = first_kind calls item.kind (is_ecall item) whole store is_whole
+first_by TwoLabels calls inside item whole store is_whole = first_kind calls item.kind (is_ecall item) whole store is_whole
+first_by CalleeSaves calls inside item whole store is_whole = first_lean calls item.kind (is_ecall item) (is_short item) inside whole store is_whole
+
+pub size_first : (of : Entered) (k : ℕ) (item : Item) (whole : Bool) → is_store item.kind ≡ true → whole ≡ true →
+    size_of of k item whole ≡ 4 * (mask_words (mask_by of.closed.version (is_short item)) + 1)
+size_first of k item whole store is_whole = first_by of.closed.version of.closed.calls (in_leaf of k) item whole store is_whole

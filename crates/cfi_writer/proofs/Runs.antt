@@ -1,98 +1,24 @@
 -- Units one after another: where the gate and the word of each place stand that has a unit of its own, and where the next begins; what
 -- stands in the units that are written, behind how many words.
-use Rattle.std.proofs.Common.{◌≡◌, ◌⊎◌, ℕ, zero, suc, ◌+◌, ◌*◌, ◌≤◌, ◌<◌, inl, inr, Bool, true, false, List, [], ◌∷◌, ◌++◌, length, map, get_or, Option, Some, None, refl, sym, ap, subst, ◌∙◌, arith}
-use Rattle.std.specs.Prelude.{if◌then◌else◌, option_map, slice_get, slice_index, sum}
+use Rattle.std.proofs.Common.{◌≡◌, ◌⊎◌, ℕ, zero, suc, ◌+◌, ◌*◌, ◌≤◌, ◌<◌, inl, inr, true, false, List, [], ◌∷◌, ◌++◌, length, get_or, Some, refl, sym, ap, subst, ◌∙◌, arith}
+use Rattle.std.specs.Prelude.{slice_get, slice_index, sum}
 use Rattle.std.proofs.lemmas.Bool.{cases_Bool, cases_eq}
-use Rattle.std.proofs.lemmas.List.{length-map}
 use Rattle.std.proofs.lemmas.List.Sums.{sum_by-cons}
-use Rattle.std.proofs.lemmas.Option.{same_Some, slice_get-map}
-use Rattle.rv_word.proofs.Cases.{mapped}
+use Rattle.std.proofs.lemmas.Option.{same_Some, slice_get_within}
 use Rattle.obj_program.specs.declared.item.Item.{Item}
 use Rattle.obj_program.specs.Program.{count, item_of, no_item}
-use Rattle.cfi_graph.specs.Graph.{has_leaves}
-use Rattle.cfi_closed.specs.Closed.{Side, is_target}
 use Rattle.cfi_leads.specs.Leads.{lead_size}
 use Rattle.cfi_map.specs.GraphAtMap.{entered_in, gate, word}
-use Rattle.cfi_map.specs.LabelOf.{label_at, labels_of}
 use Rattle.cfi_map.specs.Placement.{AreGates, size_of, whole_at}
 use Rattle.cfi_map.specs.Sizes.{part_sizes}
 use Rattle.cfi_unit.specs.declared.unit.Unit as U
 use Rattle.cfi_unit.specs.UnitWords.{word_count}
 use Rattle.cfi_rules.specs.Split.{unit_in}
 use Rattle.cfi_rules.proofs.UnitIn.{in_here, in_later, in_past}
-use Rattle.cfi_writer.specs.Units.{Choice, behind, is_later_at, later_from, lead, lead_unit, unit_here, unit_places, units_of}
+use Rattle.cfi_writer.specs.Units.{Choice, behind, is_later_at, later_from, lead, unit_here, unit_places, units_of}
 use Rattle.cfi_writer.proofs.Grouping.{later_below, later_store, none_later, one_later}
-use Rattle.cfi_writer.proofs.Plain.{plain_lead, size_later}
-use Rattle.cfi_writer.proofs.SideLabels.{length-labels_of}
-
--- how many bytes the words before a place's unit have
-abbrev pub lead_bytes : Choice → ℕ → ℕ
-lead_bytes m k = 4 * length (lead m k)
-
--- each of them is a word
-abbrev pub AreSingle : List U.Unit → Type 0
-AreSingle us = (j : ℕ) (u : U.Unit) → slice_get us j ≡ Some u → word_count u ≡ 1
-
--- one of them is that of a side, at a target
-pub from_lead : (m : Choice) (k j : ℕ) (u : U.Unit) → slice_get (lead m k) j ≡ Some u →
-    (o : Option ℕ) × (slice_get (labels_of m.labels m.layout.closed.sides k) j ≡ Some o) × (lead_unit o ≡ u)
-from_lead m k j u get =
-    elim (cases_Bool (is_target m.layout.closed.sides k)) [
-      | inl target ↦
-          let all = labels_of m.labels m.layout.closed.sides k in
-          let at : slice_get (map lead_unit all) j ≡ Some u = ap (λ (b : Bool). slice_get (if b then map lead_unit all else []) j) (sym target) ∙ get in
-          mapped lead_unit (slice_get all j) u (sym (slice_get-map lead_unit all j) ∙ at)
-      | inr other ↦
-          let none : None ≡ Some u = ap (λ (b : Bool). slice_get (if b then map lead_unit (labels_of m.labels m.layout.closed.sides k) else []) j) (sym other) ∙ get in
-          absurd (cc)
-    ]
-
-pub to_lead : (m : Choice) (k j : ℕ) (o : Option ℕ) → is_target m.layout.closed.sides k ≡ true → slice_get (labels_of m.labels m.layout.closed.sides k) j ≡ Some o →
-    slice_get (lead m k) j ≡ Some (lead_unit o)
-to_lead m k j o target get =
-    let all = labels_of m.labels m.layout.closed.sides k in
-    ap (λ (b : Bool). slice_get (if b then map lead_unit all else []) j) target ∙ slice_get-map lead_unit all j ∙ ap (option_map lead_unit) get
-
-lead_word_count : (o : Option ℕ) → word_count (lead_unit o) ≡ 1
-lead_word_count None = refl
-lead_word_count (Some label) = refl
-
-pub lead_single : (m : Choice) (k : ℕ) → AreSingle (lead m k)
-lead_single m k j u get =
-    let (o, at, same) = from_lead m k j u get in
-    sym (ap word_count same) ∙ lead_word_count o
-
--- no word is before a unit, or a first one
-first_label : (labels : List ℕ) (sides : List Side) (k : ℕ) → is_target sides k ≡ true → (o : Option ℕ) × (slice_get (labels_of labels sides k) 0 ≡ Some o)
-unfolding labels_of
-first_label labels [] k target = absurd (cc)
-first_label labels (side ∷ sides) k target = (label_at labels side.classes k, refl)
-
-pub lead_cases : (m : Choice) (k : ℕ) → ((lead m k ≡ []) × (is_target m.layout.closed.sides k ≡ false)) ⊎ ((o : Option ℕ) × (slice_get (lead m k) 0 ≡ Some (lead_unit o)))
-lead_cases m k =
-    elim (cases_Bool (is_target m.layout.closed.sides k)) [
-      | inl target ↦ let (o, at) = first_label m.labels m.layout.closed.sides k target in inr (o, to_lead m k 0 o target at)
-      | inr other ↦ inl (ap (λ (b : Bool). if b then map lead_unit (labels_of m.labels m.layout.closed.sides k) else []) other, other)
-    ]
-
--- they have the size that a placement gives them
-pub lead_sized : (m : Choice) (k : ℕ) → has_leaves m.layout.closed.version ≡ false → lead_size (entered_in m.layout) k ≡ lead_bytes m k
-lead_sized m k plain =
-    let all = labels_of m.labels m.layout.closed.sides k in
-    let many : length (map lead_unit all) ≡ length m.layout.closed.sides = length-map all lead_unit ∙ length-labels_of m.labels m.layout.closed.sides k in
-    elim (cases_Bool (is_target m.layout.closed.sides k)) [
-      | inl target ↦ plain_lead (entered_in m.layout) k plain ∙ rw target (ap (λ (n : ℕ). 4 * n) (sym many))
-      | inr other ↦ plain_lead (entered_in m.layout) k plain ∙ rw other refl
-    ]
-
-pub lead_few : (m : Choice) (k : ℕ) → length (lead m k) ≤ length m.layout.closed.sides
-lead_few m k =
-    let all = labels_of m.labels m.layout.closed.sides k in
-    let many : length (map lead_unit all) ≡ length m.layout.closed.sides = length-map all lead_unit ∙ length-labels_of m.labels m.layout.closed.sides k in
-    elim (cases_Bool (is_target m.layout.closed.sides k)) [
-      | inl target ↦ rw target (omega arith)
-      | inr other ↦ rw other (omega arith)
-    ]
+use Rattle.cfi_writer.proofs.Plain.{size_later}
+pub use Rattle.cfi_writer.proofs.LeadWords.{AreSingle, IsLabelled, IsLeadWord, IsSaverAt, IsWordOf, LeanLead, calls_saved, enters_bytes, from_lead, labels_there, lead_bytes, lead_cases, lead_few, lead_single, lead_sized, lean_lead, lean_lead_if, over, saver, saver_last, side_word, some_words, to_lead, words_in}
 
 -- of so many places from one on the first has a unit of its own, or has none
 pub places_more : (m : Choice) (k n : ℕ) → is_later_at m k ≡ false → unit_places m k (suc n) ≡ k ∷ unit_places m (k + 1) n
@@ -222,27 +148,6 @@ pub data IsUnit (m : Choice) (k : ℕ) (a : ℕ) (u : U.Unit) : Type 0 where
   lead_word : (j : ℕ) → slice_get (lead m k) j ≡ Some u → a ≡ gate m.layout k + 4 * j → IsUnit m k a u
   own : a ≡ word m.layout k → u ≡ unit_here m k → IsUnit m k a u
 
-in_lead : (us rest : List U.Unit) (at a : ℕ) (u : U.Unit) → AreSingle us → unit_in (us ++ rest) at a ≡ Some u →
-    ((j : ℕ) × (slice_get us j ≡ Some u) × (a ≡ at + 4 * j)) ⊎ (unit_in rest (at + 4 * length us) a ≡ Some u)
-in_lead [] rest at a u single e = let same : at ≡ at + 4 * 0 = omega arith in inr (subst (λ (b : ℕ). unit_in rest b a ≡ Some u) same e)
-in_lead (v ∷ us) rest at a u single e =
-    elim (cases_eq a at) [
-      | inl here ↦
-          let same : v ≡ u = same_Some v u (sym (in_here v (us ++ rest) at) ∙ ap (unit_in (v ∷ us ++ rest) at) (sym here) ∙ e) in
-          inl (0, ap Some same, omega arith)
-      | inr other ↦
-          let size : word_count v ≡ 1 = single 0 v refl in
-          let behind : at + 4 * word_count v ≡ at + 4 = omega arith in
-          let past : unit_in (us ++ rest) (at + 4) a ≡ Some u =
-          subst (λ (b : ℕ). unit_in (us ++ rest) b a ≡ Some u) behind (sym (in_later v (us ++ rest) at a other) ∙ e) in
-          elim (in_lead us rest (at + 4) a u (λ j w get. single (suc j) w get) past) [
-            | inl (j, get, there) ↦ inl (suc j, get, omega arith)
-            | inr later ↦
-                let last : at + 4 + 4 * length us ≡ at + 4 * length (v ∷ us) = omega arith in
-                inr (subst (λ (b : ℕ). unit_in rest b a ≡ Some u) last later)
-          ]
-    ]
-
 in_first : (v u : U.Unit) (rest : List U.Unit) (at a : ℕ) → unit_in (v ∷ rest) at a ≡ Some u →
     ((a ≡ at) × (u ≡ v)) ⊎ (unit_in rest (at + 4 * word_count v) a ≡ Some u)
 in_first v u rest at a e =
@@ -251,6 +156,31 @@ in_first v u rest at a e =
           let same : v ≡ u = same_Some v u (sym (in_here v rest at) ∙ ap (unit_in (v ∷ rest) at) (sym here) ∙ e) in
           inl (here, sym same)
       | inr other ↦ inr (sym (in_later v rest at a other) ∙ e)
+    ]
+
+in_lead : (us rest : List U.Unit) (at a : ℕ) (u : U.Unit) → AreSingle us → unit_in (us ++ rest) at a ≡ Some u →
+    ((j : ℕ) × (slice_get us j ≡ Some u) × (a ≡ at + 4 * j)) ⊎ (unit_in rest (at + 4 * words_in us) a ≡ Some u)
+in_lead [] rest at a u single e = let same : at ≡ at + 4 * 0 = omega arith in inr (subst (λ (b : ℕ). unit_in rest b a ≡ Some u) same e)
+in_lead (v ∷ []) rest at a u single e =
+    elim (in_first v u rest at a e) [
+      | inl (here, same) ↦ inl (0, ap Some (sym same), omega arith)
+      | inr later ↦
+          let last : at + 4 * word_count v ≡ at + 4 * words_in (v ∷ []) = omega arith in
+          inr (subst (λ (b : ℕ). unit_in rest b a ≡ Some u) last later)
+    ]
+in_lead (v ∷ w ∷ us) rest at a u single e =
+    elim (in_first v u ((w ∷ us) ++ rest) at a e) [
+      | inl (here, same) ↦ inl (0, ap Some (sym same), omega arith)
+      | inr later ↦
+          let size : word_count v ≡ 1 = single 0 v refl (omega arith) in
+          let behind : at + 4 * word_count v ≡ at + 4 = omega arith in
+          let past : unit_in ((w ∷ us) ++ rest) (at + 4) a ≡ Some u = subst (λ (b : ℕ). unit_in ((w ∷ us) ++ rest) b a ≡ Some u) behind later in
+          elim (in_lead (w ∷ us) rest (at + 4) a u (λ j x get before. single (suc j) x get (omega arith)) past) [
+            | inl (j, get, there) ↦ inl (suc j, get, omega arith)
+            | inr more ↦
+                let last : at + 4 + 4 * words_in (w ∷ us) ≡ at + 4 * words_in (v ∷ w ∷ us) = omega arith in
+                inr (subst (λ (b : ℕ). unit_in rest b a ≡ Some u) last more)
+          ]
     ]
 
 -- each unit that is written is a place's
@@ -282,13 +212,11 @@ found_at m at last (k ∷ places) a u run e =
     ]
 
 -- and each place has its words and its unit
-past_lead : (us rest : List U.Unit) (at a : ℕ) (u : U.Unit) → AreSingle us → unit_in rest (at + 4 * length us) a ≡ Some u → unit_in (us ++ rest) at a ≡ Some u
-past_lead [] rest at a u single e = let same : at + 4 * 0 ≡ at = omega arith in subst (λ (b : ℕ). unit_in rest b a ≡ Some u) same e
-past_lead (v ∷ us) rest at a u single e =
-    let size : word_count v ≡ 1 = single 0 v refl in
-    let behind : at + 4 * length (v ∷ us) ≡ at + 4 * word_count v + 4 * length us = omega arith in
-    in_past v u (us ++ rest) at a
-    (past_lead us rest (at + 4 * word_count v) a u (λ j w get. single (suc j) w get) (subst (λ (b : ℕ). unit_in rest b a ≡ Some u) behind e))
+past_lead : (us rest : List U.Unit) (at a : ℕ) (u : U.Unit) → unit_in rest (at + 4 * words_in us) a ≡ Some u → unit_in (us ++ rest) at a ≡ Some u
+past_lead [] rest at a u e = let same : at + 4 * 0 ≡ at = omega arith in subst (λ (b : ℕ). unit_in rest b a ≡ Some u) same e
+past_lead (v ∷ us) rest at a u e =
+    let behind : at + 4 * words_in (v ∷ us) ≡ at + 4 * word_count v + 4 * words_in us = omega arith in
+    in_past v u (us ++ rest) at a (past_lead us rest (at + 4 * word_count v) a u (subst (λ (b : ℕ). unit_in rest b a ≡ Some u) behind e))
 
 at_lead : (us rest : List U.Unit) (at a j : ℕ) (u : U.Unit) → AreSingle us → slice_get us j ≡ Some u → a ≡ at + 4 * j → unit_in (us ++ rest) at a ≡ Some u
 at_lead [] rest at a j u single get here = absurd (cc)
@@ -296,8 +224,10 @@ at_lead (v ∷ us) rest at a zero u single get here =
     let same : a ≡ at = omega arith in
     ap (unit_in (v ∷ us ++ rest) at) same ∙ in_here v (us ++ rest) at ∙ get
 at_lead (v ∷ us) rest at a (suc j) u single get here =
-    let size : word_count v ≡ 1 = single 0 v refl in
-    in_past v u (us ++ rest) at a (at_lead us rest (at + 4 * word_count v) a j u (λ i w at. single (suc i) w at) get (omega arith))
+    let within = slice_get_within us j u get in
+    let size : word_count v ≡ 1 = single 0 v refl (omega arith) in
+    in_past v u (us ++ rest) at a
+    (at_lead us rest (at + 4 * word_count v) a j u (λ i w at before. single (suc i) w at (omega arith)) get (omega arith))
 
 pub stands_at : (m : Choice) (at last : ℕ) (places : List ℕ) (i k : ℕ) → Run m at places last → slice_get places i ≡ Some k →
     unit_in (units_of m places) at (word m.layout k) ≡ Some (unit_here m k)
@@ -309,10 +239,10 @@ stands_at m at last (x ∷ places) zero k run get =
     let there : unit_in (unit_here m x ∷ units_of m places) (at + lead_bytes m x) (word m.layout x) ≡ Some (unit_here m x) =
     ap (unit_in (unit_here m x ∷ units_of m places) (at + lead_bytes m x)) run.1 ∙ here in
     subst (λ (y : ℕ). unit_in (units_of m (x ∷ places)) at (word m.layout y) ≡ Some (unit_here m y)) same
-    (past_lead (lead m x) (unit_here m x ∷ units_of m places) at (word m.layout x) (unit_here m x) (lead_single m x) there)
+    (past_lead (lead m x) (unit_here m x ∷ units_of m places) at (word m.layout x) (unit_here m x) there)
 stands_at m at last (x ∷ places) (suc i) k run get =
     let later = stands_at m (at + lead_bytes m x + 4 * word_count (unit_here m x)) last places i k run.2 get in
-    past_lead (lead m x) (unit_here m x ∷ units_of m places) at (word m.layout k) (unit_here m k) (lead_single m x)
+    past_lead (lead m x) (unit_here m x ∷ units_of m places) at (word m.layout k) (unit_here m k)
     (in_past (unit_here m x) (unit_here m k) (units_of m places) (at + lead_bytes m x) (word m.layout k) later)
 
 pub lead_stands : (m : Choice) (at last : ℕ) (places : List ℕ) (i k j : ℕ) (u : U.Unit) → Run m at places last → slice_get places i ≡ Some k →
@@ -326,5 +256,5 @@ lead_stands m at last (x ∷ places) zero k j u run get some =
     (ap (λ (n : ℕ). gate m.layout n + 4 * j) same ∙ ap (λ (b : ℕ). b + 4 * j) run.0)
 lead_stands m at last (x ∷ places) (suc i) k j u run get some =
     let later = lead_stands m (at + lead_bytes m x + 4 * word_count (unit_here m x)) last places i k j u run.2 get some in
-    past_lead (lead m x) (unit_here m x ∷ units_of m places) at (gate m.layout k + 4 * j) u (lead_single m x)
+    past_lead (lead m x) (unit_here m x ∷ units_of m places) at (gate m.layout k + 4 * j) u
     (in_past (unit_here m x) u (units_of m places) (at + lead_bytes m x) (gate m.layout k + 4 * j) later)

@@ -13,16 +13,15 @@ use Rattle.cfi_graph.specs.declared.line.Sort.{Sort}
 use Rattle.cfi_graph.specs.declared.line.Sort.TheVariants.{Both, Calls, Jumps}
 use Rattle.cfi_graph.specs.declared.line.SiteKind.{SiteKind}
 use Rattle.cfi_graph.specs.declared.line.SiteKind.TheVariants as kinds
-use Rattle.cfi_graph.specs.Graph.{ClassLine, has_leaves, is_sort_of}
+use Rattle.cfi_graph.specs.Graph.{ClassLine, is_sort_of}
 use Rattle.cfi_closed.specs.declared.side.Site.{Site}
 use Rattle.cfi_closed.specs.Closed.{Side, has_site, is_of, is_target_of, sorts_of}
 use Rattle.cfi_map.specs.GraphAtMap.{class_lines}
 use Rattle.cfi_map.specs.LabelOf.{Tagged, all_classes, class_count, empty_classes, label_at, labels_of, site_label, site_number, tag, tagged, with_empty}
-use Rattle.cfi_unit.specs.declared.target_word.TargetWord.TheVariants.{First, Second}
 use Rattle.cfi_unit.specs.UnitWords.{past}
-use Rattle.cfi_rules.specs.Lines.{is_among, jump_word, read_of, serves, targets_for}
+use Rattle.cfi_rules.specs.Lines.{call_word, is_among, jump_word, read_of, serves, targets_for}
 use Rattle.cfi_writer.specs.Chosen.{labels_before}
-use Rattle.cfi_writer.specs.SideLaws.{GatesListed, SitesServed, TargetsBear, word_read}
+use Rattle.cfi_writer.specs.SideLaws.{GatesListed, SitesServed, TargetsBear, word_asked, word_of_side}
 use Rattle.cfi_writer.proofs.ClassLines.{among_from, among_to, class_given, class_line, line_get, served_by, targets_of}
 use Rattle.cfi_writer.proofs.Labelled.{has_in, label_found, label_once, labelled, site_below}
 
@@ -214,37 +213,30 @@ each_sort P both calls jumps saved_calls saved_jumps OneLabel j sort e = one_sor
 each_sort P both calls jumps saved_calls saved_jumps TwoLabels j sort e = two_sorts (P TwoLabels) calls jumps j sort e
 each_sort P both calls jumps saved_calls saved_jumps CalleeSaves j sort e = two_sorts (P CalleeSaves) saved_calls saved_jumps j sort e
 
-sort_word : (version : GraphVersion) (j : ℕ) (sort : Sort) → slice_get (sorts_of version) j ≡ Some sort → has_leaves version ≡ false → past (read_of version sort) ≡ 4 * j
-sort_word =
-    each_sort (λ version j sort. has_leaves version ≡ false → past (read_of version sort) ≡ 4 * j) (λ full. refl) (λ full. refl) (λ full. refl)
-    (λ full. absurd (cc)) (λ full. absurd (cc))
+pub sort_word : (version : GraphVersion) (j : ℕ) (sort : Sort) → slice_get (sorts_of version) j ≡ Some sort → past (read_of version sort) ≡ 4 * word_of_side version j
+sort_word = each_sort (λ version j sort. past (read_of version sort) ≡ 4 * word_of_side version j) refl refl refl refl refl
 
-reads_first : (kind : SiteKind) → word_read First kind ≡ First
-reads_first kinds.Call = refl
-reads_first kinds.Jump = refl
+-- what the check of each computed transfer reads, in which its class is to serve it
+both_serve : (kind : SiteKind) → serves Both kind (word_asked OneLabel kind) ≡ true
+both_serve kinds.Call = refl
+both_serve kinds.Jump = refl
 
-calls_serve : (kind : SiteKind) → is_of Calls kind ≡ true → serves Calls kind (word_read Second kind) ≡ true
-calls_serve kinds.Call of = refl
-calls_serve kinds.Jump of = absurd (cc)
+calls_serve : (version : GraphVersion) (kind : SiteKind) → serves Calls kinds.Call (call_word version) ≡ true → is_of Calls kind ≡ true →
+    serves Calls kind (word_asked version kind) ≡ true
+calls_serve version kinds.Call serving of = serving
+calls_serve version kinds.Jump serving of = absurd (cc)
 
-first_calls_serve : (kind : SiteKind) → is_of Calls kind ≡ true → serves Calls kind (word_read First kind) ≡ true
-first_calls_serve kinds.Call of = refl
-first_calls_serve kinds.Jump of = absurd (cc)
-
-first_jumps_serve : (kind : SiteKind) → is_of Jumps kind ≡ true → serves Jumps kind (word_read First kind) ≡ true
-first_jumps_serve kinds.Jump of = refl
-first_jumps_serve kinds.Call of = absurd (cc)
-
-jumps_serve : (kind : SiteKind) → is_of Jumps kind ≡ true → serves Jumps kind (word_read Second kind) ≡ true
-jumps_serve kinds.Jump of = refl
-jumps_serve kinds.Call of = absurd (cc)
+jumps_serve : (version : GraphVersion) (kind : SiteKind) → serves Jumps kinds.Jump (jump_word version) ≡ true → is_of Jumps kind ≡ true →
+    serves Jumps kind (word_asked version kind) ≡ true
+jumps_serve version kinds.Call serving of = absurd (cc)
+jumps_serve version kinds.Jump serving of = serving
 
 sort_serves : (version : GraphVersion) (j : ℕ) (sort : Sort) (kind : SiteKind) → slice_get (sorts_of version) j ≡ Some sort → is_of sort kind ≡ true →
-    serves sort kind (word_read (jump_word version) kind) ≡ true
+    serves sort kind (word_asked version kind) ≡ true
 sort_serves version j sort kind =
-    each_sort (λ version j sort. is_of sort kind ≡ true → serves sort kind (word_read (jump_word version) kind) ≡ true)
-    (λ of. ap (serves Both kind) (reads_first kind)) (calls_serve kind) (jumps_serve kind)
-    (first_calls_serve kind) (first_jumps_serve kind) version j sort
+    each_sort (λ version j sort. is_of sort kind ≡ true → serves sort kind (word_asked version kind) ≡ true)
+    (λ of. both_serve kind) (calls_serve TwoLabels kind refl) (jumps_serve TwoLabels kind refl)
+    (calls_serve CalleeSaves kind refl) (jumps_serve CalleeSaves kind refl) version j sort
 
 pub sort_fits : (version : GraphVersion) (j : ℕ) (sort : Sort) → slice_get (sorts_of version) j ≡ Some sort → is_sort_of version sort ≡ true
 sort_fits = each_sort (λ version j sort. is_sort_of version sort ≡ true) refl refl refl refl refl
@@ -255,9 +247,9 @@ pub sort_get : (version : GraphVersion) (sides : List Side) → map (λ (s : Sid
 sort_get version sides sorts j side there =
     sym (ap (λ (all : List Sort). slice_get all j) sorts) ∙ slice_get-map (λ (s : Side). s.sort) sides j ∙ ap (option_map (λ (s : Side). s.sort)) there
 
-sort_at : (version : GraphVersion) (sides : List Side) → has_leaves version ≡ false → map (λ (s : Side). s.sort) sides ≡ sorts_of version → (j : ℕ) (side : Side) → slice_get sides j ≡ Some side →
-    past (read_of version side.sort) ≡ 4 * j
-sort_at version sides full sorts j side there = sort_word version j side.sort (sort_get version sides sorts j side there) full
+sort_at : (version : GraphVersion) (sides : List Side) → map (λ (s : Side). s.sort) sides ≡ sorts_of version → (j : ℕ) (side : Side) → slice_get sides j ≡ Some side →
+    past (read_of version side.sort) ≡ 4 * word_of_side version j
+sort_at version sides sorts j side there = sort_word version j side.sort (sort_get version sides sorts j side there)
 
 pub targets_bear : TargetsBear
 targets_bear version gates labels sides are n a c e among =
@@ -283,7 +275,7 @@ targets_bear version gates labels sides are n a c e among =
       target = any_get (is_target_of k) sides of.index of.side of.there (any_get (has k) of.side.classes of.number line.class.class member there);
       word =
           sym (ap (λ (x : ClassLine). past (read_of version x.sort)) line.line_is) ∙ sym (ap (λ (s : Sort). past (read_of version s)) of.sort_is)
-          ∙ sort_at version sides are.full are.sorts of.index of.side of.there;
+          ∙ sort_at version sides are.sorts of.index of.side of.there;
       label = to_side labels sides k of.index of.side of.there ∙ ap Some found ∙ ap (λ (x : ClassLine). Some (Some x.label)) line.line_is;
     }
 
@@ -299,7 +291,7 @@ gates_listed version gates labels sides are k j label c e asked =
     to_tagged sides j of.index side of.class there (in_more side.classes (empty_classes side.sites) of.index of.class of.class_is) in
     let one : tag side.sort of.class ≡ t = same_Some (tag side.sort of.class) t (sym tag_is ∙ ap (slice_get (tagged sides)) same ∙ class_is) in
     let line : class_line gates label (tag side.sort of.class) ≡ c = ap (class_line gates label) one ∙ line_is in (
-      sym (ap (λ (x : ClassLine). past (read_of version x.sort)) line) ∙ sort_at version sides are.full are.sorts j side there,
+      sym (ap (λ (x : ClassLine). past (read_of version x.sort)) line) ∙ sort_at version sides are.sorts j side there,
       sym (ap (λ (x : ClassLine). is_among (slice_index gates k) x.targets) line) ∙ among_to (slice_index gates) of.class k of.member,
     )
 
@@ -359,7 +351,7 @@ sites_served version gates labels sides are k kind at =
     let given = class_given gates labels (tagged sides) (before + number) label (tag at.side.sort class) label_is tag_is
     (λ i also. label_once labels are.rising i (before + number) label also label_is) in
     let same : site_label labels sides k ≡ label = site_at labels sides k at.index at.side at.there at.site at.alone ∙ drop_index labels before number in
-    let which = word_read (jump_word version) kind in
+    let which = word_asked version kind in
     ap (targets_for lines kind which) same
     ∙ served_by lines kind which label (class_line gates label (tag at.side.sort class)) given
     (sort_serves version at.index at.side.sort kind (sort_get version sides are.sorts at.index at.side at.there) at.sort)

@@ -1,41 +1,44 @@
 -- What is accepted, place by place: the instruction of each is of its kind and in range, the unit of each that has one stands at its word
 -- and the words before that at its gate, nothing else stands in the code, and all of it lies in the region of code.
 use Rattle.std.proofs.Common.{◌≡◌, ℕ, zero, suc, ◌+◌, ◌*◌, ◌%◌, ◌≤◌, ◌<◌, inl, inr, Bool, true, false, List, [], length, Option, Some, refl, sym, ap, subst, ◌∙◌, arith, unwrap_or}
-use Rattle.std.specs.Prelude.{◌&&◌, not, is_some, slice_get, sum}
+use Rattle.std.specs.Prelude.{◌&&◌, ◌-◌, not, is_some, slice_get, sum}
 use Rattle.std.proofs.lemmas.Bool.{and_from, cases_Bool, cases_eq, not_from_false, or_left, or_right}
-use Rattle.std.proofs.lemmas.Option.{slice_get_within}
 use Rattle.rv_word.specs.MemoryMap.{CODE_SIZE, CODE_START}
+use Rattle.rv_word.specs.declared.version.GraphVersion.{GraphVersion}
+use Rattle.rv_word.specs.declared.version.GraphVersion.TheVariants.{OneLabel, TwoLabels, CalleeSaves}
 use Rattle.rv_word.proofs.Cases.{cases_Option}
 use Rattle.rv_word.proofs.Profiles.{LaidOut, laid_out}
 use Rattle.rv_instr.specs.InRange.{IsInstr}
 use Rattle.rv_instr.specs.declared.instr.Instr.{Instr}
 use Rattle.rv_instr.specs.declared.instr.Instr.TheVariants as I
-use Rattle.obj_input.specs.declared.item_kind.ItemKind.{ItemKind}
-use Rattle.obj_input.specs.declared.item_kind.ItemKind.TheVariants as is
 use Rattle.obj_program.specs.AtMap.{instr_at}
 use Rattle.obj_program.specs.Program.{count, is_end, item_of}
 use Rattle.obj_program.specs.Suits.{names_reserved, suits}
 use Rattle.obj_program.proofs.Kept.{kept}
-use Rattle.cfi_map.specs.GraphAtMap.{entered_in, gate, word, words_at}
-use Rattle.cfi_leads.specs.Leads.{lead_size}
+use Rattle.cfi_graph.specs.Graph.{has_leaves}
+use Rattle.cfi_leads.specs.Leads.{enters, lead_size}
+use Rattle.cfi_leads.specs.Leaves.{in_leaf}
+use Rattle.cfi_map.specs.GraphAtMap.{arrival, arrival_by, entered_in, gate, word, words_at}
 use Rattle.cfi_map.specs.Groups.{is_store}
-use Rattle.cfi_map.specs.Placement.{is_ecall, kind_size, size_of, whole_at}
+use Rattle.cfi_map.specs.Placement.{size_of, whole_at}
 use Rattle.cfi_map.specs.Sizes.{part_sizes}
 use Rattle.cfi_map.proofs.PartSizes.{unit_many}
 use Rattle.cfi_unit.specs.declared.unit.Unit as U
-use Rattle.cfi_unit.specs.UnitWords.{word_count}
+use Rattle.cfi_unit.specs.declared.unit.Unit.TheVariants as V
+use Rattle.cfi_unit.specs.UnitWords.{mask_words, word_count}
 use Rattle.cfi_rules.specs.Placed.{code_from}
 use Rattle.cfi_rules.specs.Sound.{StartsIn}
 use Rattle.cfi_rules.specs.Split.{unit_in}
 use Rattle.cfi_rules.proofs.UnitIn.{length-placed_code, lies}
 use Rattle.cfi_writer.specs.Accepted.{IsAccepted}
-use Rattle.cfi_writer.specs.Units.{Choice, behind, entry_gate, instr_of, is_later_at, lead, lead_unit, unit_here, unit_places, units}
+use Rattle.cfi_writer.specs.Units.{Choice, behind, entry_arrival, instr_of, is_later_at, lead, mask_at, unit_here, unit_places, units}
 use Rattle.cfi_writer.proofs.CodeRoom.{run_bytes, sized, whole_run}
+use Rattle.cfi_writer.proofs.Entering.{leaf_unled}
 use Rattle.cfi_writer.proofs.GateSteps.{next_from, within}
 use Rattle.cfi_writer.proofs.Grouping.{first_behind, later_behind, no_first_later, none_behind, one_later, other_first, store_before, whole_first}
 use Rattle.cfi_writer.proofs.InstrAt.{instr_there}
-use Rattle.cfi_writer.proofs.Plain.{plain_size}
-use Rattle.cfi_writer.proofs.Runs.{IsUnit, Run, found_at, later_size, lead_bytes, lead_cases, lead_sized, lead_stands, place_among, place_there, stands_at}
+use Rattle.cfi_writer.proofs.Plain.{size_first}
+use Rattle.cfi_writer.proofs.Runs.{AreSized, IsUnit, Run, found_at, labels_there, later_size, lead_bytes, lead_cases, lead_stands, place_among, place_there, saver_last, some_words, stands_at, words_in}
 use Rattle.cfi_writer.proofs.UnitOf.{is_right}
 
 -- where a unit of the code may lie, the first of which stands at an address
@@ -61,14 +64,16 @@ pub record Behind (m : Choice) (k : ℕ) : Type 0 where
   pub store : is_store (item_of m.layout.program first).kind ≡ true
   pub is_first : is_later_at m first ≡ false
 
-first_size : (calls : Option (List ℕ)) (kind : ItemKind) (ecall whole : Bool) → is_store kind ≡ true → whole ≡ true → kind_size calls kind ecall whole ≡ 16
-first_size calls is.Store ecall whole store is_whole = rw is_whole refl
-first_size calls other ecall whole store is_whole = absurd (cc)
+-- calls arrive before the unit at what saves their sites
+arrival_saves : (version : GraphVersion) (from at : ℕ) (saves : Bool) → has_leaves version ≡ true → saves ≡ true → arrival_by version saves from at ≡ at - 20
+arrival_saves OneLabel from at saves leaves is = absurd (cc)
+arrival_saves TwoLabels from at saves leaves is = absurd (cc)
+arrival_saves CalleeSaves from at saves leaves is = rw is refl
 
 module _ (m : Choice) (ok : IsAccepted m) where
   -- where the parts of its image stand
   pub laid : LaidOut m.layout.profile
-  laid = laid_out m.layout.profile (inl ok.profile)
+  laid = laid_out m.layout.profile ok.profile
 
   pub instr_in_range : (k : ℕ) → k < count m.layout.program → IsInstr (instr_of m k)
   instr_in_range k below = instr_there m.layout.program m.layout.gates (words_at m.layout) k I.Ebreak (ok.words k below) tt
@@ -94,7 +99,7 @@ module _ (m : Choice) (ok : IsAccepted m) where
 
   pub the_run : Run m m.layout.profile.units_from (unit_places m 0 (count m.layout.program))
       (m.layout.profile.units_from + sum (part_sizes (entered_in m.layout) m.whole 0 m.layout.program.items))
-  the_run = whole_run m ok.sound ok.values ok.version ok.groups m.layout.gates refl ok.legal
+  the_run = whole_run m ok.sound ok.values (labels_there m ok) ok.groups m.layout.gates refl ok.legal
 
   -- how the code ends
   whole_bytes : m.layout.profile.units_from + 4 * length (code_from m.layout.profile.units_from (units m))
@@ -107,15 +112,19 @@ module _ (m : Choice) (ok : IsAccepted m) where
       let (i, get) = place_among m 0 (count m.layout.program) k (omega arith) (omega arith) first in
       stands_at m m.layout.profile.units_from _ (unit_places m 0 (count m.layout.program)) i k the_run get
 
+  -- the sizes of its leads and its units
+  pub sizes : AreSized m
+  sizes = sized m ok.sound ok.values (labels_there m ok) ok.groups
+
   -- words stand before no later store
   pub led_first : (k j : ℕ) (u : U.Unit) → slice_get (lead m k) j ≡ Some u → is_later_at m k ≡ false
   led_first k j u some =
       elim (cases_Bool (is_later_at m k)) [
         | inr first ↦ first
         | inl later ↦
-            let within = slice_get_within (lead m k) j u some in
-            let bytes = lead_sized m k ok.version in
-            let none = (sized m ok.sound ok.values ok.version ok.groups).later k later in
+            let words = some_words (lead m k) j u some in
+            let bytes = sizes.led k in
+            let none = sizes.later k later in
             absurd (omega arith)
       ]
 
@@ -126,12 +135,12 @@ module _ (m : Choice) (ok : IsAccepted m) where
       lead_stands m m.layout.profile.units_from _ (unit_places m 0 (count m.layout.program)) i k j u the_run get some
 
   pub word_is : (k : ℕ) → word m.layout k ≡ gate m.layout k + lead_bytes m k
-  word_is k = ap (λ n. gate m.layout k + n) (lead_sized m k ok.version)
+  word_is k = ap (λ n. gate m.layout k + n) (sizes.led k)
 
   -- where no words are before a place's unit, it stands at its gate
   pub at_gate : (k : ℕ) → lead m k ≡ [] → word m.layout k ≡ gate m.layout k
   at_gate k none =
-      let bytes : lead_bytes m k ≡ 0 = ap (λ (us : List U.Unit). 4 * length us) none in
+      let bytes : lead_bytes m k ≡ 0 = ap (λ (us : List U.Unit). 4 * words_in us) none in
       let behind = word_is k in
       omega arith
 
@@ -139,14 +148,28 @@ module _ (m : Choice) (ok : IsAccepted m) where
   pub gate_starts : (k : ℕ) → k < count m.layout.program → is_later_at m k ≡ false → (u : U.Unit) × (unit_in (units m) m.layout.profile.units_from (gate m.layout k) ≡ Some u)
   gate_starts k below first =
       elim (lead_cases m k) [
-        | inl (none, other) ↦ (unit_here m k, ap (unit_in (units m) m.layout.profile.units_from) (sym (at_gate k none)) ∙ unit_there k below first)
-        | inr (o, some) ↦
+        | inl none ↦ (unit_here m k, ap (unit_in (units m) m.layout.profile.units_from) (sym (at_gate k none)) ∙ unit_there k below first)
+        | inr (u, some) ↦
             let start : gate m.layout k ≡ gate m.layout k + 4 * 0 = omega arith in
-            (lead_unit o, ap (unit_in (units m) m.layout.profile.units_from) start ∙ lead_there k 0 (lead_unit o) below some)
+            (u, ap (unit_in (units m) m.layout.profile.units_from) start ∙ lead_there k 0 u below some)
       ]
 
   pub starts : (k : ℕ) → k < count m.layout.program → is_later_at m k ≡ false → StartsIn m.layout.profile (units m) (gate m.layout k)
   starts k below first = let (u, e) = gate_starts k below first in ap is_some e
+
+  -- in a leaf no words stand before a place's unit
+  pub no_lead_in_leaf : (k : ℕ) → in_leaf (entered_in m.layout) k ≡ true → word m.layout k ≡ gate m.layout k
+  no_lead_in_leaf k inside = let none = leaf_unled (entered_in m.layout) k inside in omega arith
+
+  -- where calls enter a place that saves their sites, that stands
+  pub saver_at : (k : ℕ) → k < count m.layout.program → has_leaves m.layout.closed.version ≡ true → enters (entered_in m.layout) k ≡ true →
+      unit_in (units m) m.layout.profile.units_from (arrival m.layout k) ≡ Some V.Enter
+  saver_at k below leaves saves =
+      let (j, is) = saver_last m (labels_there m ok) leaves k saves in
+      let behind = is.behind in
+      let own = word_is k in
+      let at : arrival m.layout k ≡ gate m.layout k + 4 * j = arrival_saves m.layout.closed.version (gate m.layout k) (word m.layout k) _ leaves saves ∙ omega arith in
+      ap (unit_in (units m) m.layout.profile.units_from) at ∙ lead_there k j V.Enter below is.there
 
   -- what starts in the code is a place's
   pub found : (a : ℕ) (u : U.Unit) → unit_in (units m) m.layout.profile.units_from a ≡ Some u → Place m a u
@@ -161,7 +184,7 @@ module _ (m : Choice) (ok : IsAccepted m) where
       let from = at.from in
       let to = at.to in
       let round = at.round in
-      let whole = length-placed_code m.layout.profile (inl ok.profile) (entry_gate m) (units m) in
+      let whole = length-placed_code m.layout.profile ok.profile (entry_arrival m) (units m) in
       let room = ok.room in
       let even = laid.round in
       record { from = from; to = omega arith; round = round ∙ even }
@@ -172,7 +195,7 @@ module _ (m : Choice) (ok : IsAccepted m) where
       let low = at.low in
       let high = at.high in
       let all = whole_bytes in
-      let whole = length-placed_code m.layout.profile (inl ok.profile) (entry_gate m) (units m) in
+      let whole = length-placed_code m.layout.profile ok.profile (entry_arrival m) (units m) in
       let room = ok.room in
       (low, omega arith, at.round laid.round)
 
@@ -204,18 +227,17 @@ module _ (m : Choice) (ok : IsAccepted m) where
 
   -- a later store's word is its gate
   pub later_word : (k : ℕ) → is_later_at m k ≡ true → word m.layout k ≡ gate m.layout k
-  later_word k later = let none = (sized m ok.sound ok.values ok.version ok.groups).later k later in omega arith
+  later_word k later = let none = sizes.later k later in omega arith
 
   -- the gates behind the stores of a group
   pub group_gate : (k i : ℕ) → is_store (item_of m.layout.program k).kind ≡ true → is_later_at m k ≡ false → i ≤ behind m k → k + (i + 1) < count m.layout.program →
-      gate m.layout (k + (i + 1)) ≡ word m.layout k + 4 * (4 + i)
+      gate m.layout (k + (i + 1)) ≡ word m.layout k + 4 * (mask_words (mask_at m k) + (i + 1))
   group_gate k zero store first few below =
       let start : k + (0 + 1) ≡ k + 1 = omega arith in
       let next = next_gate k (omega arith) in
       let whole = whole_first m k store first in
-      let size : size_of (entered_in m.layout) k (item_of m.layout.program k) (whole_at m.whole k) ≡ 16 =
-      plain_size (entered_in m.layout) k (item_of m.layout.program k) (whole_at m.whole k) ok.version
-      ∙ first_size m.layout.closed.calls (item_of m.layout.program k).kind (is_ecall (item_of m.layout.program k)) (whole_at m.whole k) store whole in
+      let size : size_of (entered_in m.layout) k (item_of m.layout.program k) (whole_at m.whole k) ≡ 4 * (mask_words (mask_at m k) + 1) =
+      size_first (entered_in m.layout) k (item_of m.layout.program k) (whole_at m.whole k) store whole in
       ap (gate m.layout) start ∙ omega arith
   group_gate k (suc i) store first few below =
       let before = group_gate k i store first (omega arith) (omega arith) in
@@ -230,13 +252,12 @@ module _ (m : Choice) (ok : IsAccepted m) where
   pub gate_after : (k : ℕ) → is_later_at m k ≡ false → k + (behind m k + 1) < count m.layout.program →
       gate m.layout (k + (behind m k + 1)) ≡ word m.layout k + 4 * word_count (unit_here m k)
   gate_after k first below =
-      let size = (sized m ok.sound ok.values ok.version ok.groups).first k (omega arith) first in
+      let size = sizes.first k (omega arith) first in
       elim (cases_Bool (is_store (item_of m.layout.program k).kind)) [
         | inl store ↦
             let last = group_gate k (behind m k) store first (omega arith) below in
-            let whole =
-            plain_size (entered_in m.layout) k (item_of m.layout.program k) (whole_at m.whole k) ok.version
-            ∙ first_size m.layout.closed.calls (item_of m.layout.program k).kind (is_ecall (item_of m.layout.program k)) (whole_at m.whole k) store (whole_first m k store first) in
+            let whole : size_of (entered_in m.layout) k (item_of m.layout.program k) (whole_at m.whole k) ≡ 4 * (mask_words (mask_at m k) + 1) =
+            size_first (entered_in m.layout) k (item_of m.layout.program k) (whole_at m.whole k) store (whole_first m k store first) in
             omega arith
         | inr other ↦
             let none = none_behind m ok.groups k other in

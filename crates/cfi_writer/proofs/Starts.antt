@@ -1,10 +1,9 @@
 -- Where the labels of each side begin, and the labels of a side among all.
-use Rattle.std.proofs.Common.{◌≡◌, ℕ, zero, suc, ◌+◌, ◌-◌, ◌<◌, ◌≤◌, ◌^◌, List, [], ◌∷◌, ◌++◌, length, length-append, map, drop, Some, get_or, refl, sym, ap, subst, ◌∙◌, arith, add-one, inl, inr}
+use Rattle.std.proofs.Common.{◌≡◌, ℕ, zero, suc, ◌+◌, ◌-◌, ◌<◌, ◌≤◌, List, [], ◌∷◌, ◌++◌, length, length-append, map, drop, Some, get_or, refl, sym, ap, ◌∙◌, arith, add-one, inl, inr}
 use Rattle.std.specs.Prelude.{slice_get, slice_index}
-use Rattle.std.specs.List.{All}
 use Rattle.std.proofs.lemmas.Bool.{cases_lt}
 use Rattle.std.proofs.Math.Seq.{get_or-append_seam}
-use Rattle.std.proofs.lemmas.List.{get_or_append_left, get_or-drop, length-drop, length-map}
+use Rattle.std.proofs.lemmas.List.{get_or_append_left, length-drop, length-map}
 use Rattle.std.proofs.lemmas.Option.{slice_get-get_or}
 use Rattle.cfi_closed.specs.Closed.{Side}
 use Rattle.cfi_map.specs.LabelOf.{all_classes, class_count, tag, tagged}
@@ -96,19 +95,7 @@ module _ (sides : List Side) (starts : List ℕ) (are : AreStarts sides starts) 
     pub count_is : slice_index starts (j + 1) - slice_index starts j ≡ class_count side
     count_is = omega (arith, start_at, start_after)
 
--- labels from an index on are small, and enough for a side
-pub small_behind : (labels : List ℕ) (n : ℕ) → All (λ label. label < 2 ^ 20) labels → All (λ label. label < 2 ^ 20) (drop n labels)
-small_behind labels n small i d inside =
-    let within : n + i < length labels = omega (arith, inside, length-drop n labels) in
-    subst (λ (x : ℕ). x < 2 ^ 20) (sym (get_or-drop n labels i d)) (small (n + i) d within)
-
+-- labels from an index on are enough for a side
 pub enough_behind : (sides : List Side) (labels : List ℕ) (j : ℕ) (side : Side) → length labels ≡ length (tagged sides) → slice_get sides j ≡ Some side →
     class_count side ≤ length (drop (labels_before sides j) labels)
 enough_behind sides labels j side counted there = omega (arith, counted, counted_at sides j side there, length-drop (labels_before sides j) labels)
-
-pub all_starts : (sides : List Side) (starts more : List ℕ) (j next : ℕ) → more ≡ starts ++ next ∷ [] → length starts ≡ j → next ≡ labels_before sides j →
-    ((i : ℕ) → i < j → slice_index starts i ≡ labels_before sides i) → j ≡ length sides → AreStarts sides more
-all_starts sides starts more j next is many here each last = record {
-  many = ap length is ∙ length-append starts (next ∷ []) ∙ ap (λ (n : ℕ). n + 1) (many ∙ last);
-  each = λ i most. next_start sides starts more j next is many here each i (omega (arith, last, most));
-}

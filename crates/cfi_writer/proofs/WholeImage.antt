@@ -1,17 +1,18 @@
 -- A prepared program that is written, with its graph and map.
-use Rattle.std.proofs.Common.{inl, ◌≡◌, ℕ, ◌*◌, ◌^◌, ◌<◌, ◌≤◌, List, length, Some, sym, ap, subst, ◌∙◌, arith}
+use Rattle.std.proofs.Common.{◌≡◌, ℕ, ◌*◌, ◌^◌, ◌<◌, ◌≤◌, List, length, Some, sym, ap, subst, ◌∙◌, arith}
 use Rattle.std.specs.Prelude.{slice_index}
 use Rattle.rv_word.specs.declared.version.GraphVersion.{GraphVersion}
 use Rattle.rv_word.specs.declared.version.ImageVersion.{ImageVersion}
 use Rattle.rv_word.specs.Image.{IsImageSize}
-use Rattle.rv_word.specs.Form.{image_version, profile_for}
-use Rattle.rv_word.specs.MemoryMap.{CODE_SIZE, Profile}
+use Rattle.rv_word.specs.declared.version.Versions.{Versions}
+use Rattle.rv_word.specs.Form.{graph_version, image_version, profile_for}
+use Rattle.rv_word.specs.MemoryMap.{CODE_SIZE, Profile, profile_under, profile_with}
 use Rattle.rv_word.specs.declared.form.Form.{Form}
 use Rattle.elf_image.specs.Spelling.{spelling}
 use Rattle.cfi_graph.specs.Graph.{GraphParts, IsGraph}
 use Rattle.cfi_map_text.specs.Map.{MapParts}
 use Rattle.obj_program.specs.DataAtMap.{data_at, init_size}
-use Rattle.cfi_map.specs.GraphAtMap.{graph_lines}
+use Rattle.cfi_map.specs.GraphAtMap.{ProgramAtMap, graph_lines}
 use Rattle.cfi_map.specs.LegalMap.{IsLegalMap, gates_of}
 use Rattle.cfi_unit.specs.UnitWords.{Reaches}
 use Rattle.cfi_rules.specs.Laws.{AreBytes}
@@ -24,22 +25,30 @@ use Rattle.cfi_writer.specs.Hardened.{INIT_ROOM, chosen}
 use Rattle.cfi_writer.specs.Laws.{written_code}
 use Rattle.cfi_writer.specs.MapLines.{map_lines}
 use Rattle.cfi_map.specs.Placing.{Spaced}
-use Rattle.cfi_writer.specs.Units.{Choice, entry_gate, units}
+use Rattle.cfi_writer.specs.Units.{Choice, entry_arrival, units}
 use Rattle.cfi_writer.specs.Writing.{IsCoded, IsDescribed, IsImageWith, IsWritable, IsWrittenAs}
 use Rattle.cfi_writer.proofs.WholeCode.{written_graph, written_well_formed}
 use Rattle.cfi_writer.proofs.SoundCode.{written_sound}
 use Rattle.cfi_writer.proofs.Standing.{laid}
 use Rattle.cfi_writer.proofs.PlaceLines.{gates_are}
 
--- what the code of a choice in a form asks of its entry and of its units, and which code that is
-pub reaches : (form : Form) (m : Choice) → IsAccepted m → m.layout.profile ≡ profile_for form → Reaches (profile_for form).opening_call (entry_gate m)
-reaches form m ok is = subst (λ (p : Profile). Reaches p.opening_call (entry_gate m)) is (written_sound m ok).entry_reached
+-- the versions that a choice is written in
+pub versions_are : (form : Form) (layout : ProgramAtMap) (image : ImageVersion) (graph : GraphVersion) → layout.profile ≡ profile_for form →
+    layout.closed.version ≡ graph_version form → image ≡ image_version form → graph ≡ layout.closed.version → layout.profile ≡ profile_under graph image
+versions_are form layout image graph is of image_is graph_is =
+    is ∙ ap (λ (v : ImageVersion). profile_under (graph_version form) v) (sym image_is)
+    ∙ ap (λ (v : GraphVersion). profile_under v image) (sym (graph_is ∙ of))
 
-pub all_fit : (form : Form) (m : Choice) → IsAccepted m → m.layout.profile ≡ profile_for form → AllFit (profile_for form).units_from (units m)
-all_fit form m ok is = subst (λ (p : Profile). AllFit p.units_from (units m)) is (written_sound m ok).fit
+-- what the code of a choice in versions asks of its entry and of its units, and which code that is
+pub reaches : (versions : Versions) (m : Choice) → IsAccepted m → m.layout.profile ≡ profile_with versions → Reaches (profile_with versions).opening_call (entry_arrival m)
+reaches versions m ok is = subst (λ (p : Profile). Reaches p.opening_call (entry_arrival m)) is (written_sound m ok).entry_reached
 
-pub code_of_form : (form : Form) (m : Choice) → m.layout.profile ≡ profile_for form → placed_code (profile_for form) (entry_gate m) (units m) ≡ written_code m
-code_of_form form m is = ap (λ (p : Profile). placed_code p (entry_gate m) (units m)) (sym is)
+pub all_fit : (versions : Versions) (m : Choice) → IsAccepted m → m.layout.profile ≡ profile_with versions → AllFit (profile_with versions).units_from (units m)
+all_fit versions m ok is = subst (λ (p : Profile). AllFit p.units_from (units m)) is (written_sound m ok).fit
+
+pub code_of_versions : (versions : Versions) (m : Choice) → m.layout.profile ≡ profile_with versions →
+    placed_code (profile_with versions) (entry_arrival m) (units m) ≡ written_code m
+code_of_versions versions m is = ap (λ (p : Profile). placed_code p (entry_arrival m) (units m)) (sym is)
 
 pub in_room : (m : Choice) → IsAccepted m → 4 * length (written_code m) ≤ CODE_SIZE
 in_room m ok = ok.room
@@ -52,7 +61,7 @@ is_graph m code ok same =
 pub image_size : (m : Choice) (code init : ℕ) → IsAccepted m → code ≡ 4 * length (written_code m) → 4 * length (written_code m) ≤ CODE_SIZE → init ≤ INIT_ROOM →
     IsImageSize code init
 image_size m code init ok same room less =
-    let whole = length-placed_code m.layout.profile (inl ok.profile) (entry_gate m) (units m) in
+    let whole = length-placed_code m.layout.profile ok.profile (entry_arrival m) (units m) in
     let low = (laid m ok).low in
     record { some = omega arith; most = omega arith; words = omega arith; data_most = less }
 

@@ -1,7 +1,11 @@
 -- Worked rows: the prologue in its three parts, and the lines of a map of two places.
 use Rattle.std.proofs.Common.{◌≡◌, ℕ, [], ◌∷◌, ◌++◌, None, false, refl}
-use Rattle.rv_word.specs.declared.version.GraphVersion.TheVariants.{OneLabel}
-use Rattle.rv_word.specs.MemoryMap.{version_1, version_2}
+use Rattle.rv_word.specs.declared.version.GraphVersion.{GraphVersion}
+use Rattle.rv_word.specs.declared.version.GraphVersion.TheVariants.{OneLabel, TwoLabels, CalleeSaves}
+use Rattle.rv_word.specs.declared.version.ImageVersion.{ImageVersion}
+use Rattle.rv_word.specs.declared.version.ImageVersion.TheVariants.{OneHart, EightHarts}
+use Rattle.rv_word.specs.declared.version.Versions.{Versions}
+use Rattle.rv_word.specs.MemoryMap.{lean_version_1, lean_version_2, version_1, version_2}
 use Rattle.obj_input.specs.declared.item_kind.ItemKind.TheVariants as is
 use Rattle.obj_program.specs.declared.item.Patch.TheVariants as put
 use Rattle.cfi_unit.specs.Prologue.{closing_instrs, prologue_instrs}
@@ -12,11 +16,16 @@ use Rattle.cfi_map.specs.GraphAtMap.{ProgramAtMap}
 use Rattle.cfi_writer.specs.MapLines.{lines_from, map_lines}
 use Rattle.cfi_writer.specs.Prologue.{before_call}
 
--- the call stands at the seventh word, or at the eleventh
+abbrev of : ImageVersion → GraphVersion → Versions
+of image graph = record { image = image; graph = graph }
+
+-- the call stands at the seventh word, or at the eleventh; where callees save the sites of calls, at the ninth, or at the thirteenth
 pub prologue_row : (entry : ℕ) →
-    (before_call version_1 ++ instrs_of (V.Call entry) 0x40000018 ++ closing_instrs ≡ prologue_instrs version_1 entry)
-    × (before_call version_2 ++ instrs_of (V.Call entry) 0x40000028 ++ closing_instrs ≡ prologue_instrs version_2 entry)
-prologue_row entry = (refl, refl)
+    (before_call (of OneHart OneLabel) ++ instrs_of (V.Call entry) 0x40000018 ++ closing_instrs ≡ prologue_instrs version_1 entry)
+    × (before_call (of EightHarts TwoLabels) ++ instrs_of (V.Call entry) 0x40000028 ++ closing_instrs ≡ prologue_instrs version_2 entry)
+    × (before_call (of OneHart CalleeSaves) ++ instrs_of (V.LinkCall entry) 0x40000020 ++ closing_instrs ≡ prologue_instrs lean_version_1 entry)
+    × (before_call (of EightHarts CalleeSaves) ++ instrs_of (V.LinkCall entry) 0x40000030 ++ closing_instrs ≡ prologue_instrs lean_version_2 entry)
+prologue_row entry = (refl, refl, refl, refl)
 
 -- `ret` at the start of section 3, and that section's end: `ret` as a unit has 20 bytes
 abbrev pub row_items : ProgramAtMap

@@ -176,7 +176,7 @@ pointer_rows = (refl, refl, refl, refl, refl)
 
 -- a function jumps through a pointer to either of two others, and a fourth one calls the second of these: calls and jumps have labels of
 -- their own, and two words stand before what either reaches
-jumping : ProgramAtMap
+unfoldable pub jumping : ProgramAtMap
 jumping = record {
   profile = version_1;
   program = record {

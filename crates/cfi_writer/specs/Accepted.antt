@@ -3,7 +3,7 @@
 use Rattle.std.specs.Prelude.{◌≡◌, ℕ, ◌+◌, ◌*◌, ◌^◌, ◌≤◌, ◌<◌, true, false, List, Some, is_some, length, map, slice_get}
 use Rattle.std.specs.List.{All}
 use Rattle.std.specs.List.Sorted.{IsStrictlyIncreasing}
-use Rattle.rv_word.specs.MemoryMap.{CODE_SIZE, IsFullProfile}
+use Rattle.rv_word.specs.MemoryMap.{CODE_SIZE, IsProfile}
 use Rattle.obj_program.specs.AtMap.{instr_at}
 use Rattle.obj_program.specs.Program.{count, is_end, item_of}
 use Rattle.obj_program.specs.Sound.{IsSound}
@@ -22,7 +22,7 @@ use Rattle.cfi_map.specs.Shorts.{IsShortAt, is_branch}
 use Rattle.cfi_flow.specs.Sites.{site_kind}
 use Rattle.cfi_rules.specs.Placed.{placed_code}
 use Rattle.cfi_map.specs.Groups.{AreGroups}
-use Rattle.cfi_writer.specs.Units.{Choice, bounds_at, entry_gate, units}
+use Rattle.cfi_writer.specs.Units.{Choice, bounds_at, entry_arrival, units}
 
 -- one of the sides has a site at a place, and is of its sort
 pub record IsSiteOf (sides : List Side) (k : ℕ) (kind : SiteKind) : Type 0 where
@@ -35,9 +35,9 @@ pub record IsSiteOf (sides : List Side) (k : ℕ) (kind : SiteKind) : Type 0 whe
 
 -- what a choice is made of
 pub record IsAccepted (m : Choice) : Type 0 where
-  -- it is written as images of one of the versions, in which callers save the sites of calls
-  pub profile : IsFullProfile m.layout.profile
-  pub version : has_leaves m.layout.closed.version ≡ false
+  -- it is written as images of one of the versions, whose prologue is that of its graph's version
+  pub profile : IsProfile m.layout.profile
+  pub saves : m.layout.profile.callee_saves ≡ has_leaves m.layout.closed.version
   -- the program is sound, its words have 32 bits, and it ends in a section's end; it is entered at one of its places
   pub sound : IsSound m.layout.program
   pub words : (k : ℕ) → k < count m.layout.program → (item_of m.layout.program k).word < 2 ^ 32
@@ -47,7 +47,7 @@ pub record IsAccepted (m : Choice) : Type 0 where
   pub legal : AreGates (entered_in m.layout) m.whole 0 m.layout.profile.units_from m.layout.program.items m.layout.gates
   -- its later stores may be that
   pub groups : AreGroups (item_of m.layout.program) (bounds_at m) (whole_at m.whole)
-  pub room : 4 * length (placed_code m.layout.profile (entry_gate m) (units m)) ≤ CODE_SIZE
+  pub room : 4 * length (placed_code m.layout.profile (entry_arrival m) (units m)) ≤ CODE_SIZE
   pub values : (k : ℕ) → k < count m.layout.program → is_end (item_of m.layout.program k).kind ≡ false →
       is_some (instr_at m.layout.program m.layout.gates (words_at m.layout) k) ≡ true
   -- a list of system calls is one that a graph may have

@@ -7,16 +7,17 @@ use Rattle.cfi_graph.specs.declared.line.GraphLine.{GraphLine}
 use Rattle.cfi_map.specs.GraphAtMap.{class_lines, gate, graph_lines, head_lines, word}
 use Rattle.cfi_map.specs.LabelOf.{tagged}
 use Rattle.cfi_unit.specs.declared.unit.Unit as U
+use Rattle.cfi_unit.specs.UnitWords.{mask_words}
 use Rattle.cfi_rules.specs.Placed.{placed_code, placed_lines}
 use Rattle.cfi_rules.specs.Rules.{IsWellFormed}
 use Rattle.cfi_rules.specs.Sound.{IsSound}
 use Rattle.cfi_rules.specs.Split.{code_words, entry_of, unit_at}
 use Rattle.cfi_writer.specs.Accepted.{IsAccepted}
-use Rattle.cfi_writer.specs.Units.{Choice, behind, entry_gate, is_later_at, lead, unit_here, units}
+use Rattle.cfi_writer.specs.Units.{Choice, behind, entry_arrival, is_later_at, lead, mask_at, unit_here, units}
 
 -- the words of the whole code, and the lines of its classes, before which stands that of its system calls
 abbrev pub written_code : Choice → List ℕ
-written_code m = placed_code m.layout.profile (entry_gate m) (units m)
+written_code m = placed_code m.layout.profile (entry_arrival m) (units m)
 
 abbrev pub written_classes : Choice → List GraphLine
 written_classes m = class_lines m.layout.gates m.labels (tagged m.layout.closed.sides)
@@ -26,12 +27,12 @@ written_heads m = head_lines m.layout m.labels
 
 -- units are sound with these lines
 abbrev pub WrittenIsSound : Type 0
-WrittenIsSound = (m : Choice) → IsAccepted m → IsSound m.layout.profile m.layout.closed.version (entry_gate m) (units m) (written_heads m)
+WrittenIsSound = (m : Choice) → IsAccepted m → IsSound m.layout.profile m.layout.closed.version (entry_arrival m) (units m) (written_heads m)
 
 -- the lines of the graph at the map are those of the units behind these
 abbrev pub WrittenLines : Type 0
 WrittenLines =
-    (m : Choice) → IsAccepted m → graph_lines m.layout m.labels ≡ placed_lines m.layout.profile (entry_gate m) (units m) (written_heads m)
+    (m : Choice) → IsAccepted m → graph_lines m.layout m.labels ≡ placed_lines m.layout.profile (entry_arrival m) (units m) (written_heads m)
 
 -- they are a graph's, of a code of this length
 abbrev pub WrittenIsGraph : Type 0
@@ -51,7 +52,7 @@ pub record IsMemberOf (m : Choice) (k : ℕ) : Type 0 where
   pub place : k ≡ first + index
   pub inside : index ≤ behind m first
   pub stands : unit_at m.layout.profile (written_code m) (word m.layout first) ≡ Some (unit_here m first)
-  pub at : word m.layout k ≡ word m.layout first + 4 * (3 + index)
+  pub at : word m.layout k ≡ word m.layout first + 4 * (mask_words (mask_at m first) + index)
 
 -- at the word of each place that is no later store stands its unit, and from its gate on the words before that
 pub record HasUnits (m : Choice) : Type 0 where
@@ -63,6 +64,6 @@ pub record HasUnits (m : Choice) : Type 0 where
 abbrev pub WrittenUnits : Type 0
 WrittenUnits = (m : Choice) → IsAccepted m → HasUnits m
 
--- the opening calls the entry's gate
+-- the opening calls the entry
 abbrev pub WrittenEntry : Type 0
-WrittenEntry = (m : Choice) → IsAccepted m → entry_of m.layout.profile (written_code m) ≡ Some (entry_gate m)
+WrittenEntry = (m : Choice) → IsAccepted m → entry_of m.layout.profile (written_code m) ≡ Some (entry_arrival m)

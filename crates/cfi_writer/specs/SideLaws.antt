@@ -1,10 +1,11 @@
--- How the lines of classes go with the words before places, whatever sides there are: labels are given side by side, and the word of
--- the side with the index j stands 4 * j behind a target's gate.
-use Rattle.std.specs.Prelude.{◌≡◌, ℕ, ◌*◌, ◌<◌, true, false, List, [], Some, length, map, option_and_then, slice_get, slice_index, slice_index_or}
+-- How the lines of classes go with the words before places, whatever sides there are: labels are given side by side, and each side has
+-- a word of its own before a target's unit.
+use Rattle.std.specs.Prelude.{◌≡◌, ℕ, zero, suc, ◌*◌, ◌<◌, true, List, [], Some, length, map, option_and_then, slice_get, slice_index, slice_index_or}
 use Rattle.std.specs.List.Sorted.{IsStrictlyIncreasing}
 use Rattle.rv_word.specs.declared.version.GraphVersion.{GraphVersion}
+use Rattle.rv_word.specs.declared.version.GraphVersion.TheVariants.{CalleeSaves}
 use Rattle.cfi_class.specs.Classes.{IsIn}
-use Rattle.cfi_graph.specs.Graph.{ClassLine, class_in, has_leaves}
+use Rattle.cfi_graph.specs.Graph.{ClassLine, class_in}
 use Rattle.cfi_graph.specs.declared.line.SiteKind.{SiteKind}
 use Rattle.cfi_graph.specs.declared.line.SiteKind.TheVariants as kinds
 use Rattle.cfi_closed.specs.declared.side.Site.{Site}
@@ -12,19 +13,23 @@ use Rattle.cfi_closed.specs.Closed.{Side, sorts_of, is_target}
 use Rattle.cfi_map.specs.GraphAtMap.{class_lines}
 use Rattle.cfi_map.specs.LabelOf.{all_classes, labels_of, site_label, site_number, tagged}
 use Rattle.cfi_unit.specs.declared.target_word.TargetWord.{TargetWord}
-use Rattle.cfi_unit.specs.declared.target_word.TargetWord.TheVariants.{First}
 use Rattle.cfi_unit.specs.UnitWords.{past}
-use Rattle.cfi_rules.specs.Lines.{class_with, is_among, jump_word, read_of, targets_for}
+use Rattle.cfi_rules.specs.Lines.{call_word, class_with, is_among, jump_word, read_of, targets_for}
 use Rattle.cfi_writer.specs.Accepted.{IsSiteOf}
 
--- the word that the check of a computed transfer of a kind reads, where a jump's reads this one
-abbrev pub word_read : TargetWord → SiteKind → TargetWord
-word_read which kinds.Call = First
-word_read which kinds.Jump = which
+-- the word that the check of a computed transfer of a kind reads
+abbrev pub word_asked : GraphVersion → SiteKind → TargetWord
+word_asked version kinds.Call = call_word version
+word_asked version kinds.Jump = jump_word version
 
--- labels of the classes of the sides for a version of graphs of code in which callers save the sites of calls
+-- which word before a target's unit is that of the side with this index: under version 3 jumps have the first one, and calls the third
+abbrev pub word_of_side : GraphVersion → ℕ → ℕ
+word_of_side CalleeSaves zero = 2
+word_of_side CalleeSaves (suc j) = 0
+word_of_side version j = j
+
+-- labels of the classes of the sides for a version of graphs
 pub record AreLabelled (version : GraphVersion) (labels : List ℕ) (sides : List Side) : Type 0 where
-  pub full : has_leaves version ≡ false
   pub sorts : map (λ (s : Side). s.sort) sides ≡ sorts_of version
   pub counted : length labels ≡ length (tagged sides)
   pub rising : IsStrictlyIncreasing labels
@@ -42,7 +47,7 @@ pub record IsBorne (version : GraphVersion) (gates labels : List ℕ) (sides : L
   pub inside : IsIn side.classes class place
   pub gate_is : slice_index gates place ≡ a
   pub target : is_target sides place ≡ true
-  pub word : past (read_of version c.sort) ≡ 4 * index
+  pub word : past (read_of version c.sort) ≡ 4 * word_of_side version index
   pub label : slice_get (labels_of labels sides place) index ≡ Some (Some c.label)
 
 -- each target of a class bears its label, at the word that its checks read
@@ -57,11 +62,11 @@ abbrev pub GatesListed : Type 0
 GatesListed =
     (version : GraphVersion) (gates labels : List ℕ) (sides : List Side) → AreLabelled version labels sides → (k j label : ℕ) (c : ClassLine) →
     slice_get (labels_of labels sides k) j ≡ Some (Some label) → class_with (class_lines gates labels (tagged sides)) label ≡ Some c →
-    (past (read_of version c.sort) ≡ 4 * j) × (is_among (slice_index gates k) c.targets ≡ true)
+    (past (read_of version c.sort) ≡ 4 * word_of_side version j) × (is_among (slice_index gates k) c.targets ≡ true)
 
 -- each site is served by the class whose label it asks for
 abbrev pub SitesServed : Type 0
 SitesServed =
     (version : GraphVersion) (gates labels : List ℕ) (sides : List Side) → AreLabelled version labels sides → (k : ℕ) (kind : SiteKind) (at : IsSiteOf sides k kind) →
-    targets_for (class_lines gates labels (tagged sides)) kind (word_read (jump_word version) kind) (site_label labels sides k)
+    targets_for (class_lines gates labels (tagged sides)) kind (word_asked version kind) (site_label labels sides k)
     ≡ Some (map (slice_index gates) (slice_index_or (all_classes at.side) (site_number at.side.sites (length at.side.classes) k) []))

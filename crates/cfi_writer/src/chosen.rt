@@ -1,25 +1,29 @@
 //! What is chosen for a program before it is written: a map, flags, labels and an entry.
 
-ghost use Rattle.std.specs.Prelude.{◌≡◌, ◌<◌, ◌≤◌, ◌^◌, IfOk, IfSome, Some, drop, length, slice_get};
+ghost use Rattle.std.specs.Prelude.{◌≡◌, ◌+◌, ◌<◌, ◌≤◌, ◌^◌, if◌then◌else◌, IfOk, IfSome, Some, drop, length, slice_get};
 ghost use Rattle.std.specs.List.{All};
-ghost use Rattle.rv_word.specs.Form.{profile_for};
+ghost use Rattle.rv_word.specs.MemoryMap.{profile_with};
 ghost use Rattle.obj_program.specs.Program.{count, item_of};
 ghost use Rattle.cfi_closed.specs.Closed as closed;
-ghost use Rattle.cfi_map.specs.GraphAtMap.{gate, gate_to, word};
+ghost use Rattle.cfi_closed.specs.Closed.{is_target};
+ghost use Rattle.cfi_leads.specs.Entries.{is_call};
+ghost use Rattle.cfi_map.specs.GraphAtMap.{aim_of, arrival, arrival_to, entered_in, gate, gate_to, word};
 ghost use Rattle.cfi_map.specs.LabelOf.{class_count, labels_of, site_label, tagged};
 ghost use Rattle.cfi_map.specs.Placement.{whole_at};
 ghost use Rattle.cfi_writer.specs.Accepted.{IsAccepted};
 ghost use Rattle.cfi_writer.specs.Chosen.{AreStarts, instr_if, labels_before};
 ghost use Rattle.cfi_writer.specs.Hardened.{chosen};
+ghost use Rattle.cfi_writer.specs.Units.{entry_arrival};
 
 use crate::labels::{label_at, label_or_zero, labels_from, site_labels};
 use crate::numbering::label_starts;
 use cfi_closed::Closed;
+use cfi_leads::Leads;
 use cfi_map::{Mapped, Spacing};
 use obj_input::ItemKind;
 use obj_program::Item;
 use rv_instr::Instr;
-use rv_word::{Form, NoMemory};
+use rv_word::{GraphVersion, NoMemory, Versions};
 use std::alloc::Global;
 use std::marker::Model;
 
@@ -43,6 +47,13 @@ impl<'c, 'a, 'b> Model for Chosen<'c, 'a, 'b> {
     ghost view = { λ c. record { layout = c.mapped.now; whole = c.whole.now; labels = c.labels.now } };
 
     ghost invariant = { λ c. IsChosen (record { layout = c.mapped.now; whole = c.whole.now; labels = c.labels.now }) c.starts.items c.sites.items };
+}
+
+/// Whether a kind of place is a direct call's.
+pub(crate) fn is_call(kind: ItemKind) -> bool
+    ensures { result ≡ is_call kind }
+{
+    kind == ItemKind::Call
 }
 
 impl<'c, 'a, 'b> Chosen<'c, 'a, 'b> {
@@ -69,11 +80,22 @@ impl<'c, 'a, 'b> Chosen<'c, 'a, 'b> {
         })
     }
 
-    /// The form in which it is written.
-    pub(crate) fn form(&self) -> Form
-        ensures { self.now.layout.profile ≡ profile_for result }
+    /// The version of the graph that is written.
+    pub(crate) fn version(&self) -> GraphVersion
+        ensures { result ≡ self.now.layout.closed.version }
     {
-        self.mapped.form()
+        self.mapped.closed().version()
+    }
+
+    /// The versions of the image and of the graph that are written.
+    #[tactic(auto, using(crate::proofs::WholeImage::versions_are))]
+    pub(crate) fn versions(&self) -> Versions
+        ensures { self.now.layout.profile ≡ profile_with result }
+    {
+        Versions {
+            image: self.mapped.form().image_version(),
+            graph: self.version(),
+        }
     }
 
     /// How many places the program has.
@@ -90,6 +112,13 @@ impl<'c, 'a, 'b> Chosen<'c, 'a, 'b> {
         ensures accepted { IsAccepted self.now }
     {
         self.mapped.closed()
+    }
+
+    /// The program without its gates, with what stands before the units of its places.
+    pub(crate) fn leads(&self) -> &Leads<'a, 'b>
+        ensures { result.now ≡ entered_in self.now.layout }
+    {
+        self.mapped.leads()
     }
 
     /// The labels of all classes, in their order.
@@ -152,29 +181,75 @@ impl<'c, 'a, 'b> Chosen<'c, 'a, 'b> {
         self.mapped.word(k)
     }
 
-    /// The gate of the place that a direct transfer at a place goes to; 0 where there is none.
-    #[tactic(auto, using(crate::proofs::Aims::target_there))]
+    /// The gate of the place that a direct transfer at a place names; 0 where there is none.
     pub(crate) fn target(&self, k: u64) -> u64
         requires { k < count self.now.layout.program }
         ensures { result ≡ gate_to self.now.layout (item_of self.now.layout.program k).target }
     {
-        let _count = self.mapped.count();
+        let _count = self.count();
         match self.item(k).target {
             Some(target) => self.gate(target),
             None => 0,
         }
     }
 
-    /// The gate where the program is entered.
-    pub fn entry_gate(&self) -> u64
-        ensures value { result ≡ gate self.now.layout self.now.layout.entry }
+    /// Where calls arrive at a place.
+    fn arrival(&self, k: u64) -> u64
+        requires { k < count self.now.layout.program }
+        ensures { result ≡ arrival self.now.layout k }
+    {
+        self.mapped.arrival(k)
+    }
+
+    /// Where the direct call at a place leads; 0 where there is no target.
+    pub(crate) fn callee(&self, k: u64) -> u64
+        requires { k < count self.now.layout.program }
+        ensures { result ≡ arrival_to self.now.layout (item_of self.now.layout.program k).target }
+    {
+        let _count = self.count();
+        match self.item(k).target {
+            Some(target) => self.arrival(target),
+            None => 0,
+        }
+    }
+
+    /// Where the direct transfer at a place leads.
+    pub(crate) fn aim(&self, k: u64) -> u64
+        requires { k < count self.now.layout.program }
+        ensures { result ≡ aim_of self.now.layout (item_of self.now.layout.program k) }
+    {
+        if is_call(self.item(k).kind) {
+            self.callee(k)
+        } else {
+            self.target(k)
+        }
+    }
+
+    /// Where the jump stands, before the unit of a place, over what saves a site.
+    pub(crate) fn jump_at(&self, k: u64) -> u64
+        requires { k < count self.now.layout.program }
+        ensures { result ≡ if is_target self.now.layout.closed.sides k then gate self.now.layout k + 4 else gate self.now.layout k }
+    {
+        let _count = self.mapped.count();
+        let gate = self.gate(k);
+        if self.closed().is_target(k) {
+            gate + 4
+        } else {
+            gate
+        }
+    }
+
+    /// Where the opening's call enters the program.
+    pub(crate) fn entry_arrival(&self) -> u64
+        ensures value { result ≡ entry_arrival self.now }
         ensures accepted { IsAccepted self.now }
     {
         let _count = self.mapped.count();
-        self.mapped.gate(self.mapped.entry())
+        self.mapped.arrival(self.mapped.entry())
     }
 
     /// The label of the class of the side with this index that has a place, if one has it.
+    #[inline(always)]
     pub(crate) fn label_at(&self, j: usize, k: u64) -> Option<u32>
         requires { j < length self.now.layout.closed.sides }
         ensures value { slice_get (labels_of self.now.labels self.now.layout.closed.sides k) j ≡ Some result }

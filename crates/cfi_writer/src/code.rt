@@ -1,22 +1,23 @@
 //! The bytes of hardened code: the prologue, the units and the closing.
 
 ghost use Rattle.std.specs.Prelude.{◌≡◌, ◌+◌, ◌*◌, ◌%◌, ◌≤◌, ◌++◌, ◌∷◌, [], IfOk, OnOk, length, map};
-ghost use Rattle.rv_word.specs.Form.{profile_for};
-ghost use Rattle.rv_word.specs.MemoryMap.{CODE_SIZE, CODE_START};
+ghost use Rattle.rv_word.specs.MemoryMap.{CODE_SIZE, CODE_START, profile_with};
 ghost use Rattle.rv_instr.specs.declared.instr.Instr.TheVariants as Instr;
 ghost use Rattle.rv_code.specs.Encode.{code_of};
-ghost use Rattle.cfi_unit.specs.Prologue.{closing_instrs, lone_set_up, own_set_up, prologue_instrs, set_up};
+ghost use Rattle.cfi_unit.specs.Prologue.{closing_instrs, lean_lone_set_up, lean_own_set_up, lone_set_up, own_set_up, prologue_instrs};
 ghost use Rattle.cfi_unit.specs.UnitWords.{Fits, Reaches, words_of};
-ghost use Rattle.cfi_unit.specs.declared.unit.Unit.TheVariants as V;
 ghost use Rattle.cfi_rules.specs.Placed.{AllFit, placed_code};
 ghost use Rattle.cfi_rules.specs.Split.{code_words};
-ghost use Rattle.cfi_writer.specs.Prologue.{before_call};
+ghost use Rattle.cfi_writer.specs.Prologue.{before_call, begins_with, call_with, set_up_with};
 
 use cfi_unit::{Unit, emit};
 use rv_code::encode;
 use rv_instr::{Immediate, ImmediateOp, Instr, Reg, RegisterOp, ShiftOp, UpperOp};
 use rv_word::memory_map::CODE_START;
-use rv_word::{Form, NoMemory};
+use rv_word::profile::{
+    LEAN_OPENING_CALL, LEAN_OPENING_CALL_OF_HARTS, OPENING_CALL, OPENING_CALL_OF_HARTS,
+};
+use rv_word::{GraphVersion, ImageVersion, NoMemory, Versions};
 use std::alloc::Global;
 
 /// Puts the bytes of a word at the end, the lowest first.
@@ -92,27 +93,100 @@ fn own_set_up() -> [Instr; 7]
     ]
 }
 
-/// Puts the instructions at the end that set up both stacks in images of a form.
-fn push_set_up(bytes: &mut Vec<u8>, form: Form) -> Result<(), NoMemory>
-    requires { length bytes.old.items % 4 ≡ 0 }
-    ensures words { OnOk result (code_words bytes.new.items ≡ code_words bytes.old.items ++ map code_of (set_up (profile_for form))) }
-    ensures size { OnOk result (length bytes.new.items ≡ length bytes.old.items + 4 * length (set_up (profile_for form))) }
+/// The same where x4 also gets the mask of stores, 2^28 - 1, behind the first of them.
+fn lean_lone_set_up() -> [Instr; 5]
+    ensures { result ≡ lean_lone_set_up }
 {
-    match form {
-        Form::Plain | Form::Split => push_instrs(bytes, &lone_set_up()),
-        Form::Harts | Form::HartsSplit => push_instrs(bytes, &own_set_up()),
+    let shadow = Reg::of(3);
+    let mask = Reg::of(4);
+    [
+        Instr::Upper(UpperOp::Lui, Reg::of(2), Immediate::of(0x10000)),
+        Instr::Upper(UpperOp::Lui, mask, Immediate::of(0x10000)),
+        Instr::Immediate(ImmediateOp::Addi, mask, mask, Immediate::of(0xfff)),
+        Instr::Upper(UpperOp::Lui, shadow, Immediate::of(0x60000)),
+        Instr::Immediate(ImmediateOp::Addi, shadow, shadow, Immediate::of(8)),
+    ]
+}
+
+/// And for one of several harts.
+fn lean_own_set_up() -> [Instr; 9]
+    ensures { result ≡ lean_own_set_up }
+{
+    let stack = Reg::of(2);
+    let shadow = Reg::of(3);
+    let mask = Reg::of(4);
+    let number = Reg::of(10);
+    let offset = Reg::of(31);
+    [
+        Instr::Upper(UpperOp::Lui, stack, Immediate::of(0x10000)),
+        Instr::Upper(UpperOp::Lui, mask, Immediate::of(0x10000)),
+        Instr::Immediate(ImmediateOp::Addi, mask, mask, Immediate::of(0xfff)),
+        Instr::Shift(ShiftOp::Slli, offset, number, Immediate::of(20)),
+        Instr::Register(RegisterOp::Sub, stack, stack, offset),
+        Instr::Upper(UpperOp::Lui, shadow, Immediate::of(0x60000)),
+        Instr::Shift(ShiftOp::Slli, offset, number, Immediate::of(16)),
+        Instr::Register(RegisterOp::Add, shadow, shadow, offset),
+        Instr::Immediate(ImmediateOp::Addi, shadow, shadow, Immediate::of(8)),
+    ]
+}
+
+/// Puts the instructions at the end that set up both stacks, and the mask of stores where callees save the sites of calls.
+fn push_set_up(bytes: &mut Vec<u8>, versions: Versions) -> Result<(), NoMemory>
+    requires { length bytes.old.items % 4 ≡ 0 }
+    ensures words { OnOk result (code_words bytes.new.items ≡ code_words bytes.old.items ++ map code_of (set_up_with versions)) }
+    ensures size { OnOk result (length bytes.new.items ≡ length bytes.old.items + 4 * length (set_up_with versions)) }
+{
+    match (versions.graph, versions.image) {
+        (GraphVersion::OneLabel | GraphVersion::TwoLabels, ImageVersion::OneHart) => {
+            push_instrs(bytes, &lone_set_up())
+        }
+        (GraphVersion::OneLabel | GraphVersion::TwoLabels, ImageVersion::EightHarts) => {
+            push_instrs(bytes, &own_set_up())
+        }
+        (GraphVersion::CalleeSaves, ImageVersion::OneHart) => {
+            push_instrs(bytes, &lean_lone_set_up())
+        }
+        (GraphVersion::CalleeSaves, ImageVersion::EightHarts) => {
+            push_instrs(bytes, &lean_own_set_up())
+        }
     }
 }
 
 /// Puts the instructions at the end that stand before the prologue's call: the three handlers, and those that set up both
 /// stacks.
-fn push_before_call(bytes: &mut Vec<u8>, form: Form) -> Result<(), NoMemory>
+fn push_before_call(bytes: &mut Vec<u8>, versions: Versions) -> Result<(), NoMemory>
     requires { length bytes.old.items % 4 ≡ 0 }
-    ensures words { OnOk result (code_words bytes.new.items ≡ code_words bytes.old.items ++ map code_of (before_call (profile_for form))) }
-    ensures size { OnOk result (length bytes.new.items ≡ length bytes.old.items + 4 * length (before_call (profile_for form))) }
+    ensures words { OnOk result (code_words bytes.new.items ≡ code_words bytes.old.items ++ map code_of (before_call versions)) }
+    ensures size { OnOk result (length bytes.new.items ≡ length bytes.old.items + 4 * length (before_call versions)) }
 {
     push_instrs(bytes, &handlers())?;
-    push_set_up(bytes, form)
+    push_set_up(bytes, versions)
+}
+
+/// The unit of the prologue's call of the entry at this address.
+fn call_unit(versions: Versions, entry: u64) -> Unit
+    ensures { result ≡ call_with versions entry }
+{
+    match versions.graph {
+        GraphVersion::OneLabel | GraphVersion::TwoLabels => Unit::Call(entry),
+        GraphVersion::CalleeSaves => Unit::LinkCall(entry),
+    }
+}
+
+/// Where it begins.
+fn call_at(versions: Versions) -> u64
+    ensures { result ≡ begins_with versions }
+{
+    match (versions.graph, versions.image) {
+        (GraphVersion::OneLabel | GraphVersion::TwoLabels, ImageVersion::OneHart) => {
+            OPENING_CALL - 28
+        }
+        (GraphVersion::OneLabel | GraphVersion::TwoLabels, ImageVersion::EightHarts) => {
+            OPENING_CALL_OF_HARTS - 28
+        }
+        (GraphVersion::CalleeSaves, ImageVersion::OneHart) => LEAN_OPENING_CALL,
+        (GraphVersion::CalleeSaves, ImageVersion::EightHarts) => LEAN_OPENING_CALL_OF_HARTS,
+    }
 }
 
 /// The instructions after it, which exit.
@@ -130,35 +204,36 @@ fn closing() -> [Instr; 2]
     ]
 }
 
-/// The prologue of images of a form, which calls the entry at this address.
-fn prologue(alloc: Global, form: Form, entry: u64) -> Result<Vec<u8>, NoMemory>
-    requires { Reaches (profile_for form).opening_call entry }
-    ensures words { IfOk result (λ v. code_words v.items ≡ map code_of (prologue_instrs (profile_for form) entry)) }
-    ensures size { IfOk result (λ v. CODE_START + length v.items ≡ (profile_for form).units_from) }
+/// The prologue of images of these versions, which calls the entry at this address.
+fn prologue(alloc: Global, versions: Versions, entry: u64) -> Result<Vec<u8>, NoMemory>
+    requires { Reaches (profile_with versions).opening_call entry }
+    ensures words { IfOk result (λ v. code_words v.items ≡ map code_of (prologue_instrs (profile_with versions) entry)) }
+    ensures size { IfOk result (λ v. CODE_START + length v.items ≡ (profile_with versions).units_from) }
 {
-    let call = emit(alloc, &Unit::Call(entry), form.call_at())?;
+    let unit = call_unit(versions, entry);
+    let call = emit(alloc, &unit, call_at(versions))?;
     let mut bytes = Vec::new(alloc);
-    push_before_call(&mut bytes, form)?;
+    push_before_call(&mut bytes, versions)?;
     push_words(&mut bytes, &call)?;
     push_instrs(&mut bytes, &closing())?;
     Ok(bytes)
 }
 
-/// The code of these units in a form, which call the entry at this address: the prologue, and one unit after the other, as
-/// bytes, the lowest of each word first.
+/// The code of these units in an image of these versions, which calls the entry at this address: the prologue, and one unit
+/// after the other, as bytes, the lowest of each word first.
 pub fn code_bytes(
     alloc: Global,
-    form: Form,
+    versions: Versions,
     entry: u64,
     units: &[Unit],
 ) -> Result<Vec<u8>, NoMemory>
-    requires entry { Reaches (profile_for form).opening_call entry }
-    requires fit { AllFit (profile_for form).units_from units.now }
-    requires room { 4 * length (placed_code (profile_for form) entry units.now) ≤ CODE_SIZE }
-    ensures words { IfOk result (λ v. code_words v.items ≡ placed_code (profile_for form) entry units.now) }
-    ensures size { IfOk result (λ v. length v.items ≡ 4 * length (placed_code (profile_for form) entry units.now)) }
+    requires entry { Reaches (profile_with versions).opening_call entry }
+    requires fit { AllFit (profile_with versions).units_from units.now }
+    requires room { 4 * length (placed_code (profile_with versions) entry units.now) ≤ CODE_SIZE }
+    ensures words { IfOk result (λ v. code_words v.items ≡ placed_code (profile_with versions) entry units.now) }
+    ensures size { IfOk result (λ v. length v.items ≡ 4 * length (placed_code (profile_with versions) entry units.now)) }
 {
-    let mut bytes = prologue(alloc, form, entry)?;
+    let mut bytes = prologue(alloc, versions, entry)?;
     for unit in units {
         let words = emit(alloc, unit, CODE_START + bytes.len() as u64)?;
         push_words(&mut bytes, &words)?;

@@ -7,10 +7,11 @@ ghost use Rattle.obj_input.specs.declared.item_kind.ItemKind.TheVariants as is;
 ghost use Rattle.cfi_unit.specs.declared.target_word.TargetWord.{TargetWord};
 ghost use Rattle.cfi_unit.specs.Members.{FILLER};
 ghost use Rattle.cfi_runs.specs.Distances.{field, level};
-ghost use Rattle.cfi_writer.specs.Units.{behind, group_at, is_later_at, low_at, member_at, member_for, offset_at, offset_of, unit_of};
+ghost use Rattle.cfi_graph.specs.Graph.{has_leaves};
+ghost use Rattle.cfi_writer.specs.Units.{behind, group_at, is_later_at, least_at, low_at, low_by, mask_at, member_at, member_for, offset_at, offset_of, unit_of};
 
 use crate::chosen::Chosen;
-use cfi_map::is_store;
+use cfi_map::{is_short, is_store};
 use cfi_unit::{Mask, Member, Members, Unit};
 use rv_instr::{Immediate, Instr, Reg, StoreOp};
 
@@ -53,6 +54,7 @@ fn filler() -> Member
 }
 
 /// A store as a member behind a mask for an offset of this level.
+#[inline(always)]
 fn member_for(instr: &Instr, low: u32) -> Member
     requires past { low ≤ level (offset_of instr.now) }
     requires near { level (offset_of instr.now) - low < 2 ^ 11 }
@@ -79,6 +81,7 @@ impl<'c, 'a, 'b> Chosen<'c, 'a, 'b> {
 
     /// How many stores stand behind the one of a place in its group.
     #[tactic(auto, using(crate::proofs::GroupLoops::none_left, crate::proofs::GroupLoops::one_more, crate::proofs::GroupLoops::all_left))]
+    #[inline(always)]
     fn behind(&self, k: u64) -> u64
         requires { k < count self.now.layout.program }
         ensures { result ≡ behind self.now k }
@@ -107,12 +110,13 @@ impl<'c, 'a, 'b> Chosen<'c, 'a, 'b> {
 
     /// The least level of the stores of a group, of which so many stand behind the first.
     #[tactic(auto, using(crate::proofs::GroupLoops::inside_behind, crate::proofs::GroupLoops::next_low))]
-    fn low(&self, k: u64, following: u64) -> u32
+    #[inline(always)]
+    fn least(&self, k: u64, following: u64) -> u32
         requires place { k < count self.now.layout.program }
         requires store { is_store (item_of self.now.layout.program k).kind ≡ true }
         requires first { is_later_at self.now k ≡ false }
         requires following { following ≡ behind self.now k }
-        ensures { result ≡ low_at self.now k }
+        ensures { result ≡ least_at self.now k }
     {
         let _count = self.count();
         let mut low = self.level(k);
@@ -122,8 +126,38 @@ impl<'c, 'a, 'b> Chosen<'c, 'a, 'b> {
         low
     }
 
+    /// The level of the offset of a mask before a group: a short one has none.
+    #[inline(always)]
+    fn low(&self, k: u64, following: u64, mask: Mask) -> u32
+        requires place { k < count self.now.layout.program }
+        requires store { is_store (item_of self.now.layout.program k).kind ≡ true }
+        requires first { is_later_at self.now k ≡ false }
+        requires following { following ≡ behind self.now k }
+        ensures { result ≡ low_by mask (least_at self.now k) }
+    {
+        match mask {
+            Mask::Short => level(0),
+            Mask::Shifts | Mask::Long => self.least(k, following),
+        }
+    }
+
+    /// How a group is masked that begins at a place where callees save the sites of calls.
+    #[tactic(auto, using(crate::proofs::GroupLoops::mask_is))]
+    pub(crate) fn lean_mask(&self, k: u64) -> Mask
+        requires place { k < count self.now.layout.program }
+        requires lean { has_leaves self.now.layout.closed.version ≡ true }
+        ensures { result ≡ mask_at self.now k }
+    {
+        if is_short(&self.item(k)) {
+            Mask::Short
+        } else {
+            Mask::Long
+        }
+    }
+
     /// The store of a place as a member behind a mask for an offset of this level.
     #[tactic(auto, using(crate::proofs::GroupLoops::some_instr))]
+    #[inline(always)]
     fn member(&self, k: u64, low: u32) -> Member
         requires place { k < count self.now.layout.program }
         requires store { is_store (item_of self.now.layout.program k).kind ≡ true }
@@ -137,8 +171,9 @@ impl<'c, 'a, 'b> Chosen<'c, 'a, 'b> {
         }
     }
 
-    /// The stores of a group, of which so many stand behind the first, as members behind a mask for their least offset.
+    /// The stores of a group, of which so many stand behind the first, as members behind a mask for an offset of this level.
     #[tactic(auto, using(crate::proofs::GroupLoops::inside_group, crate::proofs::GroupLoops::past_low, crate::proofs::GroupLoops::next_member, crate::proofs::GroupLoops::few_members))]
+    #[inline(always)]
     fn members(&self, k: u64, following: u64, low: u32) -> Members
         requires place { k < count self.now.layout.program }
         requires store { is_store (item_of self.now.layout.program k).kind ≡ true }
@@ -155,12 +190,14 @@ impl<'c, 'a, 'b> Chosen<'c, 'a, 'b> {
         members
     }
 
-    /// The unit of the group of stores that begins at a place, of which this is the instruction.
+    /// The unit of the group of stores that begins at a place, of which this is the instruction, behind this mask.
     #[tactic(auto, using(crate::proofs::GroupLoops::low_small))]
-    pub(crate) fn stores(&self, k: u64, instr: &Instr) -> Unit
+    #[inline(always)]
+    pub(crate) fn stores(&self, k: u64, instr: &Instr, mask: Mask) -> Unit
         requires place { k < count self.now.layout.program }
         requires store { is_store (item_of self.now.layout.program k).kind ≡ true }
         requires first { is_later_at self.now k ≡ false }
+        requires mask { mask ≡ mask_at self.now k }
         ensures { (whole : Bool) (target : ℕ) (which : TargetWord) (label : ℕ) →
             result ≡ unit_of self.now.layout.closed.calls is.Store instr.now whole target which label (group_at self.now k) }
     {
@@ -168,9 +205,9 @@ impl<'c, 'a, 'b> Chosen<'c, 'a, 'b> {
         match *instr {
             Instr::Store(_, base, _, _) => {
                 let following = self.behind(k);
-                let low = self.low(k, following);
+                let low = self.low(k, following, mask);
                 Unit::Stores(
-                    Mask::Shifts,
+                    mask,
                     base,
                     Immediate::of(field(low)),
                     self.members(k, following, low),

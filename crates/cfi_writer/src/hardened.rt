@@ -42,14 +42,19 @@ impl Model for Hardened {
 
 impl<'c, 'a, 'b> Chosen<'c, 'a, 'b> {
     /// The bytes of the code.
-    #[tactic(auto, using(crate::proofs::WholeImage::reaches, crate::proofs::WholeImage::all_fit, crate::proofs::WholeImage::code_of_form, crate::proofs::WholeImage::in_room))]
+    #[tactic(auto, using(crate::proofs::WholeImage::reaches, crate::proofs::WholeImage::all_fit, crate::proofs::WholeImage::code_of_versions, crate::proofs::WholeImage::in_room))]
     fn code(&self, alloc: Global) -> Result<Vec<u8>, NoMemory>
         ensures words { IfOk result (λ v. code_words v.items ≡ written_code self.now) }
         ensures size { IfOk result (λ v. length v.items ≡ 4 * length (written_code self.now)) }
         ensures room { OnOk result (4 * length (written_code self.now) ≤ CODE_SIZE) }
     {
         let units = self.units(alloc)?;
-        code_bytes(alloc, self.form(), self.entry_gate(), units.as_slice())
+        code_bytes(
+            alloc,
+            self.versions(),
+            self.entry_arrival(),
+            units.as_slice(),
+        )
     }
 
     /// The graph of this code.

@@ -22,12 +22,12 @@ pub fn written_is_well_formed()
     ensures { WrittenIsWellFormed }
 {}
 
-/// In the code that is written each place's unit stands at its word, and the words before it at its gate where it is a target.
+/// In the code that is written each place's unit stands at its word, and from its gate on the words before that.
 pub fn written_units()
     ensures { WrittenUnits }
 {}
 
-/// The opening calls the entry's gate.
+/// The opening calls the entry where calls arrive there.
 pub fn written_entry()
     ensures { WrittenEntry }
 {}

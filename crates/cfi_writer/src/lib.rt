@@ -12,6 +12,7 @@ mod groups;
 mod hardened;
 mod labels;
 pub mod laws;
+mod leads;
 mod lines;
 mod numbering;
 mod places;

@@ -11,3 +11,5 @@ pub mod Alone
 pub mod Continued
 pub mod Changes
 pub mod Within
+pub mod SameSteps
+pub mod FormMachine

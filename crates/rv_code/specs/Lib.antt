@@ -7,4 +7,5 @@ pub mod State
 pub mod SystemCall
 pub mod Step
 pub mod Run
+pub mod SameMachine
 pub mod Continue

@@ -4,6 +4,8 @@ use Rattle.rv_word.specs.declared.version.ImageVersion.{ImageVersion}
 use Rattle.rv_word.specs.declared.version.ImageVersion.TheVariants.{OneHart, EightHarts}
 use Rattle.rv_word.specs.declared.version.GraphVersion.{GraphVersion}
 use Rattle.rv_word.specs.declared.version.GraphVersion.TheVariants.{OneLabel, TwoLabels, CalleeSaves}
+use Rattle.rv_word.specs.Form.{graph_version, image_version, profile_for}
+use Rattle.rv_word.specs.declared.form.Form.{Form}
 use Rattle.rv_word.specs.MemoryMap.{CODE_START, PART_SIZE, Profile, IsFullProfile, IsLeanProfile, IsProfile, lean_profile_of, lean_version_1, lean_version_2, profile_of, profile_under, version_1, version_2}
 
 pub record LaidOut (p : Profile) : Type 0 where
@@ -100,3 +102,6 @@ pub is_pair_profile : (graph : GraphVersion) (image : ImageVersion) → IsProfil
 is_pair_profile OneLabel image = is_profile image
 is_pair_profile TwoLabels image = is_profile image
 is_pair_profile CalleeSaves image = inr (is_lean image)
+
+pub is_form_profile : (form : Form) → IsProfile (profile_for form)
+is_form_profile form = is_pair_profile (graph_version form) (image_version form)

@@ -1,8 +1,8 @@
-ghost use Rattle.std.specs.Prelude.{◌≡◌, ◌+◌, ◌-◌, ◌≤◌, ◌<◌, ◌^◌};
+ghost use Rattle.std.specs.Prelude.{◌≡◌, ◌+◌, ◌≤◌, ◌<◌, ◌^◌};
 ghost use Rattle.rv_word.specs.Form.{form_name, form_named, form_of, graph_version, image_version, profile_for};
-ghost use Rattle.rv_word.specs.MemoryMap.{CODE_START};
+ghost use Rattle.rv_word.specs.MemoryMap.{CODE_START, profile_with};
 
-use crate::version::{GraphVersion, ImageVersion};
+use crate::version::{GraphVersion, ImageVersion, Versions};
 
 /// The form in which a program is hardened. What is asked of a form is a number or a value of it.
 #[derive(Clone, Copy, Debug, PartialEq, Eq)]
@@ -15,6 +15,10 @@ pub enum Form {
     Split,
     /// For one to eight harts, calls and jumps with labels of their own: images and graphs of version 2.
     HartsSplit,
+    /// For one hart, where callees save sites and a register masks stores: images of version 1, and graphs of version 3.
+    Lean,
+    /// For one to eight harts, where callees save sites and a register masks stores: images of version 2, and graphs of version 3.
+    HartsLean,
 }
 
 impl Form {
@@ -23,29 +27,40 @@ impl Form {
         ensures { result ≡ image_version self }
     {
         match self {
-            Form::Plain | Form::Split => ImageVersion::OneHart,
-            Form::Harts | Form::HartsSplit => ImageVersion::EightHarts,
+            Form::Plain | Form::Split | Form::Lean => ImageVersion::OneHart,
+            Form::Harts | Form::HartsSplit | Form::HartsLean => ImageVersion::EightHarts,
         }
     }
 
     /// The version of the graphs of this form. The two versions tell the form.
     pub fn graph_version(self) -> GraphVersion
         ensures value { result ≡ graph_version self }
-        ensures told { form_of (image_version self) result ≡ Some self }
+        ensures told { form_of (image_version self) result ≡ self }
     {
         match self {
             Form::Plain | Form::Harts => GraphVersion::OneLabel,
             Form::Split | Form::HartsSplit => GraphVersion::TwoLabels,
+            Form::Lean | Form::HartsLean => GraphVersion::CalleeSaves,
+        }
+    }
+
+    /// The versions of its images and of its graphs.
+    pub fn versions(self) -> Versions
+        ensures { profile_with result ≡ profile_for self }
+    {
+        Versions {
+            image: self.image_version(),
+            graph: self.graph_version(),
         }
     }
 
     /// The address of the first unit in images of this form.
     pub fn units_from(self) -> u64
         ensures value { result ≡ (profile_for self).units_from }
-        ensures low { CODE_START + 64 ≤ result }
+        ensures low { CODE_START + 44 ≤ result }
         ensures high { result ≤ CODE_START + 80 }
     {
-        self.image_version().units_from()
+        self.versions().units_from()
     }
 
     /// The address to which a program returns in images of this form.
@@ -53,14 +68,14 @@ impl Form {
         ensures value { result ≡ (profile_for self).closing }
         ensures near { result < 2 ^ 32 }
     {
-        self.image_version().closing()
+        self.units_from() - 8
     }
 
-    /// The address at which the opening's call of the entry begins, as a unit, in images of this form.
-    pub fn call_at(self) -> u64
-        ensures { result ≡ (profile_for self).opening_call - 28 }
+    /// The address at which the opening calls the entry in images of this form.
+    pub fn opening_call(self) -> u64
+        ensures { result ≡ (profile_for self).opening_call }
     {
-        self.closing() - 32
+        self.units_from() - 12
     }
 
     /// The word by which it is called in command lines and in the first lines of maps.
@@ -72,6 +87,8 @@ impl Form {
             Form::Harts => "harts",
             Form::Split => "split",
             Form::HartsSplit => "harts-split",
+            Form::Lean => "lean",
+            Form::HartsLean => "harts-lean",
         }
     }
 
@@ -84,6 +101,8 @@ impl Form {
             "harts" => Some(Form::Harts),
             "split" => Some(Form::Split),
             "harts-split" => Some(Form::HartsSplit),
+            "lean" => Some(Form::Lean),
+            "harts-lean" => Some(Form::HartsLean),
             _ => None,
         }
     }

@@ -13,3 +13,12 @@ pub const CALL_WORDS: u32 = 8;
 pub const IJUMP_WORDS: u32 = 13;
 /// A computed call behind its check and the push of its site.
 pub const ICALL_WORDS: u32 = 20;
+
+/// A store behind a mask of one word, where a register holds the mask.
+pub const SHORT_STORE_WORDS: u32 = 2;
+/// A store behind one of two words, the first of which adds an offset.
+pub const LONG_STORE_WORDS: u32 = 3;
+/// What saves a call's site at the beginning of the function that it calls.
+pub const ENTER_WORDS: u32 = 5;
+/// A computed jump or call behind its check, where that makes the mask of stores again and the callee saves the site.
+pub const LEAN_TRANSFER_WORDS: u32 = 15;

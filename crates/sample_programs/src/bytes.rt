@@ -2,7 +2,7 @@ ghost use Rattle.std.specs.Prelude.{◌≡◌, ◌+◌, ◌*◌, ◌++◌, IfOk,
 ghost use Rattle.std.specs.Int.{to_le_bytes, w32};
 ghost use Rattle.std.specs.List.{flat_map};
 
-use crate::units::{PROLOGUE, PROLOGUE_OF_HARTS};
+use crate::units::{PROLOGUE, PROLOGUE_OF_HARTS, PROLOGUE_OF_HARTS_LEAN, PROLOGUE_OF_LEAN};
 use std::alloc::{AllocError, Global};
 
 /// Adds the bytes of some words.
@@ -34,6 +34,28 @@ pub fn code_of_harts(alloc: Global, units: &[u32]) -> Result<Vec<u8>, AllocError
 {
     let mut bytes = Vec::new(alloc);
     add_words(&mut bytes, &PROLOGUE_OF_HARTS)?;
+    add_words(&mut bytes, units)?;
+    Ok(bytes)
+}
+
+/// The code of the prologue of lean images and some units.
+pub fn code_of_lean(alloc: Global, units: &[u32]) -> Result<Vec<u8>, AllocError>
+    ensures value { IfOk result (λ v. v.items ≡ flat_map (to_le_bytes w32) (PROLOGUE_OF_LEAN ++ units.now)) }
+    ensures len { IfOk result (λ v. length v.items ≡ 44 + 4 * length units.now) }
+{
+    let mut bytes = Vec::new(alloc);
+    add_words(&mut bytes, &PROLOGUE_OF_LEAN)?;
+    add_words(&mut bytes, units)?;
+    Ok(bytes)
+}
+
+/// The code of the prologue of lean images for several harts and some units.
+pub fn code_of_harts_lean(alloc: Global, units: &[u32]) -> Result<Vec<u8>, AllocError>
+    ensures value { IfOk result (λ v. v.items ≡ flat_map (to_le_bytes w32) (PROLOGUE_OF_HARTS_LEAN ++ units.now)) }
+    ensures len { IfOk result (λ v. length v.items ≡ 60 + 4 * length units.now) }
+{
+    let mut bytes = Vec::new(alloc);
+    add_words(&mut bytes, &PROLOGUE_OF_HARTS_LEAN)?;
     add_words(&mut bytes, units)?;
     Ok(bytes)
 }

@@ -3,7 +3,7 @@
 //! of tests use them.
 #![tactic(auto)]
 
-pub use bytes::{add_words, code, code_of_harts};
+pub use bytes::{add_words, code, code_of_harts, code_of_harts_lean, code_of_lean};
 pub use data::{
     APART_DATA, APART_OF_HARTS_DATA, GROUPS_DATA, JOBS_DATA, JOINED_DATA, JUMP_DATA, P_DATA,
     Q_DATA, Q_OF_HARTS_DATA,
@@ -19,7 +19,8 @@ pub use tables::{is_told_as, rows};
 pub use units::{
     A, A_OF_HARTS, AIMED, APART, APART_OF_HARTS, ASTRAY, B, B_OF_HARTS, BEHIND, BREAK, DEEP, ECHO,
     EDGE, GROUPS, H, JOBS, JOINED, JUMP, LOAD, LOOP, NARROW, NOWHERE, OTHER, P, PROLOGUE,
-    PROLOGUE_OF_HARTS, Q, Q_OF_HARTS, RELABELLED, SECOND, SHARED, STATUS, STORES,
+    PROLOGUE_OF_HARTS, PROLOGUE_OF_HARTS_LEAN, PROLOGUE_OF_LEAN, Q, Q_OF_HARTS, RELABELLED, SECOND,
+    SHARED, STATUS, STORES,
 };
 
 mod bytes;

@@ -193,6 +193,20 @@ pub const PROLOGUE_OF_HARTS: [u32; 20] = [
     0x00818193, 0x00c000ef, 0x05d00893, 0x00000073,
 ];
 
+/// The prologue of lean images for one hart, with an entry right behind it.
+#[rattlefmt::skip]
+pub const PROLOGUE_OF_LEAN: [u32; 11] = [
+    0x00100073, 0x00100073, 0x00100073, 0x10000137, 0x10000237, 0xfff20213, 0x600001b7, 0x00818193,
+    0x00c000ef, 0x05d00893, 0x00000073,
+];
+
+/// The prologue of lean images for several harts, with an entry right behind it.
+#[rattlefmt::skip]
+pub const PROLOGUE_OF_HARTS_LEAN: [u32; 15] = [
+    0x00100073, 0x00100073, 0x00100073, 0x10000137, 0x10000237, 0xfff20213, 0x01451f93, 0x41f10133,
+    0x600001b7, 0x01051f93, 0x01f181b3, 0x00818193, 0x00c000ef, 0x05d00893, 0x00000073,
+];
+
 /// A program for several harts that exits with 7.
 pub const A_OF_HARTS: [u32; 4] = [0x00700513, 0x05d00893, 0x00000073, 0xfa5ff06f];
 

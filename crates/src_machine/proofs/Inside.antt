@@ -147,7 +147,7 @@ module _ (layout : ProgramAtMap) (sound : IsSound layout.program) (last : EndsLa
       let instr = instr_here layout k in
       unless_inside (count layout.program) k (reason layout k item.kind instr st) st (acts layout k item.kind instr (unwrap_or item.target 0) st) inside
       (λ none.
-      let instruction = no_last (is_off_graph layout k item.kind instr st) (is_wrong_return layout item.kind st) (is_off_window item.kind instr st)
+      let instruction = no_last (is_off_graph layout k item.kind instr st) (is_wrong_return layout item.kind st) (is_off_window layout k item.kind instr st)
       (is_too_deep item.kind st) (is_end item.kind) (is_unlisted layout item.kind instr st) none in
       acts_there k item.kind instr (unwrap_or item.target 0) st (next_there layout k last below instruction)
       (aimed_below layout.program item.kind item.target (omega arith) (sound.targets k below)) inside)

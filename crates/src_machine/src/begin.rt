@@ -3,6 +3,7 @@
 ghost use Rattle.std.specs.Prelude.{◌≡◌, ◌<◌, ◌≤◌, ◌+◌, ◌^◌, ℕ, List, None, Some, true, false, IfOk, IfErr, MatchResult, is_some, length, slice_index};
 ghost use Rattle.rv_word.specs.Form.{graph_version};
 ghost use Rattle.rv_word.specs.MemoryMap.{DATA_END, DATA_START, profile_of};
+ghost use Rattle.rv_code.specs.SameMachine.{IsSameMachine};
 ghost use Rattle.rv_code.specs.Decode.{decoded};
 ghost use Rattle.obj_program.specs.DataAtMap.{init_size};
 ghost use Rattle.obj_program.specs.Program.{count, is_end, item_of};
@@ -103,7 +104,7 @@ fn start(alloc: Global, placed: &Placed, input: &[u8]) -> Result<State, NoMemory
     requires range { first_astray placed.now ≡ None }
     requires data { DATA_START + init_size placed.now.program ≤ DATA_END }
     ensures state { IfOk result (λ st. source_in st ≡ source_start placed.now input.now) }
-    ensures version { IfOk result (λ st. profile_of st.processor.memory.version ≡ placed.now.profile) }
+    ensures version { IfOk result (λ st. IsSameMachine (profile_of st.processor.memory.version) placed.now.profile) }
 {
     let _count = placed.count();
     let init = placed.data(alloc)?;

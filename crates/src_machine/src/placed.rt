@@ -4,6 +4,7 @@ ghost use Rattle.obj_program.specs.DataAtMap.{data_at, init_size};
 ghost use Rattle.obj_program.specs.MapFit.{EndsLast};
 ghost use Rattle.obj_program.specs.Program.{count, is_end, item_of};
 ghost use Rattle.obj_program.specs.Sound.{IsSound};
+ghost use Rattle.cfi_graph.specs.Graph.{has_leaves};
 ghost use Rattle.cfi_map.specs.GraphAtMap.{gate, word};
 ghost use Rattle.cfi_map.specs.Source.{instr_here};
 ghost use Rattle.cfi_map.specs.Untame.{if_reached, place_with_gate};
@@ -12,7 +13,7 @@ use cfi_map::Mapped;
 use obj_program::Item;
 use rv_code::decode;
 use rv_instr::Instr;
-use rv_word::{Form, NoMemory, Numbers};
+use rv_word::{Form, GraphVersion, NoMemory, Numbers};
 use std::alloc::Global;
 use std::marker::Model;
 
@@ -62,12 +63,19 @@ impl<'a, 'b> Placed<'a, 'b> {
         self.mapped.form()
     }
 
-    /// How many words stand before the unit of a place at most.
-    pub(crate) fn most_lead(&self) -> u64
+    /// How many sides its closed graph has.
+    pub(crate) fn sides(&self) -> u64
         ensures value { result ≡ length self.now.closed.sides }
         ensures few { result ≤ 2 }
     {
         self.mapped.closed().sides().len() as u64
+    }
+
+    /// Whether the base of a store is masked alone, where its offset is its own and not negative.
+    pub(crate) fn has_short_masks(&self) -> bool
+        ensures { result ≡ has_leaves self.now.closed.version }
+    {
+        self.mapped.closed().version() == GraphVersion::CalleeSaves
     }
 
     /// The numbers of the system calls that it may make, where it has a list of them.

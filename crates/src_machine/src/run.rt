@@ -22,6 +22,7 @@ pub struct SourceRun<'a, 'b> {
 impl<'a, 'b> Model for SourceRun<'a, 'b> {
     ghost use Rattle.std.specs.Prelude.{◌≡◌};
     ghost use Rattle.rv_word.specs.MemoryMap.{profile_of};
+    ghost use Rattle.rv_code.specs.SameMachine.{IsSameMachine};
     ghost use Rattle.obj_program.specs.Program.{count};
     ghost use Rattle.src_machine.specs.Running.{SourceParts};
     ghost use Rattle.src_machine.specs.State.{IsInside, source_in};
@@ -31,7 +32,7 @@ impl<'a, 'b> Model for SourceRun<'a, 'b> {
     ghost view = { λ r. record { layout = r.placed; state = r.state; steps = r.steps } };
 
     // It stands at places, and its memory is of the version of its map's form.
-    ghost invariant = { λ r. IsInside (count r.placed.program) (source_in r.state) × (profile_of r.state.processor.memory.version ≡ r.placed.profile) };
+    ghost invariant = { λ r. IsInside (count r.placed.program) (source_in r.state) × IsSameMachine (profile_of r.state.processor.memory.version) r.placed.profile };
 }
 
 /// How many steps are taken after one that ended so.
@@ -46,13 +47,12 @@ fn counted(turn: SourceTurn, steps: u64) -> u64
 }
 
 impl<'a, 'b> SourceRun<'a, 'b> {
-    /// How many words stand before the unit of a place at most: one for each side of its closed graph. By this and by the form of
-    /// its map a comparison has its bound.
-    pub fn most_lead(&self) -> u64
+    /// How many sides its closed graph has. By this and by the form of its map a comparison has its bound.
+    pub fn sides(&self) -> u64
         ensures value { result ≡ length self.now.layout.closed.sides }
         ensures few { result ≤ 2 }
     {
-        self.placed.most_lead()
+        self.placed.sides()
     }
 
     /// The form of its map: the only one for images of its profile and for graphs of its closed graph's version.

@@ -174,7 +174,7 @@ impl State {
     pub(crate) fn close(&mut self, closing: u64) -> Result<u8, NoMemory>
         requires { closing < 2 ^ 63 }
         ensures version { self.new.processor.memory.version ≡ self.old.processor.memory.version }
-        ensures closed { IfOk result (λ status. (layout : ProgramAtMap) → layout.profile ≡ profile_of self.old.processor.memory.version → layout.profile.closing ≡ closing → record { state = source_in self.new; turn = exits status } ≡ closes layout (source_in self.old)) }
+        ensures closed { IfOk result (λ status. (layout : ProgramAtMap) → layout.profile.closing ≡ closing → record { state = source_in self.new; turn = exits status } ≡ closes layout (source_in self.old)) }
         ensures refused { OnErr result (source_in self.new ≡ source_in self.old) }
     {
         let number = Reg::of(17);

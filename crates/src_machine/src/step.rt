@@ -1,6 +1,7 @@
 ghost use Rattle.std.specs.Prelude.{◌≡◌, ◌<◌, ◌+◌, ◌^◌, false, ℕ, IfOk, OnErr, unwrap_or};
 ghost use Rattle.std.specs.List.{All};
 ghost use Rattle.rv_word.specs.MemoryMap.{profile_of};
+ghost use Rattle.rv_code.specs.SameMachine.{IsSameMachine};
 ghost use Rattle.obj_program.specs.Program.{Program, count, is_end, item_of};
 ghost use Rattle.src_machine.specs.State.{IsInside, Leaves, source_in};
 ghost use Rattle.cfi_map.specs.SourceStep.{acts, branches, calls, executes, goes_to, source_step, step_at, step_item, turn_at};
@@ -72,7 +73,7 @@ fn execute(
 ) -> Result<SourceTurn, NoMemory>
     requires place { k < count placed.now.program }
     requires item { item.now ≡ item_of placed.now.program k }
-    requires version { profile_of state.old.processor.memory.version ≡ placed.now.profile }
+    requires version { IsSameMachine (profile_of state.old.processor.memory.version) placed.now.profile }
     ensures executed { IfOk result (λ turn. Leaves placed.now.program (executes placed.now k instr.now (source_in state.old)) turn state.new) }
     ensures refused { OnErr result (source_in state.new ≡ source_in state.old) }
     ensures version { state.new.processor.memory.version ≡ state.old.processor.memory.version }
@@ -92,7 +93,7 @@ fn act(
 ) -> Result<SourceTurn, NoMemory>
     requires place { k + 1 < count placed.now.program }
     requires item { item.now ≡ item_of placed.now.program k }
-    requires version { profile_of state.old.processor.memory.version ≡ placed.now.profile }
+    requires version { IsSameMachine (profile_of state.old.processor.memory.version) placed.now.profile }
     ensures acted { IfOk result (λ turn. Leaves placed.now.program (acts placed.now k item.now.kind instr.now (unwrap_or item.now.target 0) (source_in state.old)) turn state.new) }
     ensures refused { OnErr result (source_in state.new ≡ source_in state.old) }
     ensures version { state.new.processor.memory.version ≡ state.old.processor.memory.version }
@@ -139,7 +140,7 @@ fn step_instr(
     requires item { item.now ≡ item_of placed.now.program k }
     requires instruction { is_end item.now.kind ≡ false }
     requires pending { All (λ j. j < count placed.now.program) state.old.pending }
-    requires version { profile_of state.old.processor.memory.version ≡ placed.now.profile }
+    requires version { IsSameMachine (profile_of state.old.processor.memory.version) placed.now.profile }
     ensures stepped { IfOk result (λ turn. Leaves placed.now.program (step_item placed.now k item.now (source_in state.old)) turn state.new) }
     ensures refused { OnErr result (source_in state.new ≡ source_in state.old) }
     ensures version { state.new.processor.memory.version ≡ state.old.processor.memory.version }
@@ -156,7 +157,7 @@ fn step_instr(
 fn step_place(placed: &Placed, k: u64, state: &mut State) -> Result<SourceTurn, NoMemory>
     requires place { k < count placed.now.program }
     requires pending { All (λ j. j < count placed.now.program) state.old.pending }
-    requires version { profile_of state.old.processor.memory.version ≡ placed.now.profile }
+    requires version { IsSameMachine (profile_of state.old.processor.memory.version) placed.now.profile }
     ensures stepped { IfOk result (λ turn. Leaves placed.now.program (step_item placed.now k (item_of placed.now.program k) (source_in state.old)) turn state.new) }
     ensures refused { OnErr result (source_in state.new ≡ source_in state.old) }
     ensures version { state.new.processor.memory.version ≡ state.old.processor.memory.version }
@@ -172,7 +173,7 @@ fn step_place(placed: &Placed, k: u64, state: &mut State) -> Result<SourceTurn, 
 /// The step at a place, or at the closing.
 fn step_at(placed: &Placed, state: &mut State) -> Result<SourceTurn, NoMemory>
     requires inside { IsInside (count placed.now.program) (source_in state.old) }
-    requires version { profile_of state.old.processor.memory.version ≡ placed.now.profile }
+    requires version { IsSameMachine (profile_of state.old.processor.memory.version) placed.now.profile }
     ensures stepped { IfOk result (λ turn. Leaves placed.now.program (step_at placed.now state.old.place (source_in state.old)) turn state.new) }
     ensures refused { OnErr result (source_in state.new ≡ source_in state.old) }
     ensures version { state.new.processor.memory.version ≡ state.old.processor.memory.version }
@@ -188,7 +189,7 @@ fn step_at(placed: &Placed, state: &mut State) -> Result<SourceTurn, NoMemory>
 #[tactic(auto, unfolding(cfi_map::specs::SourceStep::source_step))]
 pub(crate) fn step(placed: &Placed, state: &mut State) -> Result<SourceTurn, NoMemory>
     requires inside { IsInside (count placed.now.program) (source_in state.old) }
-    requires version { profile_of state.old.processor.memory.version ≡ placed.now.profile }
+    requires version { IsSameMachine (profile_of state.old.processor.memory.version) placed.now.profile }
     ensures stepped { IfOk result (λ turn. Leaves placed.now.program (source_step placed.now (source_in state.old)) turn state.new) }
     ensures refused { OnErr result (source_in state.new ≡ source_in state.old) }
     ensures inside { IsInside (count placed.now.program) (source_in state.new) }

@@ -6,11 +6,11 @@ ghost use Rattle.rv_word.specs.Numbers.{is_listed};
 ghost use Rattle.rv_code.specs.Arithmetic.{load_size, store_size};
 ghost use Rattle.obj_program.specs.Program.{count, is_end};
 ghost use Rattle.src_machine.specs.State.{source_in};
-ghost use Rattle.cfi_map.specs.Untame.{computed, computed_place, is_off_graph, is_off_window, is_outside, is_too_deep, is_unlisted, is_wrong_return, reason, return_address, touched, WINDOW};
+ghost use Rattle.cfi_map.specs.Untame.{base_of, computed, computed_place, is_off_base, is_off_graph, is_off_window, is_outside, is_too_deep, is_unlisted, is_wrong_return, reason, return_address, touched, WINDOW};
 
 use crate::placed::Placed;
 use crate::state::State;
-use cfi_map::Reason;
+use cfi_map::{Reason, is_short};
 use obj_input::ItemKind;
 use rv_instr::{Instr, LoadOp, Reg, StoreOp};
 use rv_word::Numbers;
@@ -117,12 +117,32 @@ fn touches_outside(instr: &Instr, state: &State) -> bool
     }
 }
 
-/// The same of an instruction of a kind.
-fn is_off_window(kind: ItemKind, instr: &Instr, state: &State) -> bool
-    ensures { result ≡ is_off_window kind instr.now (source_in state.now) }
+/// What the base register of a store has.
+fn base_of(instr: &Instr, state: &State) -> u64
+    ensures { result ≡ base_of instr.now (source_in state.now).regs }
+{
+    match *instr {
+        Instr::Store(_, rs1, _, _) => state.reg(rs1),
+        _ => 0,
+    }
+}
+
+/// Whether the base of the store at the place `k`, which is masked without the offset, is not in the window.
+fn is_off_base(placed: &Placed, k: u64, instr: &Instr, state: &State) -> bool
+    requires { k < count placed.now.program }
+    ensures { result ≡ is_off_base placed.now k instr.now (source_in state.now) }
+{
+    placed.has_short_masks() && base_of(instr, state) >= WINDOW && is_short(&placed.item(k))
+}
+
+/// Whether an instruction of a kind leaves the window.
+fn is_off_window(placed: &Placed, k: u64, kind: ItemKind, instr: &Instr, state: &State) -> bool
+    requires { k < count placed.now.program }
+    ensures { result ≡ is_off_window placed.now k kind instr.now (source_in state.now) }
 {
     match kind {
-        ItemKind::Plain | ItemKind::Store => touches_outside(instr, state),
+        ItemKind::Plain => touches_outside(instr, state),
+        ItemKind::Store => touches_outside(instr, state) || is_off_base(placed, k, instr, state),
         _ => false,
     }
 }
@@ -179,6 +199,7 @@ pub(crate) fn reason(
     instr: &Instr,
     state: &State,
 ) -> Option<Reason>
+    requires place { k < count placed.now.program }
     requires pending { All (λ k. k < count placed.now.program) state.now.pending }
     requires instruction { is_end kind ≡ false }
     ensures { result ≡ reason placed.now k kind instr.now (source_in state.now) }
@@ -187,7 +208,7 @@ pub(crate) fn reason(
         Some(Reason::Graph)
     } else if is_wrong_return(placed, kind, state) {
         Some(Reason::Return)
-    } else if is_off_window(kind, instr, state) {
+    } else if is_off_window(placed, k, kind, instr, state) {
         Some(Reason::Window)
     } else if is_too_deep(kind, state) {
         Some(Reason::Deep)

@@ -1,6 +1,8 @@
-//! Tests of lean images, under graphs of version 3, through the tool's public calls: what is verified, rejected and run.
+//! Tests of lean images, under graphs of version 3, through the tool's public calls: what is hardened, verified, rejected and run.
 #![tactic(auto)]
 
+#[cfg(test)]
+mod hardens;
 #[cfg(test)]
 mod pairs;
 #[cfg(test)]

@@ -12,7 +12,7 @@ use obj_program::Items;
 use rv_word::{Form, Image, NoMemory};
 use sample_hardened::put;
 use sample_links::{Objects, Run, SUMS, Sum, Sums, WORKED, Worked, files};
-use sample_programs::{code, code_of_harts};
+use sample_programs::{code, code_of_harts, code_of_harts_lean, code_of_lean};
 use sample_runs::run_of;
 use sample_source::{Asked, is_told};
 use std::alloc::{AllocError, Global};
@@ -31,6 +31,8 @@ fn code_in(alloc: Global, form: Form, units: &[u32]) -> Result<Vec<u8>, AllocErr
     match form {
         Form::Plain | Form::Split => code(alloc, units),
         Form::Harts | Form::HartsSplit => code_of_harts(alloc, units),
+        Form::Lean => code_of_lean(alloc, units),
+        Form::HartsLean => code_of_harts_lean(alloc, units),
     }
 }
 

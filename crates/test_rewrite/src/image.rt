@@ -1,7 +1,7 @@
 use elf_image::write_image_as;
 use rv_word::{Form, NoMemory};
 use sample_hardened::{Program, put};
-use sample_programs::{code, code_of_harts};
+use sample_programs::{code, code_of_harts, code_of_harts_lean, code_of_lean};
 use std::alloc::{AllocError, Global};
 
 /// The image of a form of some code and data; none of code that no image may have.
@@ -18,6 +18,8 @@ fn code_in(alloc: Global, form: Form, units: &[u32]) -> Result<Vec<u8>, AllocErr
     match form {
         Form::Plain | Form::Split => code(alloc, units),
         Form::Harts | Form::HartsSplit => code_of_harts(alloc, units),
+        Form::Lean => code_of_lean(alloc, units),
+        Form::HartsLean => code_of_harts_lean(alloc, units),
     }
 }
 

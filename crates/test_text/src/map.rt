@@ -166,6 +166,8 @@ fn text_of(alloc: Global, form: Form, rest: &str) -> Result<Vec<u8>, AllocError>
         Form::Harts => [b"rvcfi-map 2 harts\n", rest.as_bytes()].concat(alloc),
         Form::Split => [b"rvcfi-map 2 split\n", rest.as_bytes()].concat(alloc),
         Form::HartsSplit => [b"rvcfi-map 2 harts-split\n", rest.as_bytes()].concat(alloc),
+        Form::Lean => [b"rvcfi-map 2 lean\n", rest.as_bytes()].concat(alloc),
+        Form::HartsLean => [b"rvcfi-map 2 harts-lean\n", rest.as_bytes()].concat(alloc),
     }
 }
 
@@ -254,6 +256,8 @@ fn made(alloc: Global, form: Form) -> Result<Map, NoMemory> {
         Form::Harts => Map::of(alloc, Form::Harts, lines),
         Form::Split => Map::of(alloc, Form::Split, lines),
         Form::HartsSplit => Map::of(alloc, Form::HartsSplit, lines),
+        Form::Lean => Map::of(alloc, Form::Lean, lines),
+        Form::HartsLean => Map::of(alloc, Form::HartsLean, lines),
     }
 }
 
@@ -275,7 +279,7 @@ fn is_made_and_written(alloc: Global, form: Form, text: &[u8]) -> bool {
 }
 
 /// The text of that map, by form.
-const MADE: [(Form, &[u8]); 4] = [
+const MADE: [(Form, &[u8]); 6] = [
     (
         Form::Plain,
         b"rvcfi-map 1\nat 40000054 0001 00000008\nend\n",
@@ -291,6 +295,14 @@ const MADE: [(Form, &[u8]); 4] = [
     (
         Form::HartsSplit,
         b"rvcfi-map 2 harts-split\nat 40000054 0001 00000008\nend\n",
+    ),
+    (
+        Form::Lean,
+        b"rvcfi-map 2 lean\nat 40000054 0001 00000008\nend\n",
+    ),
+    (
+        Form::HartsLean,
+        b"rvcfi-map 2 harts-lean\nat 40000054 0001 00000008\nend\n",
     ),
 ];
 

@@ -289,7 +289,7 @@ Commands:
   run           Runs an accepted image, and reports on the run
   compare       Compares the run of an object with that of its image
   demo          Makes an object from a number, hardens, runs and compares it
-  harden        Does what rewrite does, in one of four forms
+  harden        Does what rewrite does, in one of six forms
   link          Does what harden does, with objects joined to one program
   compare-link  Does what compare does, with objects joined to one program
 
@@ -312,12 +312,12 @@ Options:
 ";
 
 const HARDEN_HELP: &str = "\
-Does what rewrite does, in one of four forms
+Does what rewrite does, in one of six forms
 
 Usage: rvcfi harden <FORM> <OBJECT> <ENTRY> <POLICY> <IMAGE> <GRAPH> <MAP>
 
 Arguments:
-  <FORM>    The form of what is made: plain, harts, split or harts-split
+  <FORM>    The form of what is made: plain, harts, split, harts-split, lean or harts-lean
   <OBJECT>  The object to read
   <ENTRY>   The symbol at which the program begins
   <POLICY>  The policy to read, or none
@@ -335,7 +335,7 @@ Does what harden does, with objects joined to one program
 Usage: rvcfi link <FORM> <ENTRY> <POLICY> <IMAGE> <GRAPH> <MAP> <OBJECT>...
 
 Arguments:
-  <FORM>       The form of what is made: plain, harts, split or harts-split
+  <FORM>       The form of what is made: plain, harts, split, harts-split, lean or harts-lean
   <ENTRY>      The symbol at which the program begins
   <POLICY>     The policy to read, or none
   <IMAGE>      The image to write

@@ -8,10 +8,19 @@ fn units_start(form: Form) -> u64 {
     match form {
         Form::Plain | Form::Split => 0x4000_0040,
         Form::Harts | Form::HartsSplit => 0x4000_0050,
+        Form::Lean => 0x4000_002c,
+        Form::HartsLean => 0x4000_003c,
     }
 }
 
-static FORMS: [Form; 4] = [Form::Plain, Form::Harts, Form::Split, Form::HartsSplit];
+static FORMS: [Form; 6] = [
+    Form::Plain,
+    Form::Harts,
+    Form::Split,
+    Form::HartsSplit,
+    Form::Lean,
+    Form::HartsLean,
+];
 
 /// Sizes of parts, and where they start and the last ends, from the first unit on.
 static PLACED: [([u32; 3], [u64; 4]); 3] = [
@@ -24,7 +33,7 @@ static PLACED: [([u32; 3], [u64; 4]); 3] = [
 static NARROW: ([u32; 3], [u64; 4]) = ([1_048_508, 0, 4], [0, 1_048_508, 1_048_508, 1_048_512]);
 
 /// Sizes that are too large in a form, and the bytes of the code.
-static TOO_LARGE: [(Form, [u32; 3], u128); 7] = [
+static TOO_LARGE: [(Form, [u32; 3], u128); 9] = [
     (Form::Plain, [1_048_508, 4, 4], 1_048_580),
     (Form::Plain, [u32::MAX, u32::MAX, u32::MAX], 12_884_901_949),
     (Form::Harts, [1_048_492, 4, 4], 1_048_580),
@@ -32,6 +41,8 @@ static TOO_LARGE: [(Form, [u32; 3], u128); 7] = [
     (Form::Harts, [u32::MAX, u32::MAX, u32::MAX], 12_884_901_965),
     (Form::Split, [1_048_508, 4, 4], 1_048_580),
     (Form::HartsSplit, [1_048_508, 0, 4], 1_048_592),
+    (Form::Lean, [1_048_528, 4, 4], 1_048_580),
+    (Form::HartsLean, [1_048_512, 4, 4], 1_048_580),
 ];
 
 /// A branch's part, its target's part, the bytes before it in its part, and whether it is kept long.

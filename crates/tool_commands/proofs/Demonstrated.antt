@@ -1,16 +1,20 @@
 -- What a demonstration needs of a hardened program: its program runs at its map, and no run of that differs from the image's.
-use Rattle.std.proofs.Common.{◌≡◌, ◌∙◌, ℕ, List, [], length, None, ap, ap₂, refl, subst, sym}
+use Rattle.std.proofs.Common.{◌≡◌, ◌∙◌, ℕ, List, [], length, None, ap, ap₂, refl, replicate, subst, sym}
 use Rattle.rv_word.specs.declared.version.ImageVersion.{ImageVersion}
 use Rattle.rv_word.specs.Form.{graph_version, image_version}
 use Rattle.rv_word.specs.declared.form.Form.{Form}
 use Rattle.elf_image.specs.Spelling.{spelling}
 use Rattle.rv_word.specs.Image.{Contents, IsImageSize, image_profile}
-use Rattle.rv_word.specs.MemoryMap.{profile_of}
+use Rattle.rv_word.specs.MemoryMap.{Profile, profile_of}
+use Rattle.rv_code.specs.SameMachine.{IsSameMachine}
+use Rattle.rv_code.specs.State.{After, start_hart, start_shared}
+use Rattle.rv_code.proofs.FormMachine.{form_machine}
+use Rattle.rv_code.proofs.SameSteps.{run_alone_same}
 use Rattle.cfi_map_text.specs.Map.{MapParts}
 use Rattle.cfi_map.specs.GraphAtMap.{ProgramAtMap, program_at}
 use Rattle.cfi_map.specs.LegalMap.{IsLegalMap, gates_of}
 use Rattle.cfi_map.specs.Placing.{IsPlacementOf, Spaced}
-use Rattle.cfi_map.specs.Source.{first_astray}
+use Rattle.cfi_map.specs.Source.{first_astray, source_start}
 use Rattle.obj_program.specs.Program.{Program}
 use Rattle.cfi_graph.specs.Graph.{GraphParts}
 use Rattle.cfi_rules.specs.Rules.{IsWellFormed, pair_profile}
@@ -20,6 +24,7 @@ use Rattle.cfi_harden.specs.Prepared.{IsPrepared, IsPreparedOf, PreparedParts}
 use Rattle.cfi_harden.specs.Refused.{Refuses}
 use Rattle.cfi_harden.specs.Request.{ProgramRequest, Request}
 use Rattle.refusals.specs.declared.refusal.Refusal.{Refusal}
+use Rattle.cfi_meaning.specs.Bounds.{most_steps}
 use Rattle.cfi_meaning.specs.Compared as runs
 use Rattle.cfi_meaning.specs.Hardened.{NeverDiffersOf}
 use Rattle.cfi_meaning.specs.NeverDiffers.{NoRunDiffers}
@@ -88,6 +93,18 @@ no_difference program (runs.differs d) result none is difference = none d refl
 no_difference program (runs.same events) result none is difference = subst IsDifference is difference
 no_difference program runs.limited result none is difference = subst IsDifference is difference
 
+-- what is compared does not go by who saves sites
+compared_same : (q p : Profile) → IsSameMachine q p → (l : ProgramAtMap) (image : Contents) →
+    runs.compared q l image [] STEP_LIMIT ≡ runs.compared p l image [] STEP_LIMIT
+unfolding runs.compared_from
+compared_same q p same l image =
+    let r = runs.source_run l STEP_LIMIT (source_start l []) in
+    ap (λ (a : After).
+    runs.verdict r.turn
+    (runs.first_difference 0 (runs.has_ended r.turn) (runs.trace r.state.shared.events (runs.source_end r.turn)) (runs.trace a.shared.events (runs.image_end a.turn)))
+    (length r.state.shared.events))
+    (run_alone_same q p same (start_hart 0) (start_shared image []) (replicate (most_steps l r.steps) []))
+
 module _ (p : PreparedParts) (map : MapParts) (image : Contents) where
   pub answer_at : (run : SourceParts) (answer : Compared) → IsSourceOn p map [] run
       → answer ≡ told_answer run.layout.program (runs.compared (image_profile image) run.layout image [] STEP_LIMIT) → IsAnswerAt p map image answer
@@ -101,5 +118,6 @@ module _ (p : PreparedParts) (map : MapParts) (image : Contents) where
     pub never_told : image.version ≡ image_version map.form → NoneDiffers p map image → IsDifference answer → ⊥
     never_told version never =
         let l = at_map p map in
-        let one = ap (λ (v : ImageVersion). runs.compared (profile_of v) l image [] STEP_LIMIT) version in
+        let one = ap (λ (v : ImageVersion). runs.compared (profile_of v) l image [] STEP_LIMIT) version
+        ∙ compared_same (profile_of (image_version map.form)) l.profile (form_machine map.form) l image in
         no_difference p.program (runs.compared l.profile l image [] STEP_LIMIT) answer (never [] STEP_LIMIT) (is ∙ ap (told_answer p.program) one)

@@ -72,11 +72,11 @@ pub(crate) static COMMANDS: [Form; 8] = [
     },
     Form {
         name: "harden",
-        about: "Does what rewrite does, in one of four forms",
+        about: "Does what rewrite does, in one of six forms",
         operands: &[
             (
                 "FORM",
-                "The form of what is made: plain, harts, split or harts-split",
+                "The form of what is made: plain, harts, split, harts-split, lean or harts-lean",
             ),
             ("OBJECT", "The object to read"),
             ("ENTRY", "The symbol at which the program begins"),
@@ -93,7 +93,7 @@ pub(crate) static COMMANDS: [Form; 8] = [
         operands: &[
             (
                 "FORM",
-                "The form of what is made: plain, harts, split or harts-split",
+                "The form of what is made: plain, harts, split, harts-split, lean or harts-lean",
             ),
             ("ENTRY", "The symbol at which the program begins"),
             ("POLICY", "The policy to read, or none"),

@@ -1,11 +1,13 @@
-use Rattle.std.proofs.Common.{ℕ, ◌∙◌, ap, length, subst, sym}
+use Rattle.std.proofs.Common.{ℕ, ◌+◌, ◌*◌, ◌∙◌, ap, length, subst, sym}
 use Rattle.rv_word.specs.Image.{image_profile}
+use Rattle.rv_word.specs.Form.{graph_version}
 use Rattle.rv_word.specs.MemoryMap.{Profile}
+use Rattle.rv_word.specs.declared.version.GraphVersion.{GraphVersion}
 use Rattle.rv_sys.specs.Calls.{Calls}
 use Rattle.rv_machine.specs.Parts.{Parts}
 use Rattle.cfi_map.specs.GraphAtMap.{ProgramAtMap}
 use Rattle.cfi_map.specs.Source.{Source, source_start}
-use Rattle.cfi_meaning.specs.PlacesKept.{bound, last_words}
+use Rattle.cfi_meaning.specs.Bounds.{entry_words_by, last_words, most_words_by}
 use Rattle.cfi_runs.specs.WholeRun.{undisturbed}
 use Rattle.src_machine.specs.Running.{source_of}
 use Rattle.cfi_compare.specs.Followed.{IsAnswered}
@@ -29,9 +31,13 @@ returns-in_ok-answer-in_default c =
     let events = c.events-events.ensures ∙ ap (λ (x : Calls). x.events) c.system.ensures ∙ calls ∙ ap (λ (st : Source). st.shared.events) finished.state in
     let p = image_profile c.args.image.now in
     let profile = sym (ap (λ (x : ProgramAtMap). x.profile) finished.layout) ∙ c.form.ensures.profile in
-    let lead = c.most_lead.ensures.value ∙ ap (λ (x : ProgramAtMap). length x.closed.sides) finished.layout in
-    let most = c.bound-most.ensures ∙ ap (λ (q : Profile). bound c.most_lead.result (last_words q) c.steps.result) (sym profile)
-    ∙ ap (λ (n : ℕ). bound n (last_words c.args.source.now.layout.profile) c.steps.result) lead in
+    let version = sym (ap (λ (x : ProgramAtMap). x.closed.version) finished.layout) ∙ c.form.ensures.version in
+    let sides = c.sides.ensures.value ∙ ap (λ (x : ProgramAtMap). length x.closed.sides) finished.layout in
+    let steps : Profile → GraphVersion → ℕ → ℕ = λ q v n. most_words_by v n * c.steps.result + (last_words q + entry_words_by v) in
+    let most = c.most_steps-most.ensures
+    ∙ ap (λ (q : Profile). steps q (graph_version c.form.result) c.sides.result) (sym profile)
+    ∙ ap (λ (v : GraphVersion). steps c.args.source.now.layout.profile v c.sides.result) (sym version)
+    ∙ ap (λ (n : ℕ). steps c.args.source.now.layout.profile c.args.source.now.layout.closed.version n) sides in
     let answered = subst (λ (n : ℕ). IsAnswered c.events-events.result.now c.in_ok-turn.turn (undisturbed p c.args.image.now c.args.input.now n) c.in_ok-answer-in_default.answer)
     most c.in_ok-answer-in_default.ensures in
     let is = compared_tame (image_profile c.args.image.now) c.args.source.now.layout (source_of c.args.source.now) c.args.image.now c.args.input.now c.args.limit c.in_ok-turn.turn c.events-events.result.now c.steps.result c.in_ok-answer-in_default.answer

@@ -9,7 +9,8 @@ use Rattle.cfi_rules.proofs.Walks.{safe_walks}
 use Rattle.cfi_script.specs.Plan.{harts_of, planned, steps_of}
 use Rattle.cfi_script.specs.Script.{Changes, script_plan}
 use Rattle.cfi_script.specs.Turns.{Turns, turns_of}
-use Rattle.cfi_step.proofs.PairProfile.{may_run, same_machine}
+use Rattle.rv_code.proofs.FormMachine.{same_machine}
+use Rattle.cfi_step.proofs.PairProfile.{may_run}
 use Rattle.cfi_step.proofs.Reported.{Tells, all_made, all_turns, are_walked, begins, over_so, reports}
 use Rattle.cfi_step.proofs.Replay.{in_order, replays}
 use Rattle.cfi_step.proofs.runs.run.Goals as goal

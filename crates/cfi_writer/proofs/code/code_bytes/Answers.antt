@@ -1,7 +1,6 @@
 use Rattle.std.proofs.Common.{◌≡◌, ◌+◌, ◌*◌, ◌++◌, List, ℕ, length, arith, ap, ◌∙◌, sym, subst, drop, [], ◌∷◌}
 use Rattle.std.proofs.Math.ListN.{drop_of_length-le}
-use Rattle.rv_word.specs.Form.{profile_for}
-use Rattle.rv_word.specs.MemoryMap.{CODE_START}
+use Rattle.rv_word.specs.MemoryMap.{CODE_START, profile_with}
 use Rattle.cfi_unit.specs.UnitWords.{Fits, words_of}
 use Rattle.cfi_unit.specs.declared.unit.Unit as U
 use Rattle.cfi_rules.specs.Placed.{placed_code}
@@ -11,7 +10,7 @@ use Rattle.cfi_writer.proofs.code.code_bytes.Goals as goal
 
 pub emit-requires-clause-place : goal.emit-requires-clause-place
 emit-requires-clause-place c =
-    let whole = placed_code (profile_for c.args.form) c.args.entry c.args.units.now in
+    let whole = placed_code (profile_with c.args.versions) c.args.entry c.args.units.now in
     let left = next_is c.args.units.now c.loop-unit.unit-index c.unit-item.result c.loop-unit-test.true (sym c.unit-item.is) in
     let written : IsWritten whole (c.unit-item.result ∷ drop (c.loop-unit.unit-index + 1) c.args.units.now) c.loop-unit.bytes.items =
     subst (λ (us : List U.Unit). IsWritten whole us c.loop-unit.bytes.items) left c.loop-unit.invariant in
@@ -21,7 +20,7 @@ emit-requires-clause-place c =
 
 pub emit-requires-clause-fits : goal.emit-requires-clause-fits
 emit-requires-clause-fits c =
-    let whole = placed_code (profile_for c.args.form) c.args.entry c.args.units.now in
+    let whole = placed_code (profile_with c.args.versions) c.args.entry c.args.units.now in
     let left = next_is c.args.units.now c.loop-unit.unit-index c.unit-item.result c.loop-unit-test.true (sym c.unit-item.is) in
     let written : IsWritten whole (c.unit-item.result ∷ drop (c.loop-unit.unit-index + 1) c.args.units.now) c.loop-unit.bytes.items =
     subst (λ (us : List U.Unit). IsWritten whole us c.loop-unit.bytes.items) left c.loop-unit.invariant in
@@ -31,7 +30,7 @@ emit-requires-clause-fits c =
 
 pub loop-unit-preserved : goal.loop-unit-preserved
 loop-unit-preserved c =
-    let whole = placed_code (profile_for c.args.form) c.args.entry c.args.units.now in
+    let whole = placed_code (profile_with c.args.versions) c.args.entry c.args.units.now in
     let left = next_is c.args.units.now c.loop-unit.unit-index c.unit-item.result c.loop-unit-test.true (sym c.unit-item.is) in
     let written : IsWritten whole (c.unit-item.result ∷ drop (c.loop-unit.unit-index + 1) c.args.units.now) c.loop-unit.bytes.items =
     subst (λ (us : List U.Unit). IsWritten whole us c.loop-unit.bytes.items) left c.loop-unit.invariant in
@@ -44,17 +43,17 @@ loop-unit-preserved c =
 
 pub returns-clause-words : goal.returns-clause-words
 returns-clause-words c =
-    let whole = placed_code (profile_for c.args.form) c.args.entry c.args.units.now in
+    let whole = placed_code (profile_with c.args.versions) c.args.entry c.args.units.now in
     let none : drop c.loop-unit.unit-index c.args.units.now ≡ [] = drop_of_length-le c.args.units.now c.loop-unit-test.false in
     let written : IsWritten whole [] c.loop-unit.bytes.items = subst (λ (us : List U.Unit). IsWritten whole us c.loop-unit.bytes.items) none c.loop-unit.invariant in
     (all_written whole c.loop-unit.bytes.items written).0
 
 pub returns-clause-size : goal.returns-clause-size
 returns-clause-size c =
-    let whole = placed_code (profile_for c.args.form) c.args.entry c.args.units.now in
+    let whole = placed_code (profile_with c.args.versions) c.args.entry c.args.units.now in
     let none : drop c.loop-unit.unit-index c.args.units.now ≡ [] = drop_of_length-le c.args.units.now c.loop-unit-test.false in
     let written : IsWritten whole [] c.loop-unit.bytes.items = subst (λ (us : List U.Unit). IsWritten whole us c.loop-unit.bytes.items) none c.loop-unit.invariant in
     (all_written whole c.loop-unit.bytes.items written).1
 
 pub loop-unit-init : goal.loop-unit-init
-loop-unit-init c = first_written c.args.form c.args.entry c.args.units.now c.in_ok-bytes.bytes.items c.in_ok-bytes.ensures.words c.in_ok-bytes.ensures.size c.requires.fit
+loop-unit-init c = first_written c.args.versions c.args.entry c.args.units.now c.in_ok-bytes.bytes.items c.in_ok-bytes.ensures.words c.in_ok-bytes.ensures.size c.requires.fit

@@ -1,4 +1,4 @@
-use Rattle.cfi_writer.proofs.WholeCode.{written_lines}
+use Rattle.cfi_writer.proofs.WholeLines.{written_lines}
 use Rattle.cfi_writer.proofs.laws.written_lines.Goals as goal
 
 pub returns : goal.returns

@@ -2,6 +2,9 @@ use Rattle.std.proofs.Common.{◌≡◌, ◌∙◌, ap, sym, subst, IfOk, Some}
 use Rattle.std.proofs.lemmas.Result.{IfOk-weaker}
 use Rattle.rv_word.specs.Form.{image_version, profile_for}
 use Rattle.rv_word.specs.MemoryMap.{Profile, profile_of}
+use Rattle.rv_word.specs.declared.version.ImageVersion.{ImageVersion}
+use Rattle.rv_code.specs.SameMachine.{IsSameMachine}
+use Rattle.rv_code.proofs.FormMachine.{form_machine}
 use Rattle.cfi_map.specs.GraphAtMap.{words_at}
 use Rattle.cfi_map.specs.Source.{Source}
 use Rattle.cfi_map.proofs.Values.{data_there}
@@ -23,5 +26,5 @@ returns-clause-state c =
 pub returns-clause-version : goal.returns-clause-version
 returns-clause-version c =
     IfOk-weaker c.new.result (λ (st : StateParts). st.processor.memory.version ≡ image_version c.form.result)
-    (λ (st : StateParts). profile_of st.processor.memory.version ≡ c.args.placed.now.profile)
-    (λ st is. ap profile_of is ∙ sym c.form.ensures.profile) c.new.ensures.version
+    (λ (st : StateParts). IsSameMachine (profile_of st.processor.memory.version) c.args.placed.now.profile)
+    (λ st is. ap (λ (v : ImageVersion). (profile_of v).shadow_size) is ∙ form_machine c.form.result ∙ ap (λ (p : Profile). p.shadow_size) (sym c.form.ensures.profile)) c.new.ensures.version

@@ -1,7 +1,6 @@
 use Rattle.std.proofs.Common.{◌≡◌, length, subst}
-use Rattle.rv_word.proofs.Profiles.{is_full}
-use Rattle.rv_word.specs.Form.{image_version}
-use Rattle.rv_word.specs.MemoryMap.{IsFullProfile}
+use Rattle.rv_word.proofs.Profiles.{is_form_profile}
+use Rattle.rv_word.specs.MemoryMap.{IsProfile}
 use Rattle.obj_program.specs.Program.{count}
 use Rattle.cfi_map.specs.GraphAtMap.{ProgramAtMap, words_at}
 use Rattle.cfi_map.proofs.Placing.{words_kept}
@@ -11,4 +10,4 @@ pub returns-clause-words : goal.returns-clause-words
 returns-clause-words c = subst (λ (l : ProgramAtMap). length (words_at l) ≡ count l.program) c.self.view_is (words_kept _ _ _ c.self.invariant)
 
 pub returns-clause-profile : goal.returns-clause-profile
-returns-clause-profile c = subst (λ (l : ProgramAtMap). IsFullProfile l.profile) c.self.view_is (is_full (image_version c.self.inside.form))
+returns-clause-profile c = subst (λ (l : ProgramAtMap). IsProfile l.profile) c.self.view_is (is_form_profile c.self.inside.form)

@@ -1,9 +1,9 @@
-use Rattle.std.proofs.Common.{◌≡◌, ◌<◌, ◌≤◌, ◌++◌, List, ℕ, Some, length, map, ap, subst, sym, ◌∙◌}
+use Rattle.std.proofs.Common.{◌≡◌, ◌<◌, ◌≤◌, ◌++◌, List, ℕ, Some, length, map, ap, subst, sym, ◌∙◌, append_assoc}
 use Rattle.std.specs.Prelude.{slice_get}
 use Rattle.cfi_graph.specs.declared.line.GraphLine.{GraphLine}
 use Rattle.cfi_closed.specs.Closed.{ClosedGraph, Side}
-use Rattle.cfi_map.specs.GraphAtMap.{call_lines, class_lines, head_lines}
-use Rattle.cfi_map.specs.LabelOf.{all_classes, tag}
+use Rattle.cfi_map.specs.GraphAtMap.{call_lines, class_lines, head_lines, leaf_lines_by}
+use Rattle.cfi_map.specs.LabelOf.{all_classes, tag, tagged}
 use Rattle.cfi_writer.proofs.LineList.{all_side_lines, first_side_lines, members_there, next_side}
 use Rattle.cfi_writer.proofs.Starts.{side_there}
 use Rattle.cfi_writer.proofs.chosen.Chosen.head_lines.Goals.{After-label_count}
@@ -18,8 +18,12 @@ there c =
 pub loop-j-init : goal.loop-j-init
 loop-j-init c =
     let m = c.args.self.now in
-    first_side_lines m.layout.gates m.labels m.layout.closed.sides c.push_calls.new.lines.items (call_lines m.layout.closed.calls)
-    (c.in_ok-push_calls.ensures ∙ ap (λ (ls : List GraphLine). ls ++ call_lines m.layout.closed.calls) c.new-lines.ensures.items)
+    let calls = call_lines m.layout.closed.calls in
+    let leaves = leaf_lines_by m.layout.closed.version m.layout in
+    first_side_lines m.layout.gates m.labels m.layout.closed.sides c.push_leaves.new.lines.items (calls ++ leaves)
+    (c.in_ok-push_leaves.ensures
+    ∙ ap (λ (ls : List GraphLine). ls ++ leaves) (c.in_ok-push_calls.ensures ∙ ap (λ (ls : List GraphLine). ls ++ calls) c.new-lines.ensures.items))
+    ∙ append_assoc calls leaves (class_lines m.layout.gates m.labels (tagged m.layout.closed.sides))
 
 pub push_side_lines-requires-clause-places : goal.push_side_lines-requires-clause-places
 push_side_lines-requires-clause-places c = members_there c.args.self.now c.loop-j.j c.index-sides-j.result c.count-count.ensures.accepted (there c)

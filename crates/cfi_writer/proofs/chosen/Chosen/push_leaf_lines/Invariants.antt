@@ -1,0 +1,8 @@
+use Rattle.std.proofs.Common.{◌++◌}
+use Rattle.obj_program.specs.Program.{count}
+use Rattle.cfi_map.specs.GraphAtMap.{leaf_lines_from}
+use Rattle.cfi_writer.proofs.LineList.{AreLeafLines}
+use Rattle.cfi_writer.proofs.chosen.Chosen.push_leaf_lines.Given as goal
+
+abbrev pub invariant-loop-k : goal.invariant-loop-k
+invariant-loop-k l = AreLeafLines l.self.layout l.k l.lines.items (l.fn.lines.items ++ leaf_lines_from l.self.layout 0 (count l.self.layout.program))
