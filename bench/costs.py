@@ -124,7 +124,7 @@ def main():
             tool = os.path.abspath(options.program)
             found[kind] = [(program, measured(tool, compiler, options.level, program, folder)) for program in PROGRAMS]
             if kind in programs.PROCESSORS:
-                tell(kind, names, found[kind])
+                tell(kind, [name for name in names if "harts" not in name], found[kind])  # four words more, once
     choose(names, found)
 
 

@@ -6,7 +6,7 @@
 Objects, images, graphs, maps, policies, scripts and command lines are turned: bits, bytes, ranges, fields of headers, rows of
 tables, words of code, lines, numbers at their limits, cut and longer files (turns.py, cases.py). Each case draws from the seed
 and its own number, so `--seed TEXT --case NUMBER` is that case again, by the same compilers and the same program. `rewrite`,
-`harden` and `link` in the four forms, `verify`, `run`, `compare` and `compare-link` are asked, `demo` by wrong words alone, and of
+`harden` and `link` in each form, `verify`, `run`, `compare` and `compare-link` are asked, `demo` by wrong words alone, and of
 each call:
 
 - its status is one that docs/COMMANDS.md names for the command, and its text is one of the status's forms (answers.py);

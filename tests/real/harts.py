@@ -131,6 +131,7 @@ class Build:
 
     def __init__(self, tool, folder, compiler, level, form="harts", called="clerks", files=OFFICE, join="ld -r", listed=False):
         program = Program(called, ["harts.s"] + files, b"")
+        self.form = form
         self.name = "%s %s %s, %s by %s%s" % (compiler.name, compiler.processor, level, form, join, ", listed" * listed)
         joined = programs.joined(compiler, level, program, folder)
         self.plain = programs.linked(joined)

@@ -3,8 +3,8 @@
 
     python3 tests/real/libraries.py [--program PATH] [--sysroot FOLDER] [--sources FOLDER] [--compiler gcc|clang] [NAME ..]
 
-The library is built by tools/sysroot.py, once in FOLDER where one is named. Each program is joined with it to one object, which in each of
-the four forms must be hardened and accepted; its output and status in the machine, with those of the plain program under qemu-riscv64,
+The library is built by tools/sysroot.py, once in FOLDER where one is named. Each program is joined with it to one object, which in
+each form must be hardened and accepted; its output and status in the machine, with those of the plain program under qemu-riscv64,
 must be those of the same files built for the host. Without names it is `sums` (of this folder) and `cmark`. Each member of the
 library by itself must be refused for nothing but names that it does not define. What is missing, as a network, is told as not run. The last line counts what was asked, and the status is 1 where one failed.
 """
