@@ -3,8 +3,8 @@
 
 Printed are those of `verify` of bench/verify.py's images of 1,024 KiB, with one store behind a mask, with several, and lean; of `rewrite` and
 `verify` of bench/rewrite.py's 950 functions; and those of a step of `run`, of `loop` and of the compiled programs of bench/run.py, as the
-difference of two runs of other lengths, in which the start falls out, also of the library's example `run` (library/build.sh), which
-calls `rvcfi_run`; and of bench/run.py's `loop` and `worker` for several harts, by its scripts of turns. The same program, files and
+difference of two runs of other lengths, in which the start falls out, and of bench/run.py's `loop` and `worker` for several harts, by its
+scripts of turns; the steps also of the library's example `run` (library/build.sh), which calls `rvcfi_run`. The same program, files and
 machine give the same counts.
 """
 
@@ -54,12 +54,12 @@ def print_steps(what, command, cases):
         print("%s, a step of %s: %.1f" % (what, name, of_a_step(command, paths, given)))
 
 
-def print_harts(program, folder):
+def print_harts(what, command, folder):
     """A step of the programs for several harts: the commands are in pairs, all steps and none."""
     for name, build in (("loop", run.looping), ("worker", run.working)):
-        counts = [instructions(command) for command in run.hart_commands(program, folder, name, build)]
+        counts = [instructions(each) for each in run.hart_commands(command, folder, name, build)]
         for (turns, *_), long, short in zip(run.turn_scripts(), counts[::2], counts[1::2]):
-            print("run, a step of %s, %s: %.0f" % (name, turns, (long - short) / run.HART_STEPS))
+            print("%s, a step of %s, %s: %.1f" % (what, name, turns, (long - short) / run.HART_STEPS))
 
 
 def main():
@@ -71,12 +71,14 @@ def main():
         print_files(asked.program, folder)
         cases = [("loop", run.write_pair(folder, "loop", run.loop(run.MANY)), "none")]
         cases += [(case.name, case.paths, case.given) for case, _ in run.compiled_cases(asked.program, folder)]
-        print_steps("run", [asked.program, "run"], cases)
+        programs = [("run", [asked.program, "run"])]
         if os.path.exists(asked.example):
-            print_steps("rvcfi_run for C", [asked.example], cases)
+            programs.append(("rvcfi_run for C", [asked.example]))
         else:
             print("not run, since %s is not there (library/build.sh): rvcfi_run for C" % asked.example)
-        print_harts(asked.program, folder)
+        for what, command in programs:
+            print_steps(what, command, cases)
+            print_harts(what, command, folder)
 
 
 if __name__ == "__main__":

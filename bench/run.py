@@ -286,14 +286,14 @@ def compiled_cases(tool, folder):
     return cases
 
 
-def hart_commands(tool, folder, name, build):
+def hart_commands(command, folder, name, build):
     """The commands that run a program for several harts, by each script for all steps and for none."""
     commands = []
     for turns, version, text in turn_scripts():
         built = build(version)
         paths = write_pair(folder, "%s_%d" % (name, version), (built.image, built.graph))
         script = write(os.path.join(folder, turns), text.encode()) if text else "none"
-        commands += [[tool, "run"] + paths + [script, "none", str(steps)] for steps in (HART_STEPS, 0)]
+        commands += [[*command, *paths, script, "none", str(steps)] for steps in (HART_STEPS, 0)]
     return commands
 
 
@@ -301,7 +301,7 @@ def print_harts(tool, folder, runs):
     """The steps a second of one hart and of eight, without the start and the reading of the script, beside those of the same
     program in an image of version 1."""
     for name, build in (("loop", looping), ("worker", working)):
-        commands = hart_commands(tool, folder, name, build)
+        commands = hart_commands([tool, "run"], folder, name, build)
         least = [float("inf")] * len(commands)
         for _ in range(runs):
             least = [min(before, called(command, (LIMIT,))[0]) for before, command in zip(least, commands)]

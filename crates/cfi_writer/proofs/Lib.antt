@@ -33,14 +33,12 @@ pub mod SoundCode
 pub mod WholeLines
 pub mod WholeCode
 pub mod SitesThere
-pub mod CodeBytes
 pub mod MapFits
 pub mod ClassLabels
 pub mod SiteNumbers
 pub mod Gates
 pub mod Aims
 pub mod UnitList
-pub mod CodeWritten
 pub mod WholeImage
 pub mod LineList
 pub mod PlaceLines

@@ -14,7 +14,7 @@ use Rattle.cfi_unit.specs.declared.unit.Unit.TheVariants as V
 use Rattle.cfi_graph.specs.declared.line.Sort.TheVariants.{Both}
 use Rattle.cfi_map.specs.GraphAtMap.{ProgramAtMap}
 use Rattle.cfi_writer.specs.MapLines.{lines_from, map_lines}
-use Rattle.cfi_writer.specs.Prologue.{before_call}
+use Rattle.cfi_code.specs.Prologue.{before_call}
 
 abbrev of : ImageVersion → GraphVersion → Versions
 of image graph = record { image = image; graph = graph }

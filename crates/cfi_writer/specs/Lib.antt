@@ -6,5 +6,4 @@ pub mod GraphOf
 pub mod SideLaws
 pub mod Laws
 pub mod Hardened
-pub mod Prologue
 pub mod Writing

@@ -12,7 +12,7 @@ ghost use Rattle.cfi_writer.specs.MapLines.{map_lines};
 ghost use Rattle.cfi_writer.specs.Writing.{IsCoded, IsDescribed, IsImageWith, IsWrittenAs, IsWritable};
 
 use crate::chosen::Chosen;
-use crate::code::code_bytes;
+use cfi_code::code_bytes;
 use cfi_graph::Graph;
 use cfi_map::{Mapped, Spacing};
 use cfi_map_text::Map;

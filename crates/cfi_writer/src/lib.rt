@@ -7,7 +7,6 @@ pub use hardened::{Hardened, written};
 pub use numbering::class_labels;
 
 mod chosen;
-mod code;
 mod groups;
 mod hardened;
 mod labels;

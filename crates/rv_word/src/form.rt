@@ -71,13 +71,6 @@ impl Form {
         self.units_from() - 8
     }
 
-    /// The address at which the opening calls the entry in images of this form.
-    pub fn opening_call(self) -> u64
-        ensures { result ≡ (profile_for self).opening_call }
-    {
-        self.units_from() - 12
-    }
-
     /// The word by which it is called in command lines and in the first lines of maps.
     pub fn name(self) -> &'static str
         ensures { result.now ≡ form_name self }

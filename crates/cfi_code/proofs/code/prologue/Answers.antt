@@ -4,9 +4,9 @@ use Rattle.rv_code.specs.Encode.{code_of}
 use Rattle.cfi_unit.specs.UnitWords.{Fits, words_of}
 use Rattle.cfi_unit.specs.declared.unit.Unit as U
 use Rattle.cfi_rules.specs.Split.{code_words}
-use Rattle.cfi_writer.specs.Prologue.{before_call, begins_with, call_with}
-use Rattle.cfi_writer.proofs.CodeWritten.{call_fits, call_inside, prologue_size, prologue_words}
-use Rattle.cfi_writer.proofs.code.prologue.Goals as goal
+use Rattle.cfi_code.specs.Prologue.{before_call, begins_with, call_with}
+use Rattle.cfi_code.proofs.CodeWritten.{call_fits, call_inside, prologue_size, prologue_words}
+use Rattle.cfi_code.proofs.code.prologue.Goals as goal
 
 pub emit-requires-clause-place : goal.emit-requires-clause-place
 emit-requires-clause-place c = subst (λ (at : ℕ). at < CODE_START + CODE_SIZE) (sym c.call_at.ensures) (call_inside c.args.versions)

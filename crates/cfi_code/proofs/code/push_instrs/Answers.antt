@@ -1,7 +1,7 @@
 use Rattle.std.proofs.Common.{length}
 use Rattle.cfi_rules.specs.Split.{code_words}
-use Rattle.cfi_writer.proofs.CodeBytes.{all_codes, all_size, next_code, next_size}
-use Rattle.cfi_writer.proofs.code.push_instrs.Goals as goal
+use Rattle.cfi_code.proofs.CodeBytes.{all_codes, all_size, next_code, next_size}
+use Rattle.cfi_code.proofs.code.push_instrs.Goals as goal
 
 pub loop-instr-preserved : goal.loop-instr-preserved
 loop-instr-preserved c = (

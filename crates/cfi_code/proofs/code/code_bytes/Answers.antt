@@ -5,8 +5,8 @@ use Rattle.cfi_unit.specs.UnitWords.{Fits, words_of}
 use Rattle.cfi_unit.specs.declared.unit.Unit as U
 use Rattle.cfi_rules.specs.Placed.{placed_code}
 use Rattle.cfi_rules.specs.Split.{code_words}
-use Rattle.cfi_writer.proofs.CodeWritten.{IsWritten, all_written, first_written, next_fits, next_inside, next_is, next_written}
-use Rattle.cfi_writer.proofs.code.code_bytes.Goals as goal
+use Rattle.cfi_code.proofs.CodeWritten.{IsWritten, all_written, first_written, next_fits, next_inside, next_is, next_written}
+use Rattle.cfi_code.proofs.code.code_bytes.Goals as goal
 
 pub emit-requires-clause-place : goal.emit-requires-clause-place
 emit-requires-clause-place c =

@@ -1,7 +1,7 @@
 use Rattle.std.proofs.Common.{length}
 use Rattle.cfi_rules.specs.Split.{code_words}
-use Rattle.cfi_writer.proofs.CodeBytes.{all_size, all_words, next_size, next_word}
-use Rattle.cfi_writer.proofs.code.push_words.Goals as goal
+use Rattle.cfi_code.proofs.CodeBytes.{all_size, all_words, next_size, next_word}
+use Rattle.cfi_code.proofs.code.push_words.Goals as goal
 
 pub loop-word-preserved : goal.loop-word-preserved
 loop-word-preserved c = (

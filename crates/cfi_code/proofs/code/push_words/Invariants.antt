@@ -1,6 +1,6 @@
 use Rattle.std.proofs.Common.{◌≡◌, ◌+◌, ◌*◌, ◌++◌, length, take}
 use Rattle.cfi_rules.specs.Split.{code_words}
-use Rattle.cfi_writer.proofs.code.push_words.Given as goal
+use Rattle.cfi_code.proofs.code.push_words.Given as goal
 
 abbrev pub invariant-loop-word : goal.invariant-loop-word
 invariant-loop-word l =

@@ -1,7 +1,7 @@
 use Rattle.std.proofs.Common.{◌≡◌, ◌+◌, ◌*◌, ◌++◌, length, take, map}
 use Rattle.rv_code.specs.Encode.{code_of}
 use Rattle.cfi_rules.specs.Split.{code_words}
-use Rattle.cfi_writer.proofs.code.push_instrs.Given as goal
+use Rattle.cfi_code.proofs.code.push_instrs.Given as goal
 
 abbrev pub invariant-loop-instr : goal.invariant-loop-instr
 invariant-loop-instr l =

@@ -8,7 +8,7 @@ ghost use Rattle.cfi_unit.specs.Prologue.{closing_instrs, lean_lone_set_up, lean
 ghost use Rattle.cfi_unit.specs.UnitWords.{Fits, Reaches, words_of};
 ghost use Rattle.cfi_rules.specs.Placed.{AllFit, placed_code};
 ghost use Rattle.cfi_rules.specs.Split.{code_words};
-ghost use Rattle.cfi_writer.specs.Prologue.{before_call, begins_with, call_with, set_up_with};
+ghost use Rattle.cfi_code.specs.Prologue.{before_call, begins_with, call_with, set_up_with};
 
 use cfi_unit::{Unit, emit};
 use rv_code::encode;

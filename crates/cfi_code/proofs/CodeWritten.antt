@@ -15,7 +15,7 @@ use Rattle.cfi_unit.proofs.Counts.{some_word}
 use Rattle.cfi_unit.proofs.Found.{words_counted}
 use Rattle.cfi_rules.specs.Placed.{AllFit, code_from, placed_code}
 use Rattle.cfi_rules.specs.Split.{code_words}
-use Rattle.cfi_writer.specs.Prologue.{before_call, begins_with, call_with}
+use Rattle.cfi_code.specs.Prologue.{before_call, begins_with, call_with}
 
 abbrev versions_of : GraphVersion → ImageVersion → Versions
 versions_of graph image = record { image = image; graph = graph }

@@ -1,0 +1,2 @@
+mod CodeBytes
+mod CodeWritten
