@@ -11,7 +11,7 @@ use Rattle.clap.proofs.OnLiterals.{clap_on_literals}
 use Rattle.tool_words.specs.CommandLine.{COMPARE_LINK, LINK}
 use Rattle.tool_words.specs.Reading.{request_in}
 use Rattle.tool_words.proofs.Leaf.{end_fault, fault_from, held, held_after, stand, unrolled}
-use Rattle.tool_words.proofs.Numbers.{AsksAll, leaf, some_wrong, wrong}
+use Rattle.tool_words.proofs.Numbers.{AsksAll, by_number, leaf, over_number, refuted, wrong}
 
 -- what is found for a name
 abbrev row : Text → List Text → Row
@@ -119,44 +119,20 @@ module _ (a b c d e f : Text) where
 
 pub link_asks : (values : List Text) → wrong LINK values ≡ [] → AsksAll LINK values
 unfolding clap_on_literals
-link_asks [] none = absurd (some_wrong none)
-link_asks (a ∷ []) none = absurd (some_wrong none)
-link_asks (a ∷ b ∷ []) none = absurd (some_wrong none)
-link_asks (a ∷ b ∷ c ∷ []) none = absurd (some_wrong none)
-link_asks (a ∷ b ∷ c ∷ d ∷ []) none = absurd (some_wrong none)
-link_asks (a ∷ b ∷ c ∷ d ∷ e ∷ []) none = absurd (some_wrong none)
-link_asks (a ∷ b ∷ c ∷ d ∷ e ∷ f ∷ []) none = absurd (some_wrong none)
-link_asks (a ∷ b ∷ c ∷ d ∷ e ∷ f ∷ object ∷ more) none = (many_asked _ _ _ (link_repeats a b c d e f) more [] object, omega arith)
+link_asks =
+    by_number 6 (λ values. wrong LINK values ≡ [] → AsksAll LINK values)
+    (refuted, λ a. (refuted, λ b. (refuted, λ c. (refuted, λ d. (refuted, λ e. (refuted, λ f. (refuted, λ object more none. (many_asked _ _ _ (link_repeats a b c d e f) more [] object, omega arith))))))))
 
 pub link_right : (values : List Text) → 6 < length values → wrong LINK values ≡ []
 unfolding clap_on_literals
-link_right [] size = absurd (omega (arith, size))
-link_right (a ∷ []) size = absurd (omega (arith, size))
-link_right (a ∷ b ∷ []) size = absurd (omega (arith, size))
-link_right (a ∷ b ∷ c ∷ []) size = absurd (omega (arith, size))
-link_right (a ∷ b ∷ c ∷ d ∷ []) size = absurd (omega (arith, size))
-link_right (a ∷ b ∷ c ∷ d ∷ e ∷ []) size = absurd (omega (arith, size))
-link_right (a ∷ b ∷ c ∷ d ∷ e ∷ f ∷ []) size = absurd (omega (arith, size))
-link_right (a ∷ b ∷ c ∷ d ∷ e ∷ f ∷ object ∷ more) size = many_quiet _ _ _ (link_repeats a b c d e f) more [] object
+link_right = over_number 6 (λ values. wrong LINK values ≡ []) (λ a b c d e f object more. many_quiet _ _ _ (link_repeats a b c d e f) more [] object)
 
 pub compare_link_asks : (values : List Text) → wrong COMPARE_LINK values ≡ [] → AsksAll COMPARE_LINK values
 unfolding clap_on_literals
-compare_link_asks [] none = absurd (some_wrong none)
-compare_link_asks (a ∷ []) none = absurd (some_wrong none)
-compare_link_asks (a ∷ b ∷ []) none = absurd (some_wrong none)
-compare_link_asks (a ∷ b ∷ c ∷ []) none = absurd (some_wrong none)
-compare_link_asks (a ∷ b ∷ c ∷ d ∷ []) none = absurd (some_wrong none)
-compare_link_asks (a ∷ b ∷ c ∷ d ∷ e ∷ []) none = absurd (some_wrong none)
-compare_link_asks (a ∷ b ∷ c ∷ d ∷ e ∷ f ∷ []) none = absurd (some_wrong none)
-compare_link_asks (a ∷ b ∷ c ∷ d ∷ e ∷ f ∷ object ∷ more) none = (many_asked _ _ _ (compare_link_repeats a b c d e f) more [] object, omega arith)
+compare_link_asks =
+    by_number 6 (λ values. wrong COMPARE_LINK values ≡ [] → AsksAll COMPARE_LINK values)
+    (refuted, λ a. (refuted, λ b. (refuted, λ c. (refuted, λ d. (refuted, λ e. (refuted, λ f. (refuted, λ object more none. (many_asked _ _ _ (compare_link_repeats a b c d e f) more [] object, omega arith))))))))
 
 pub compare_link_right : (values : List Text) → 6 < length values → wrong COMPARE_LINK values ≡ []
 unfolding clap_on_literals
-compare_link_right [] size = absurd (omega (arith, size))
-compare_link_right (a ∷ []) size = absurd (omega (arith, size))
-compare_link_right (a ∷ b ∷ []) size = absurd (omega (arith, size))
-compare_link_right (a ∷ b ∷ c ∷ []) size = absurd (omega (arith, size))
-compare_link_right (a ∷ b ∷ c ∷ d ∷ []) size = absurd (omega (arith, size))
-compare_link_right (a ∷ b ∷ c ∷ d ∷ e ∷ []) size = absurd (omega (arith, size))
-compare_link_right (a ∷ b ∷ c ∷ d ∷ e ∷ f ∷ []) size = absurd (omega (arith, size))
-compare_link_right (a ∷ b ∷ c ∷ d ∷ e ∷ f ∷ object ∷ more) size = many_quiet _ _ _ (compare_link_repeats a b c d e f) more [] object
+compare_link_right = over_number 6 (λ values. wrong COMPARE_LINK values ≡ []) (λ a b c d e f object more. many_quiet _ _ _ (compare_link_repeats a b c d e f) more [] object)

@@ -2,12 +2,13 @@
 use Rattle.std.proofs.Common.{◌≡◌, ◌∙◌, ◌||◌, ◌++◌, Bool, cond, true, false, List, [], ◌∷◌, length, drop, Option, Some, None, inl, inr, ap, ap₂, sym, subst, refl, append-nil, append_assoc}
 use Rattle.std.specs.Prelude.{codes, find, fold, if◌then◌else◌, is_some, option_and_then, option_map}
 use Rattle.std.specs.List.{list_all}
+use Rattle.std.specs.Option.{option_map_or}
 use Rattle.std.specs.Str.{bytes_eq}
 use Rattle.std.proofs.lemmas.Bool.{cases_Bool}
 use Rattle.std.proofs.lemmas.Slice.Eq.{bytes_eq-Decides}
 use Rattle.clap.specs.Faults.{check_fault, defaults_fault, entered_fault, fault_of, level_fault, settle_fault, turn_fault, walk_fault}
 use Rattle.clap.specs.Kinds.{Kinds, or_else}
-use Rattle.clap.specs.Simple.{App, Shape, built, entered, names_of, rows_at, subcommand_of}
+use Rattle.clap.specs.Simple.{App, Shape, built, entered, label_of, names_of, rows_at, subcommand_of}
 use Rattle.clap.specs.Walk.{Names, Row, Text, Walk, answers_to, finished, idle, nothing_held, settled, subcommand_met, walk, walk_from, walked}
 use Rattle.clap.proofs.FaultLemmas.{stopped_fault}
 use Rattle.clap.proofs.OnLiterals.{clap_on_literals}
@@ -37,11 +38,16 @@ record IsKnown (command : Known) : Type 0 where
   asks : (values : List Text) → wrong command values ≡ [] → AsksAll command values
   right : (values : List Text) → IsNumber command.has_objects (length command.operands) (length values) → wrong command values ≡ []
   among : (values : List Text) → IsNumber command.has_objects (length command.operands) (length values) → IsAmong commands command.name values
-  fault_is : (words : List Text) → entered_fault app (Some (command.name, words)) ≡ level_fault (leaf command) [] nothing_held words false []
-  entered_is : (words : List Text) → entered app (Some (command.name, words)) ≡ Some (rows_at (leaf command) words)
-  request_is : (rows : List Row) → request_in ((leaf command).name, rows) ≡ request_in (command.name, rows)
+  found : find (λ s. answers_to command.name (label_of s)) app.subs ≡ Some (leaf command)
   begins : walked app.top.rules (names_of app) start command.name ≡ stopped_at command.name []
   quiet : turn_fault app.top (names_of app) start command.name ≡ []
+
+fault_is : (command : Known) → IsKnown command → (words : List Text)
+    → entered_fault app (Some (command.name, words)) ≡ level_fault (leaf command) [] nothing_held words false []
+fault_is command known words = ap (λ (o : Option Shape). option_map_or (λ s. level_fault s [] nothing_held words false []) o []) known.found
+
+entered_is : (command : Known) → IsKnown command → (words : List Text) → entered app (Some (command.name, words)) ≡ Some (rows_at (leaf command) words)
+entered_is command known words = ap (option_map (λ s. rows_at s words)) known.found
 
 rewrite_known : IsKnown REWRITE
 unfolding clap_on_literals
@@ -51,9 +57,7 @@ rewrite_known = record {
   asks = rewrite_asks;
   right = rewrite_right;
   among = λ values number. inl (refl, number);
-  fault_is = λ words. refl;
-  entered_is = λ words. refl;
-  request_is = λ rows. refl;
+  found = refl;
   begins = refl;
   quiet = refl;
 }
@@ -66,9 +70,7 @@ verify_known = record {
   asks = verify_asks;
   right = verify_right;
   among = λ values number. inr (inl (refl, number));
-  fault_is = λ words. refl;
-  entered_is = λ words. refl;
-  request_is = λ rows. refl;
+  found = refl;
   begins = refl;
   quiet = refl;
 }
@@ -81,9 +83,7 @@ run_known = record {
   asks = run_asks;
   right = run_right;
   among = λ values number. inr (inr (inl (refl, number)));
-  fault_is = λ words. refl;
-  entered_is = λ words. refl;
-  request_is = λ rows. refl;
+  found = refl;
   begins = refl;
   quiet = refl;
 }
@@ -96,9 +96,7 @@ compare_known = record {
   asks = compare_asks;
   right = compare_right;
   among = λ values number. inr (inr (inr (inl (refl, number))));
-  fault_is = λ words. refl;
-  entered_is = λ words. refl;
-  request_is = λ rows. refl;
+  found = refl;
   begins = refl;
   quiet = refl;
 }
@@ -111,9 +109,7 @@ demo_known = record {
   asks = demo_asks;
   right = demo_right;
   among = λ values number. inr (inr (inr (inr (inl (refl, number)))));
-  fault_is = λ words. refl;
-  entered_is = λ words. refl;
-  request_is = λ rows. refl;
+  found = refl;
   begins = refl;
   quiet = refl;
 }
@@ -126,9 +122,7 @@ harden_known = record {
   asks = harden_asks;
   right = harden_right;
   among = λ values number. inr (inr (inr (inr (inr (inl (refl, number))))));
-  fault_is = λ words. refl;
-  entered_is = λ words. refl;
-  request_is = λ rows. refl;
+  found = refl;
   begins = refl;
   quiet = refl;
 }
@@ -141,9 +135,7 @@ link_known = record {
   asks = link_asks;
   right = link_right;
   among = λ values number. inr (inr (inr (inr (inr (inr (inl (refl, number)))))));
-  fault_is = λ words. refl;
-  entered_is = λ words. refl;
-  request_is = λ rows. refl;
+  found = refl;
   begins = refl;
   quiet = refl;
 }
@@ -156,9 +148,7 @@ compare_link_known = record {
   asks = compare_link_asks;
   right = compare_link_right;
   among = λ values number. inr (inr (inr (inr (inr (inr (inr (inl (refl, number))))))));
-  fault_is = λ words. refl;
-  entered_is = λ words. refl;
-  request_is = λ rows. refl;
+  found = refl;
   begins = refl;
   quiet = refl;
 }
@@ -202,14 +192,14 @@ module _ (command : Known) (known : IsKnown command) (program : Text) (words val
   walk_quiet = ap₂ or_else known.quiet (ap (λ w. walk_fault app.top (names_of app) w words) known.begins ∙ stopped_fault app.top (names_of app) start (own, []) words)
 
   entered_quiet : entered_fault app (Some (own, words)) ≡ []
-  entered_quiet = known.fault_is words ∙ same.0 ∙ known.right values number
+  entered_quiet = fault_is command known words ∙ same.0 ∙ known.right values number
 
   faultless : fault_of command_line (program ∷ own ∷ words) ≡ []
   faultless = ap₂ top_fault walk_is walk_quiet
-      ∙ ap₂ or_else entered_quiet (top_quiet (Some (own, words)) (rows_at (leaf command) words) (known.entered_is words))
+      ∙ ap₂ or_else entered_quiet (top_quiet (Some (own, words)) (rows_at (leaf command) words) (entered_is command known words))
 
   asked_is : option_and_then request_in (subcommand_of command_line (program ∷ own ∷ words)) ≡ Some (own ∷ values)
-  asked_is = ap (λ (w : Walk). option_and_then request_in (entered app w.stopped)) walk_is ∙ ap (option_and_then request_in) (known.entered_is words)
+  asked_is = ap (λ (w : Walk). option_and_then request_in (entered app w.stopped)) walk_is ∙ ap (option_and_then request_in) (entered_is command known words)
       ∙ ap (λ h. request_in ((leaf command).name, finished (leaf command).rules h)) same.1 ∙ (known.asks values (known.right values number)).0
 
   known_taken : reading (program ∷ own ∷ words) ≡ asks (own ∷ values)
@@ -244,12 +234,12 @@ Entered name rest = (values : List Text) × Operands rest values × IsAmong comm
 known_entered : (command : Known) → IsKnown command → (rest : List Text) → entered_fault app (Some (command.name, rest)) ≡ []
     → Entered command.name rest
 known_entered command known rest quiet =
-    let read = words_read (leaf command) known.flat known.only rest false nothing_held 1 refl (sym (known.fault_is rest) ∙ quiet) in
+    let read = words_read (leaf command) known.flat known.only rest false nothing_held 1 refl (sym (fault_is command known rest) ∙ quiet) in
     let asks = known.asks read.values read.faultless in (
       read.values,
       read.operands,
       known.among read.values asks.1,
-      ap (option_and_then request_in) (known.entered_is rest)
+      ap (option_and_then request_in) (entered_is command known rest)
           ∙ ap (λ h. request_in ((leaf command).name, finished (leaf command).rules h)) read.held_is ∙ asks.0,
     )
 

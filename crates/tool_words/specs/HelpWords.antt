@@ -5,7 +5,7 @@ use Rattle.std.specs.Str.{bytes_eq}
 use Rattle.clap.specs.Words.{Text}
 use Rattle.tool_words.specs.CommandLine.{commands}
 
-abbrev pub is_command : Text → Bool
+unfoldable pub is_command : Text → Bool
 is_command name = list_any (λ command. bytes_eq name command.name) commands
 
 abbrev pub is_help : Text → Bool

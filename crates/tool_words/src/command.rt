@@ -1,5 +1,8 @@
-ghost use Rattle.std.specs.Prelude.{◌≡◌, IfOk, codes, map};
-ghost use Rattle.tool_words.specs.CommandLine.{AreCommands, IsArgument, IsCommand, command_line, form_of, many, usage};
+ghost use Rattle.std.specs.Prelude.{◌≡◌, ℕ, IfOk, List, codes, map};
+ghost use Rattle.std.specs.List.{list_any};
+ghost use Rattle.std.specs.Str.{bytes_eq};
+ghost use Rattle.tool_words.specs.CommandLine.{AreCommands, IsArgument, IsCommand, command_line, commands, form_by, form_of, many, usage};
+ghost use Rattle.tool_words.specs.HelpWords.{is_command};
 
 use clap::{Arg, ArgAction, Command};
 use std::alloc::{AllocError, Global};
@@ -15,7 +18,7 @@ pub(crate) struct Form {
 }
 
 /// The commands, in the order of the help.
-pub(crate) static COMMANDS: [Form; 8] = [
+static COMMANDS: [Form; 8] = [
     Form {
         name: "rewrite",
         about: "Hardens an object: writes an image, its graph and its map",
@@ -118,6 +121,15 @@ pub(crate) static COMMANDS: [Form; 8] = [
     },
 ];
 
+/// The forms of the commands, in the order of the help.
+#[tactic(auto, unfolding(crate::specs::HelpWords::is_command))]
+pub(crate) fn forms() -> &'static [Form]
+    ensures made { map form_of result.now ≡ map form_by commands }
+    ensures named { (name : List ℕ) → list_any (λ form. bytes_eq name form.name.now) result.now ≡ is_command name }
+{
+    &COMMANDS
+}
+
 /// Their names, behind the program's.
 const USAGE: &str = "usage: rvcfi rewrite|verify|run|compare|demo|harden|link|compare-link";
 
@@ -167,7 +179,7 @@ fn commands<'a>(alloc: Global, forms: &[Form]) -> Result<Vec<Command<'a>>, Alloc
 pub(crate) fn command_line<'a>(alloc: Global) -> Result<Command<'a>, AllocError>
     ensures { IfOk result (IsCommand command_line) }
 {
-    let commands = commands(alloc, &COMMANDS)?;
+    let commands = commands(alloc, forms())?;
     Command::new(alloc, "rvcfi")
         .version(VERSION)
         .about("Control-flow integrity for RV64IM programs")

@@ -6,21 +6,26 @@ ghost use Rattle.std.specs.Str.{bytes_eq};
 ghost use Rattle.tool_words.specs.HelpWords.{asks_help, asks_version, is_command, is_help, is_version};
 ghost use Rattle.tool_words.specs.Reading.{Gives, Reading, if_alone, spelled};
 
-use crate::command::{COMMANDS, Form};
+use crate::command::{Form, forms};
 use crate::end::WordsEnd;
 
 /// Whether a name is that of one of these commands.
 fn is_name_in(commands: &[Form], name: &str) -> bool
     ensures { result ≡ list_any (λ command. bytes_eq name.now command.name.now) commands.now }
 {
-    commands.iter().any(|command| name == command.name)
+    for command in commands {
+        if name == command.name {
+            return true;
+        }
+    }
+    false
 }
 
 /// Whether a word is a command's name.
 fn is_command(name: &str) -> bool
     ensures { result ≡ is_command name.now }
 {
-    is_name_in(&COMMANDS, name)
+    is_name_in(forms(), name)
 }
 
 /// Whether a word asks for help.
