@@ -1,9 +1,9 @@
 -- Among the turns of a script: where each begins, and whose it is.
-use Rattle.std.proofs.Common.{◌≡◌, ℕ, ◌+◌, ◌-◌, ◌<◌, ◌≤◌, ◌∷◌, length, drop, get_or, refl, ap, ◌∙◌, arith}
+use Rattle.std.proofs.Common.{◌≡◌, ℕ, ◌+◌, ◌-◌, ◌^◌, ◌<◌, ◌≤◌, ◌∷◌, length, drop, get_or, refl, ap, subst, sym, ◌∙◌, arith}
 use Rattle.std.proofs.lemmas.Bool.{le-ltb, lt-ltb}
 use Rattle.std.proofs.lemmas.List.{drop_all, drop_more, get_or_past}
 use Rattle.cfi_script.specs.Turns.{Turns, hart_in_turn}
-use Rattle.cfi_script.specs.TurnPlace.{ComesAfter}
+use Rattle.cfi_script.specs.TurnPlace.{ComesAfter, IsTurnAt}
 
 -- a turn that has so many steps is passed
 passed : (t : ℕ × ℕ) (turns : Turns) (step : ℕ) → t.1 ≤ step → hart_in_turn (t ∷ turns) step ≡ hart_in_turn turns (step - t.1)
@@ -37,3 +37,11 @@ module _ (turns : Turns) (index before : ℕ) (after : ComesAfter turns index be
   pub past : (step : ℕ) → before ≤ step → length turns ≤ index → hart_in_turn turns step ≡ turn.0
   unfolding hart_in_turn
   past step from none = after step from ∙ rw (drop_all index turns none, get_or_past turns index (0, 0) none) refl
+
+  -- the turn, with the number of steps before the next one, or as many as a number of 64 bits tells
+  pub with_end : (end : ℕ) → index < length turns → end ≤ before + turn.1 → (end + 1 < 2 ^ 64 → end ≡ before + turn.1) → IsTurnAt turns index before end
+  with_end end there short exact = record {
+    after = after;
+    own = λ step from below. here step from there (omega (arith, from, below, short));
+    next = λ _ fits. subst (λ (n : ℕ). ComesAfter turns (index + 1) n) (sym (exact fits)) (next_turn there);
+  }

@@ -1,19 +1,81 @@
 ghost use Rattle.std.specs.Prelude.{◌≡◌, ◌≤◌, ◌<◌, ℕ, get_or};
 ghost use Rattle.cfi_script.specs.Turns.{hart_in_turn};
-ghost use Rattle.cfi_script.specs.TurnPlace.{ComesAfter};
+ghost use Rattle.cfi_script.specs.TurnPlace.{ComesAfter, IsTurnAt};
 
-/// Where a script is among its turns: the index of a turn, and how many steps come before it.
+/// Where a script is among its turns: the index of a turn, how many steps come before it, and how many before the next one,
+/// or the greatest number.
 #[derive(Clone, Copy)]
 pub(crate) struct Cursor {
     pub(crate) index: usize,
     pub(crate) before: u64,
+    pub(crate) end: u64,
 }
 
-/// Goes on to the turn of the step after `step` steps; past the last turn where that is none's. From a step before
-/// the cursor it goes from the first turn on.
-pub(crate) fn moved(turns: &[(u8, u64)], cursor: Cursor, step: u64) -> Cursor
-    requires { ComesAfter turns.now cursor.index cursor.before }
-    ensures after { ComesAfter turns.now result.index result.before }
+/// At the turn with an index, which comes after so many steps.
+fn turn_at(turns: &[(u8, u64)], index: usize, before: u64) -> Cursor
+    requires { ComesAfter turns.now index before }
+    ensures turn { IsTurnAt turns.now result.index result.before result.end }
+    ensures index { result.index ≡ index }
+{
+    if index < turns.len() {
+        Cursor {
+            index,
+            before,
+            end: before.saturating_add(turns[index].1),
+        }
+    } else {
+        Cursor {
+            index,
+            before,
+            end: u64::MAX,
+        }
+    }
+}
+
+/// At the first turn.
+pub(crate) fn at_first(turns: &[(u8, u64)]) -> Cursor
+    ensures { IsTurnAt turns.now result.index result.before result.end }
+{
+    turn_at(turns, 0, 0)
+}
+
+/// Goes on to the turn of the step after `step` steps, past the last turn where that is none's, and gives its hart. Where the
+/// next turn begins with that step, nothing is searched.
+#[inline(always)]
+pub(crate) fn turn_to(turns: &[(u8, u64)], cursor: &mut Cursor, step: u64) -> u8
+    requires { IsTurnAt turns.now cursor.old.index cursor.old.before cursor.old.end }
+    ensures turn { IsTurnAt turns.now cursor.new.index cursor.new.before cursor.new.end }
+    ensures hart { result ≡ hart_in_turn turns.now step }
+{
+    if step == cursor.end && step < u64::MAX && cursor.index < turns.len() {
+        let next = cursor.index + 1;
+        if next < turns.len() && turns[next].1 > 0 {
+            cursor.index = next;
+            cursor.before = step;
+            cursor.end = step.saturating_add(turns[next].1);
+            return turns[next].0;
+        }
+    }
+    search(turns, cursor, step)
+}
+
+/// The same by a search.
+#[inline(never)]
+fn search(turns: &[(u8, u64)], cursor: &mut Cursor, step: u64) -> u8
+    requires { IsTurnAt turns.now cursor.old.index cursor.old.before cursor.old.end }
+    ensures turn { IsTurnAt turns.now cursor.new.index cursor.new.before cursor.new.end }
+    ensures hart { result ≡ hart_in_turn turns.now step }
+{
+    let found = searched(turns, *cursor, step);
+    *cursor = found;
+    hart_at(turns, found.index)
+}
+
+/// The turn of the step after `step` steps; past the last turn where that is none's. From a step before the cursor it goes
+/// from the first turn on.
+fn searched(turns: &[(u8, u64)], cursor: Cursor, step: u64) -> Cursor
+    requires { IsTurnAt turns.now cursor.index cursor.before cursor.end }
+    ensures turn { IsTurnAt turns.now result.index result.before result.end }
     ensures there { hart_in_turn turns.now step ≡ (get_or turns.now result.index (0, 0)).0 }
 {
     let mut index = 0;
@@ -26,11 +88,11 @@ pub(crate) fn moved(turns: &[(u8, u64)], cursor: Cursor, step: u64) -> Cursor
         before += turns[index].1;
         index += 1;
     }
-    Cursor { index, before }
+    turn_at(turns, index, before)
 }
 
 /// The hart of the turn with an index; 0 past the last.
-pub(crate) fn hart_at(turns: &[(u8, u64)], index: usize) -> u8
+fn hart_at(turns: &[(u8, u64)], index: usize) -> u8
     ensures { result ≡ (get_or turns.now index (0, 0)).0 }
 {
     if index < turns.len() {
@@ -42,12 +104,9 @@ pub(crate) fn hart_at(turns: &[(u8, u64)], index: usize) -> u8
 
 /// The number of steps before the turn after the cursor's; the greatest number past the last turn.
 pub(crate) fn end_of_turn(turns: &[(u8, u64)], cursor: Cursor) -> u64
-    requires { ComesAfter turns.now cursor.index cursor.before }
+    requires { IsTurnAt turns.now cursor.index cursor.before cursor.end }
     ensures { (step : ℕ) → cursor.before ≤ step → step < result → hart_in_turn turns.now step ≡ (get_or turns.now cursor.index (0, 0)).0 }
 {
-    if cursor.index < turns.len() {
-        cursor.before.saturating_add(turns[cursor.index].1)
-    } else {
-        u64::MAX
-    }
+    let _ = turns;
+    cursor.end
 }

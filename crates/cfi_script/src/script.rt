@@ -3,7 +3,7 @@ ghost use Rattle.std.specs.List.{All, filter};
 ghost use Rattle.cfi_script.specs.Script.{IsScript, script_plan};
 ghost use Rattle.cfi_script.specs.Quiet.{IsQuiet};
 
-use crate::cursor::{Cursor, end_of_turn, hart_at, moved};
+use crate::cursor::{Cursor, at_first, end_of_turn, turn_to};
 use crate::meddler::Meddler;
 use rv_machine::{Change, Machine};
 use rv_word::NoMemory;
@@ -27,14 +27,14 @@ pub struct Script {
 impl Model for Script {
     ghost use Rattle.cfi_script.specs.Script.{IsScript, ScriptParts};
     ghost use Rattle.cfi_script.specs.Quiet.{IsQuiet};
-    ghost use Rattle.cfi_script.specs.TurnPlace.{ComesAfter};
+    ghost use Rattle.cfi_script.specs.TurnPlace.{IsTurnAt};
 
     ghost Value = { ScriptParts };
 
     ghost view = { λ s. record { harts = s.harts; turns = s.turns.items; changes = s.changes.items } };
 
     ghost invariant = { λ s. (IsScript s.changes.items) × (IsQuiet s.from s.next s.changes.items)
-        × (ComesAfter s.turns.items s.cursor.index s.cursor.before) };
+        × (IsTurnAt s.turns.items s.cursor.index s.cursor.before s.cursor.end) };
 }
 
 impl Script {
@@ -50,14 +50,12 @@ impl Script {
         requires { IsScript changes.items }
         ensures { result ≡ record { harts = harts; turns = turns.items; changes = changes.items } }
     {
+        let cursor = at_first(&turns);
         Script {
             harts,
             turns,
             changes,
-            cursor: Cursor {
-                index: 0,
-                before: 0,
-            },
+            cursor,
             from: 0,
             next: 0,
         }
@@ -162,10 +160,7 @@ impl Meddler for Script {
     ghost plan = { λ s. script_plan s };
 
     fn hart(&mut self, step: u64, seen: &Machine) -> u8 {
-        let turns = self.turns.as_slice();
-        let cursor = moved(turns, self.cursor, step);
-        let hart = hart_at(turns, cursor.index);
-        self.cursor = cursor;
+        let hart = turn_to(self.turns.as_slice(), &mut self.cursor, step);
         if hart < seen.harts() { hart } else { 0 }
     }
 

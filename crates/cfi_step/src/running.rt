@@ -118,7 +118,33 @@ impl Running {
         Ok(())
     }
 
-    /// Makes the changes that a meddler has before the step with a number.
+    /// Makes the changes that a meddler has before the step with a number, and asks it for how long none comes. It is not
+    /// inlined, which keeps a step of another hart small.
+    #[inline(never)]
+    fn ask<M: Meddler>(&mut self, alloc: Global, meddler: &mut M, step: u64) -> Result<(), NoMemory>
+        requires more { step + 1 < 2 ^ 64 }
+        ensures allowed { OnOk result (AllByRecursion IsDataChange (changes_of (changes_in_plan (M.plan meddler.old) step self.old.machine))) }
+        ensures harts { OnOk result (harts_in self.new.machine ≡ harts_in self.old.machine) }
+        ensures shared { OnOk result (harts_share self.new.machine ≡ disturbed (harts_share self.old.machine)
+            (changes_of (changes_in_plan (M.plan meddler.old) step self.old.machine))) }
+        ensures made { OnOk result (self.new.made ≡ self.old.made ++ map (λ c. (step, c)) (changes_in_plan (M.plan meddler.old) step self.old.machine)) }
+        ensures count { OnOk result (length self.new.machine.resting ≡ length self.old.machine.resting) }
+        ensures version { OnOk result (self.new.machine.processor.memory.version ≡ self.old.machine.processor.memory.version) }
+        ensures taken { OnOk result (self.new.taken ≡ self.old.taken) }
+        ensures trail { OnOk result (self.new.trail ≡ self.old.trail) }
+        ensures resting { OnOk result (self.new.resting ≡ self.old.resting) }
+        ensures still { OnOk result (IsQuietPlan (step + 1) self.new.quiet (M.plan meddler.old)) }
+        ensures kept { meddler.new ≡ meddler.old }
+    {
+        let mut changes = Vec::new(alloc);
+        meddler.meddle(alloc, step, &self.machine, &mut changes)?;
+        self.change(step, &changes)?;
+        self.quiet = meddler.quiet_until(step + 1);
+        Ok(())
+    }
+
+    /// Makes the changes that a meddler has before the step with a number, where it is not known that there are none.
+    #[inline(always)]
     fn disturb<M: Meddler>(
         &mut self,
         alloc: Global,
@@ -143,11 +169,7 @@ impl Running {
         if step < self.quiet {
             return Ok(());
         }
-        let mut changes = Vec::new(alloc);
-        meddler.meddle(alloc, step, &self.machine, &mut changes)?;
-        self.change(step, &changes)?;
-        self.quiet = meddler.quiet_until(step + 1);
-        Ok(())
+        self.ask(alloc, meddler, step)
     }
 
     /// Brings the trail of a hart to the front.
@@ -191,7 +213,7 @@ impl Running {
     }
 
     /// Lets a meddler choose the hart of the step with a number, and makes the changes that it has before it.
-    #[inline(never)]
+    #[inline(always)]
     fn choose<M: Meddler>(
         &mut self,
         alloc: Global,

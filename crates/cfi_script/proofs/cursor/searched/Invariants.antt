@@ -1,6 +1,6 @@
 use Rattle.std.proofs.Common.{◌≤◌, ◌-◌, length}
 use Rattle.cfi_script.specs.TurnPlace.{ComesAfter}
-use Rattle.cfi_script.proofs.cursor.moved.Given as goal
+use Rattle.cfi_script.proofs.cursor.searched.Given as goal
 
 abbrev pub invariant-loop-index : goal.invariant-loop-index
 invariant-loop-index l = record {
