@@ -1,23 +1,25 @@
 #!/usr/bin/env python3
-"""What small objects become in each form of hardening: `python3 tests/harts/forms.py`, with `split` or another table to print.
+"""What small objects become in each form of hardening: `python3 tests/harts/forms.py`, with `programs`, `stores` or `calls` to print.
 
 The programs of small objects, unit by unit, as docs/MACHINE.md has them for one hart and for several, with one label for calls and
-jumps and with a label for each: the words of their units, their graphs and their maps. Without a word it compares what it makes
-with the tables of crates/sample_hardened, sample_split, sample_stores and sample_listed: those for one hart with one label were worked
-out by hand or are what binutils made of the sources in tests/units, and the others are what it printed. With the name of a table, which
-is a form or `stores-` or `calls-` and a form, it prints that anew, and with `stores-given` or `calls-given` the objects of such a table.
+jumps and with a label for each: the words of their units, their graphs and their maps. Without a word it compares what it makes with
+the tables of crates/sample_hardened: many words of those for one hart with one label are of tables that were worked out by hand or are
+what binutils made of the sources in tests/units, and the others are what it printed. With the name of a table it prints that anew.
+
+A table has what becomes of an object for one hart, with one label and with a label for each, where they differ. What it becomes for
+several harts follows by a rule: units stand 16 bytes later, and words that tell a distance to what stays where it is, a handler or data,
+tell 16 less. It is asked of each row in each form whether what follows is what the model makes.
 """
 
 import re
 import struct
 import sys
-import textwrap
 from pathlib import Path
 from typing import NamedTuple
 
 sys.dont_write_bytecode = True
 
-from program import EBREAK, ECALL, UNITS, Program, addi, branch, calls_line, i_form, r_form, s_form, u_form
+from program import CODE, EBREAK, ECALL, UNITS, Program, addi, branch, calls_line, i_form, r_form, s_form, u_form
 
 CRATES = Path(__file__).resolve().parents[2] / "crates"
 LD, SB, SH, SW, SD, BEQ, BNE = 3, 0, 1, 2, 3, 0, 1
@@ -477,7 +479,7 @@ class Row(NamedTuple):
     object: str
     make: object
     entry: str = "main"
-    policy: str = ""
+    policy: object = None
     pointers: tuple = ()
     data: str = ""
     calls: object = None
@@ -485,8 +487,8 @@ class Row(NamedTuple):
     def policy_text(self):
         """The text of its policy, empty where it has none."""
         if self.calls is not None:
-            return "rvcfi-policy 2\n%s\n%send\n" % (calls_line(self.calls), self.policy)
-        return "rvcfi-policy 1\n%send\n" % self.policy if self.policy else ""
+            return "rvcfi-policy 2\n%s\n%send\n" % (calls_line(self.calls), self.policy or "")
+        return "" if self.policy is None else "rvcfi-policy 1\n%send\n" % self.policy
 
     def given(self):
         text = self.policy_text()
@@ -569,7 +571,12 @@ LISTING = [
     Row("ASKED", 'Calling, 104, b"73000000"', asked, calls=(2047,), pointers=FG),
     Row("NO_CALL", 'Calling, 0, b""', lambda p: calling(p, narrow=True), policy="site main+10 f+0\n", calls=(0,), pointers=FG),
 ]
-GIVEN = {"stores": ("sample_stores", STORING), "calls": ("sample_listed", LISTING)}
+NO_LINE = ""  # the lines of a policy that has none
+VARIED = [
+    Row("NO_LINE", 'Calling, 0, b""', calling, policy=NO_LINE, pointers=FG),
+    Row("REC", 'Recursive, 0, b""', lambda p: recursive(p, to_rec), entry="rec"),
+    Row("NO_BYTES", 'Writing, 556, b"%s"' % struct.pack("<I4Q", 8, 2, 0, 0x80, 0xFEF0000).hex(), writing),
+]
 
 
 class Made(NamedTuple):
@@ -586,170 +593,178 @@ def made(row, form):
     row.make(p)
     data = lambda labels: struct.pack("<%dQ" % len(row.pointers), *(labels[name] for name in row.pointers)) or row.data.encode()
     built = p.built(row.entry, data)
-    first = (UNITS[form.image] - 0x40000000) // 4
+    first = (UNITS[form.image] - CODE) // 4
     call = (4 * (first - 3), built.words[first - 3])
     return Made(built.words[first:], call, built.data, built.graph.decode(), p.map())
 
 
-HEADINGS = {
-    "plain": ("sample_hardened", "plain", "PLAIN", "for one hart where calls and jumps share labels: those that jump through pointers"),
-    "harts": ("sample_hardened", "harts", "HARTS", "in the form for several harts, whose units begin 16 bytes later than those for one hart"),
-    "split": ("sample_split", "split", "SPLIT", "where calls and jumps have labels of their own, so that two words lead each target"),
-    "harts-split": ("sample_split", "harts_split", "HARTS_SPLIT", "for several harts where calls and jumps have labels of their own"),
-    "stores-plain": ("sample_stores", "plain", "STORES", "that store behind one mask, for one hart"),
-    "stores-harts": ("sample_stores", "harts", "STORES_HARTS", "that store behind one mask, for several harts"),
-    "stores-split": ("sample_stores", "split", "STORES_SPLIT", "that store behind one mask, where calls and jumps have labels of their own"),
-    "stores-harts-split": ("sample_stores", "harts_split", "STORES_HARTS_SPLIT",
-                           "that store behind one mask, for several harts where calls and jumps have labels of their own"),
-}
-HEADINGS |= {name.replace("stores", "calls"): ("sample_listed", file, static.replace("STORES", "CALLS"),
-                                                heading.replace("store behind one mask", "may make the system calls of a list"))
-             for name, (_, file, static, heading) in HEADINGS.items() if "stores" in name}
-OLDER = 10  # how many of the rows stand in programs.rt, for one hart with one label
-SOURCES = {"sample_programs": ["sample_programs/src/units.rt", "sample_programs/src/graphs.rt", "sample_programs/src/data.rt"],
-           "sample_objects": ["sample_objects/src/maps.rt"],
-           **{"%s::%s" % (crate, file): ["%s/src/%s.rt" % (crate, file)] for crate, files in (
-               ("sample_hardened", ("branches", "plain", "harts")), ("sample_stores", ("plain", "harts")),
-               ("sample_listed", ("plain", "harts"))) for file in files}}
-BELOW = ("sample_programs", "sample_objects", "sample_hardened")  # the crates whose tables the others use
-WORDS = re.compile(r"const (\w+): \[u32; \d+\] = \[(.*?)\];", re.S)
-TEXTS = re.compile(r'(pub |pub\(crate\) |)const (\w+): &\[u8\] =\s+b"(.*?)";', re.S)
+# What the tables of crates/sample_hardened have, and the rule by which the rest follows.
+
+LATER, DIGITS, WIDTH, PER_LINE = 16, "0123456789abcdefghijklmnopqrstuvwxyz", 120, 10
+TABLES = {"programs": ("hardened_programs", ROWS + VARIED, "that call, jump, branch or write"),
+          "stores": ("storing_programs", STORING, "that store behind one mask"),
+          "calls": ("listed_programs", LISTING, "that may make the system calls of a list")}
+CRATE = CRATES / "sample_hardened" / "src"
 
 
-def known(paths, is_own=True):
-    """The tables of words and texts of some files: each one's content, and its name; of another crate the public ones."""
-    found = {}
-    for path in paths:
-        text = (CRATES / path).read_text() if (CRATES / path).exists() else ""
-        for name, table in WORDS.findall(text):
-            found.setdefault(tuple(int(word, 16) for word in re.findall("0x([0-9a-f]{8})", table)), name)
-        for told, name, table in TEXTS.findall(text):
-            if told == "pub " or is_own:
-                found.setdefault(re.sub(r"\\\n\s*", "", table), name)
-    return found
+class Units(NamedTuple):
+    """What becomes of an object for one hart, as a table has it: of its graph the lines behind the second, of its map the words from
+    each place's gate to the next one's, with a `.` where a place has eight bytes of the object."""
+    words: tuple
+    call: int
+    pointers: tuple
+    text: bytes
+    classes: int
+    sites: int
+    graph: str
+    digits: str
 
 
-def spelled(content):
-    """A text, or bytes that are none, as they stand between quotes."""
-    return content.replace("\n", "\\n") if isinstance(content, str) else "".join("\\x%02x" % byte for byte in content)
+def units_of(row, form):
+    what = made(row, form)
+    lines = what.graph.split("\n")
+    pointers = struct.unpack("<%dQ" % len(row.pointers), what.data) if row.pointers else ()
+    count = lambda *heads: sum(line.split(" ")[0] in heads for line in lines)
+    return Units(tuple(what.words), what.call[1], pointers, b"" if pointers else what.data, count("class", "callclass", "jumpclass"),
+                 count("site"), "\n".join(lines[2:]), digits_of(what.map))
 
 
-def table_lines(name, words):
-    """A table of words, as a module has it."""
-    rows = ["    " + ", ".join("0x%08x" % word for word in words[k:k + 8]) + "," for k in range(0, len(words), 8)]
-    head = "pub const %s: [u32; %d] = [" % (name, len(words))
-    return ["/// The units of `%s`." % name, "#[rattlefmt::skip]", head, *rows, "];", ""]
+def digits_of(text):
+    places = [(int(at, 16), int(offset, 16)) for at, offset in re.findall("^at (.{8}) 0001 (.{8})$", text, re.M)]
+    pairs = [(DIGITS[(after - at) // 4], "." * ((later - offset) // 4 - 1)) for (at, offset), (after, later) in zip(places, places[1:])]
+    return "".join(digit + dots for digit, dots in pairs)
 
 
-def text_lines(name, content):
-    """A text, of a map three lines in one."""
-    if isinstance(content, bytes):
-        return ["#[rattlefmt::skip]", 'pub(crate) const %s: &[u8] = b"%s";' % (name, spelled(content)), ""]
-    lines = [line + "\\n" for line in content.split("\n")[:-1]]
-    places = [line for line in lines if line.startswith("at ")]
-    rows = ["".join(places[k:k + 3]) for k in range(0, len(places), 3)]
-    rest = [line for line in lines[1:] if line not in places]
-    return ["#[rattlefmt::skip]", 'pub(crate) const %s: &[u8] = b"%s\\' % (name, lines[0]),
-            *("    %s\\" % row for row in rows + rest[:-1]), '    %s";' % rest[-1], ""]
+def is_distance(before, word):
+    """A jump back by less than 2 KiB, which goes to a handler, and what is behind an AUIPC that no call has."""
+    return word & 0x801FFFFF == 0x801FF06F or before & 0x7F == 0x17 and before != 0x00000F17
 
 
-def use(module, names):
-    """A line that names come by, or lines of at most 100 letters."""
-    line = "use %s::%s;" % (module, "{%s}" % names if "," in names else names)
-    return line if len(line) <= 100 else "use %s::{\n%s,\n};" % (module, textwrap.indent(textwrap.fill(names, 95), "    "))
+def following(units, form):
+    """What a table's row comes to in a form: words and text by the rule, which the crate has too."""
+    later = LATER if form.image == 2 else 0
+    words = [word - (later << 20) if is_distance(before, word) else word for before, word in zip((0, *units.words), units.words)]
+    moved = lambda match: "%08x" % (int(match[0], 16) + later) if int(match[0], 16) >= CODE + 0x40 else match[0]
+    graph = "rvcfi-graph %d\ncode 40000000 %08x\n" % (form.graph, UNITS[form.image] - CODE + 4 * len(words))
+    lines, at, offset = [form.map], UNITS[form.image], 0
+    for digit in units.digits + "0":
+        if digit != ".":
+            lines.append("at %08x 0001 %08x" % (at, offset))
+            at += 4 * DIGITS.index(digit)
+        offset += 4
+    data = struct.pack("<%dQ" % len(units.pointers), *(pointer + later for pointer in units.pointers)) + units.text
+    call = (UNITS[form.image] - CODE - 12, units.call)
+    return Made(words, call, data, graph + re.sub(r"\b4[0-9a-f]{7}\b", moved, units.graph), "\n".join([*lines, "end", ""]))
+
+
+def quoted(graph):
+    """A graph's lines between quotes."""
+    lines = [""]
+    for line in graph.split("\n")[:-1]:
+        if len(lines[-1]) + len(line) > WIDTH:
+            lines.append("")
+        lines[-1] += line + "\\n"
+    return '"%s"' % "\\\n            ".join(lines)
+
+
+def words_in(words, indent):
+    rows = [words[k:k + PER_LINE] for k in range(0, len(words), PER_LINE)]
+    return "".join("\n" + indent + ", ".join("0x%08x" % word for word in row) + "," for row in rows)
+
+
+def known():
+    """The tables of words of sample_programs: each one's content, and its name."""
+    tables = re.findall(r"const (\w+): \[u32; \d+\] = \[(.*?)\];", (CRATES / "sample_programs" / "src" / "units.rt").read_text(), re.S)
+    return {tuple(int(word, 16) for word in re.findall("0x([0-9a-f]{8})", table)): name for name, table in tables}
+
+
+class Tables:
+    """The rows of each table, and words that more than one row has: the table and the name of the first one."""
+
+    def __init__(self):
+        self.rows = {name: [(row, units_of(row, FORMS["plain"]), units_of(row, FORMS["split"])) for row in rows]
+                     for name, (_, rows, _) in TABLES.items()}
+        self.known, self.often, seen = known(), {}, {}
+        for name, rows in self.rows.items():
+            for row, joined, apart in rows:
+                for units, end in [(joined, "")] + [(apart, "_APART")] * (joined != apart):
+                    if units.words in seen and units.words not in self.known:
+                        self.often[units.words] = seen[units.words]
+                    seen.setdefault(units.words, (name, row.name + end))
 
 
 class Module:
-    """What a form's module has: constants that stand nowhere else, the names that it uses, and its rows."""
+    """A table's module: the names that it uses, words that more than one row has, and its rows."""
 
-    def __init__(self, name):
-        self.form = FORMS[name.replace("stores-", "").replace("calls-", "")]
-        self.crate, self.file, self.static, self.heading = HEADINGS[name]
-        self.path = CRATES / self.crate / "src" / (self.file + ".rt")
-        self.sources = {module: known(paths, module.split("::")[0] == self.crate) for module, paths in SOURCES.items()
-                        if module.split("::")[0] in (*BELOW, self.crate) and module != "%s::%s" % (self.crate, self.file)}
-        self.constants, self.used, self.own = [], {}, {}
-        self.is_given = name.split("-")[0] in GIVEN
-        rows = GIVEN[name.split("-")[0]][1] if self.is_given else ROWS[OLDER if name == "plain" else 0:]
-        self.rows = [self.row(row) for row in rows]
+    def __init__(self, name, tables):
+        self.name, self.tables, self.used = name, tables, set()
+        self.call, _, self.heading = TABLES[name]
+        self.path = CRATE / (name + ".rt")
+        self.rows = [self.row(*each) for each in tables.rows[name]]
 
-    def name(self, wanted, content, lines):
-        """The name of a table, which is made where it stands nowhere yet."""
-        key = tuple(content) if isinstance(content, list) else spelled(content)
-        for module, found in self.sources.items():
-            if key in found and not (wanted.endswith("_DATA") and "::" in module):
-                self.used.setdefault(module.replace(self.crate + "::", "crate::"), set()).add(found[key])
-                return found[key]
-        if key not in self.own:
-            self.own[key] = wanted
-            self.constants += lines(wanted, content)
-        return self.own[key]
+    def words(self, words):
+        if words in self.tables.known:
+            self.used.add(("sample_programs", self.tables.known[words]))
+            return "&" + self.tables.known[words]
+        if words in self.tables.often:
+            module, name = self.tables.often[words]
+            if module != self.name:
+                self.used.add(("crate::" + module, name))
+            return "&" + name
+        return "&[%s\n        ]" % words_in(words, " " * 12)
 
-    def row(self, row):
-        what = made(row, self.form)
-        words = self.name(row.name, what.words, table_lines)
-        graph = self.name(row.name + "_GRAPH", what.graph, text_lines)
-        places = self.name(row.name + "_MAP", what.map, text_lines)
-        data = self.name(row.name + "_DATA", what.data, text_lines) if row.pointers else 'b"%s"' % spelled(row.data)
-        rest = "&%s, 0x%x, 0x%08x, %s, %d, %s, %s" % (words, *what.call, data, 8192 + len(what.data), graph, places)
-        if self.is_given:
-            return "    Program(given::%s, %s)," % (row.name, rest)
-        return "    Program(\n        %s,\n        %s,\n    )," % (row.given(), rest)
+    def units(self, units):
+        pointers = ", ".join("0x%08x" % pointer for pointer in units.pointers)
+        return 'Units(%s, 0x%08x, &[%s], b"%s", %d, %d,\n            %s,\n            b"%s")' % (
+            self.words(units.words), units.call, pointers, units.text.decode().replace("\n", "\\n"), units.classes, units.sites,
+            quoted(units.graph), units.digits)
 
-    def text(self):
-        own = ["use crate::given;", "use sample_hardened::Program;"] if self.is_given else [
-            "use crate::given::{Given, Source};", "use crate::programs::Program;"] if self.crate == "sample_hardened" else [
-            "use sample_hardened::{Given, Program, Source};"]
-        used = sorted(own + [use(module, ", ".join(sorted(names))) for module, names in self.used.items()])
-        heads = ["//! What small objects become %s:" % self.heading,
-                 "//! the words of their units, their data, their graphs and their maps, as tests/harts/forms.py at the top of the",
-                 "//! repository prints them.", "", *used, ""]
-        static = ["/// The rows of this form.", "#[rattlefmt::skip]",
-                  "pub static %s: [Program; %d] = [" % (self.static, len(self.rows)), *self.rows, "];", ""]
-        return "\n".join(heads + self.constants + static)
+    def row(self, row, joined, apart):
+        return "    // %s\n    Program(\n        %s,\n        %s,\n        %s,\n    )," % (
+            row.name.lower().replace("_", " "), row.given(), self.units(joined), "None" if joined == apart else "Some(%s)" % self.units(apart))
 
+    def constants(self):
+        """The words that more than one row has, the first of them here."""
+        for words, (module, name) in self.tables.often.items():
+            if module == self.name:
+                yield "#[rattlefmt::skip]\npub(crate) const %s: [u32; %d] = [%s\n];\n" % (name, len(words), words_in(words, "    "))
 
-class Objects:
-    """The module of the objects that the tables of some rows share, which are the same in each form."""
-
-    def __init__(self, name):
-        crate, self.rows = GIVEN[name.replace("-given", "")]
-        self.path = CRATES / crate / "src" / "given.rt"
+    def uses(self):
+        yield "use crate::forms::{Program, Units};"
+        yield "use crate::given::{Given, Source};"
+        for module in sorted({module for module, _ in self.used}):
+            names = sorted(name for other, name in self.used if other == module)
+            yield "use %s::%s;" % (module, "{%s}" % ", ".join(names) if len(names) > 1 else names[0])
 
     def text(self):
-        heads = ["//! The objects of the tables beside this, each with its entry and its policy, as tests/harts/forms.py at the top of the",
-                 "//! repository prints them.", "", "use sample_hardened::{Given, Source};", ""]
-        constants = [["#[rattlefmt::skip]", "pub(crate) const %s: Given = %s;" % (row.name, row.given()), ""] for row in self.rows]
-        return "\n".join(heads + sum(constants, []))
+        return "\n".join([
+            "//! What small objects become %s: tests/harts/forms.py at the top of the repository prints this." % self.heading, "",
+            *sorted(self.uses()), "", *self.constants(),
+            "/// The objects, and what they become. By this call a proof of a test does not go over each row.",
+            "pub fn %s() -> &'static [Program] {" % self.call, "    &ROWS", "}", "", "#[rattlefmt::skip]",
+            "static ROWS: [Program; %d] = [" % len(self.rows), *self.rows, "];", ""])
 
 
-def module_of(name):
-    """What a name of the command line prints."""
-    return Objects(name) if name.endswith("-given") else Module(name)
-
-
-def is_as_printed(name):
-    """Whether a module has the tables that are made."""
-    module = module_of(name)
-    return module.path.exists() and module.path.read_text() == module.text()
-
-
-def is_older(row):
-    """Whether the tables for one hart with one label stand in the crates, where they were worked out otherwise."""
-    what = made(row, FORMS["plain"])
-    found = known([path for paths in SOURCES.values() for path in paths] + ["sample_hardened/src/programs.rt"])
-    return all(key in found for key in (tuple(what.words), spelled(what.graph), spelled(what.map)))
+def faults():
+    """What is wrong: a row that comes to something else in a form, or a module that has another text."""
+    tables = Tables()
+    for name in TABLES:
+        module = Module(name, tables)
+        for row, joined, apart in tables.rows[name]:
+            for form in FORMS.values():
+                if following(apart if form.graph == 2 else joined, form) != made(row, form):
+                    yield "%s, %s" % (row.name, form.map)
+        if not module.path.exists() or module.path.read_text() != module.text():
+            yield "the module of %s" % name
 
 
 def main():
     if len(sys.argv) > 1:
-        print(module_of(sys.argv[1]).text(), end="")
+        print(Module(sys.argv[1], Tables()).text(), end="")
         return 0
-    wrong = ["%s, plain" % row.name for row in ROWS[:OLDER] if not is_older(row)]
-    names = [*HEADINGS, *("%s-given" % name for name in GIVEN)]
-    wrong += ["the module of %s" % name for name in names if not is_as_printed(name)]
-    print("%d of %d tables are those of the crates%s" % (
-        OLDER + len(names) - len(wrong), OLDER + len(names), ": not " + ", ".join(wrong) if wrong else ""))
+    wrong = list(faults())
+    rows = sum(len(rows) for _, rows, _ in TABLES.values())
+    print("%d rows in %d forms: %s" % (rows, len(FORMS), "not " + ", ".join(wrong) if wrong else "as in crates/sample_hardened"))
     return 1 if wrong else 0
 
 

@@ -1,9 +1,8 @@
 #!/usr/bin/env python3
-"""Prints the tables of lists of system calls: `python3 tests/harts/lists.py told`, `lines`, `pairs` or `placed`.
+"""Prints the tables of lists of system calls: `python3 tests/harts/lists.py lines`, `pairs` or `placed`.
 
-`told` is what `harden` puts of the rows LISTING of forms.py, in crates/test_harden/src/forms.rt; `lines` is
-crates/test_lists/src/lists.rt, objects and command lines; `pairs` is crates/test_hostile/src/lists.rt, images and graphs; `placed` is
-crates/test_placed/src/listed.rt, maps. All that is told comes from the models beside this file.
+`lines` is crates/test_lists/src/lists.rt, objects and command lines; `pairs` is crates/test_hostile/src/lists.rt, images and graphs;
+`placed` is crates/test_source/src/listed.rt, maps. All that is told comes from the models beside this file.
 """
 
 import struct
@@ -118,15 +117,6 @@ def texts(scripts):
     rows = [(name, policy_text(calls)) for name, calls in POLICIES.items()] + [(name, text) for text, name in scripts.items()]
     for name, text in [*rows, ("input", INPUT.decode())]:
         yield '    ("%s", b"%s"),' % (name, text.replace("\n", "\\n"))
-
-
-def told():
-    for form in FORMS:
-        lines = [made_of(each, form).told().decode().replace("rewritten ", "").strip() for each in LISTING]
-        print("    [")
-        for k in range(0, len(lines), 2):
-            print("        " + " ".join('"%s",' % line for line in lines[k:k + 2]))
-        print("    ],")
 
 
 LINES = """\
@@ -357,16 +347,23 @@ PLACED = """\
 //! their runs end, where each map is one of its program's. tests/harts/lists.py at the top of the repository prints this.
 
 use crate::placed::first_wrong;
-use sample_listed::CALLS;
+use sample_hardened::listed_programs;
 
-// A line a map: an object by its number in `CALLS`, the map, and what is told, as in `placed`.
+// A line a map: an object by its number in `listed_programs`, the map, and what is told, as in `placed`.
 static LINES: &[u8] = b"\\
 %s
 
 #[test]
 fn places_system_calls(rt: HostRuntime) {
     assert_eq!(rt;
-        first_wrong(rt.alloc(), &CALLS, "rvcfi-map 1", 0x4000_0040, LINES, %d),
+        first_wrong(
+            rt.alloc(),
+            listed_programs(),
+            "rvcfi-map 1",
+            0x4000_0040,
+            LINES,
+            %d
+        ),
         ""
     );
 }
@@ -395,7 +392,7 @@ def placed():
 
 
 def main():
-    tables = {"told": told, "lines": lines, "pairs": pairs, "placed": placed}
+    tables = {"lines": lines, "pairs": pairs, "placed": placed}
     if len(sys.argv) != 2 or sys.argv[1] not in tables:
         sys.exit(__doc__)
     tables[sys.argv[1]]()

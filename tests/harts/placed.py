@@ -1,5 +1,5 @@
 #!/usr/bin/env python3
-"""Prints the tables of crates/test_placed/src/placed.rt: `python3 tests/harts/placed.py`.
+"""Prints the tables of crates/test_source/src/placed.rt: `python3 tests/harts/placed.py`.
 
 Each row is an object of forms.py, a map of it, and what the model of maps.py beside this file tells: how the program ends, or the first
 line that is wrong. The maps are that of hardening, that with each store behind a mask of its own, each of these with one store's

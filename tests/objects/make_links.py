@@ -27,7 +27,7 @@ import make_vectors
 from make_vectors import PER_LINE
 from object_texts import HERE, Text, files_of, joined, numbers, told
 
-from forms import FORMS, table_lines, text_lines
+from forms import FORMS
 from hardener import Hardening
 from program import UNITS
 from runs import Run, Script
@@ -202,6 +202,21 @@ class Constants:
             self.names[key] = wanted
             self.lines += lines(wanted, content)
         return self.names[key]
+
+
+def table_lines(name, words):
+    """A table of words, as a module has it."""
+    rows = ["    " + ", ".join("0x%08x" % word for word in words[k:k + 8]) + "," for k in range(0, len(words), 8)]
+    return ["/// The units of `%s`." % name, "#[rattlefmt::skip]", "pub const %s: [u32; %d] = [" % (name, len(words)), *rows, "];", ""]
+
+
+def text_lines(name, content):
+    """A text, of a map three lines in one."""
+    lines = [line + "\\n" for line in content.split("\n")[:-1]]
+    places = [line for line in lines if line.startswith("at ")]
+    rows = ["".join(places[k:k + 3]) for k in range(0, len(places), 3)] + [line for line in lines[1:] if line not in places]
+    return ["#[rattlefmt::skip]", 'pub(crate) const %s: &[u8] = b"%s\\' % (name, lines[0]),
+            *("    %s\\" % row for row in rows[:-1]), '    %s";' % rows[-1], ""]
 
 
 def worked_row(constants, which, form, whole):

@@ -85,29 +85,32 @@ fn recode(file: &mut Vec<u8>, section: usize, code: &[u8]) -> bool {
         && file.extend_from_slice(code).is_ok()
 }
 
-/// Some code, and so many instructions that do nothing.
-fn idle(alloc: Global, first: &[u8], count: u32) -> Result<Vec<u8>, AllocError> {
+/// Some code, and a word so many times.
+fn repeated(alloc: Global, first: &[u8], word: u32, count: u32) -> Result<Vec<u8>, AllocError> {
     let mut code = Vec::from_slice(alloc, first)?;
     for _ in 0..count {
-        code.extend_from_slice(&[0x13, 0, 0, 0])?;
+        code.extend_from_slice(&word.to_le_bytes())?;
     }
     Ok(code)
 }
 
+/// The instruction that does nothing.
+const NOTHING: u32 = 0x0000_0013;
+
+/// A store of a byte where x2 points to.
+const STORE: u32 = 0x0061_0023;
+
 /// Gives the object that returns so many instructions that do nothing for its code.
 fn idle_through(alloc: Global, file: &mut Vec<u8>, count: u32) -> bool {
-    match idle(alloc, b"", count) {
+    match repeated(alloc, b"", NOTHING, count) {
         Ok(code) => recode(file, SECTION, &code),
         Err(_) => false,
     }
 }
 
-/// A word, so many stores of a byte where x2 points to, and a return.
+/// A word, so many stores, and a return.
 fn storing(alloc: Global, word: u32, count: u32) -> Result<Vec<u8>, AllocError> {
-    let mut code = Vec::from_slice(alloc, &word.to_le_bytes())?;
-    for _ in 0..count {
-        code.extend_from_slice(&[0x23, 0, 0x61, 0])?;
-    }
+    let mut code = repeated(alloc, &word.to_le_bytes(), STORE, count)?;
     code.extend_from_slice(&[0x67, 0x80, 0, 0])?;
     Ok(code)
 }
@@ -123,7 +126,7 @@ fn store_through(alloc: Global, file: &mut Vec<u8>, word: u32, count: u32) -> bo
 /// Gives the object that jumps through a pointer so many instructions more, which do nothing. It is false where it can't.
 fn pad(alloc: Global, file: &mut Vec<u8>, count: u32) -> bool {
     let code = file.get(JUMPING_CODE.0..JUMPING_CODE.1).unwrap_or(b"");
-    match idle(alloc, code, count) {
+    match repeated(alloc, code, NOTHING, count) {
         Ok(code) => recode(file, JUMPING, &code),
         Err(_) => false,
     }
@@ -144,12 +147,7 @@ fn put_words(file: &mut Vec<u8>, words: &[u64]) -> bool {
 
 /// Puts 56,000 bytes of data behind a file. It is false where it can't.
 fn put_data(file: &mut Vec<u8>) -> bool {
-    for _ in 0..1000 {
-        if file.extend_from_slice(&[7; 56]).is_err() {
-            return false;
-        }
-    }
-    true
+    file.resize(file.len().saturating_add(56_000), 7).is_ok()
 }
 
 /// Puts the section headers of the object that returns behind it once more. It is false where it can't.

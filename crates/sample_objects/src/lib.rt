@@ -1,15 +1,10 @@
-//! Small objects that are written by hand, in hexadecimal, and the maps that they and some like them get. They stand here
-//! alone, since several crates of tests use them.
+//! Small objects that are written by hand, in hexadecimal, and the map of one. They stand here alone, since several crates of
+//! tests use them.
 #![tactic(auto)]
 
-pub use maps::{
-    B_MAP, B_MAP_OF_HARTS, H_MAP, H_MAP_OF_HARTS, NARROW_MAP, NARROW_MAP_OF_HARTS, NOWHERE_MAP,
-    NOWHERE_MAP_OF_HARTS, P_MAP, P_MAP_OF_HARTS, R_MAP_OF_HARTS,
-};
 pub use pointers::{APART, Q, SORTS, TABLE};
 pub use stores::{LED, PATCHED};
 
-mod maps;
 mod pointers;
 mod stores;
 
@@ -24,6 +19,13 @@ pub static B: &[u8] = b"\
     0000000000003000000000000000030000000100000008000000000000001800000000000000000000000300000000\
     0000000000000000000000000000007800000000000000060000000000000000000000000000000100000000000000\
     0000000000000000";
+
+/// The map of that object, as a text.
+pub const B_MAP: &[u8] = b"rvcfi-map 1\n\
+    at 40000040 0001 00000000\n\
+    at 40000044 0001 00000004\n\
+    at 40000058 0001 00000008\n\
+    end\n";
 
 /// Calls one of two functions through a table of their addresses.
 pub static P: &[u8] = b"\

@@ -4,9 +4,7 @@
 
 pub use ended::{Asked, is_told};
 pub use files::{Given, is_file, runs_as};
-pub use maps::map;
-pub use sample_hardened::Source;
+pub use sample_hardened::{Source, map};
 
 mod ended;
 mod files;
-mod maps;

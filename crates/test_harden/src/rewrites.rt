@@ -1,110 +1,12 @@
-//! The command `rewrite`: what it puts, and the files that it writes.
+//! The command `rewrite`: what it puts, refuses and finds wrong with its words; `forms` has what it writes.
 
 use rv_word::NoMemory;
-use sample_calls::{Given, Source, add_image, add_object, add_texts, answers, first_wrong};
-use sample_objects::{B_MAP, H_MAP, NARROW_MAP, NOWHERE_MAP, P_MAP};
-use sample_programs::{
-    A, B, B_GRAPH, H, H_GRAPH, NARROW, NARROW_GRAPH, NOWHERE, NOWHERE_GRAPH, P, P_DATA, P_GRAPH,
-    RELABELLED, RELABELLED_GRAPH,
-};
+use sample_calls::{Given, Source, add_image, add_object, add_texts, first_wrong};
+use sample_programs::A;
 use std::alloc::Global;
 use tool_io::MemFiles;
 
 const POLICY: &[u8] = b"rvcfi-policy 1\nsite main+10 f+0\nend\n";
-
-/// An object and a policy, the text that is put, and the units of the code, the data, the graph and the map that are written.
-struct Case(
-    Given,
-    &'static str,
-    &'static str,
-    &'static [u32],
-    &'static [u8],
-    &'static [u8],
-    &'static [u8],
-);
-
-#[rattlefmt::skip]
-static CASES: [Case; 6] = [
-    Case(Given(Source::Returning, 0, b""), "none", "rewritten code 92 data 0 classes 0 sites 0\n", &B, b"", B_GRAPH, B_MAP),
-    Case(Given(Source::Writing, 0, b""), "none", "rewritten code 196 data 3 classes 0 sites 0\n", &H, b"hi\n", H_GRAPH, H_MAP),
-    Case(Given(Source::Calling, 0, b""), "none", "rewritten code 260 data 16 classes 1 sites 1\n", &P, P_DATA, P_GRAPH, P_MAP),
-    // A label that the object has as a word of its own is given to no class.
-    Case(
-        Given(Source::Calling, 104, b"37100000"), "none",
-        "rewritten code 260 data 16 classes 1 sites 1\n", &RELABELLED, P_DATA, RELABELLED_GRAPH, P_MAP,
-    ),
-    // A computed call where no address is taken.
-    Case(
-        Given(Source::Returning, 64, b"e780020067800000"), "none",
-        "rewritten code 168 data 0 classes 1 sites 1\n", &NOWHERE, b"", NOWHERE_GRAPH, NOWHERE_MAP,
-    ),
-    // A policy that takes one of two targets from a call.
-    Case(
-        Given(Source::Calling, 0, b""), "policy",
-        "rewritten code 256 data 16 classes 1 sites 1\n", &NARROW, P_DATA, NARROW_GRAPH, NARROW_MAP,
-    ),
-];
-
-/// Adds an object, the image that it should become, and a policy.
-fn add_case(alloc: Global, files: &mut MemFiles, case: &Case) -> Result<(), NoMemory> {
-    add_object(alloc, files, "object", &case.0)?;
-    add_image(alloc, files, &("wanted", case.3, case.4))?;
-    Ok(files.insert("policy", POLICY)?)
-}
-
-/// Whether a file holds these bytes.
-fn has(files: &MemFiles, name: &str, bytes: &[u8]) -> bool {
-    files.get(name) == Some(bytes)
-}
-
-/// Whether the files that are written are those of a case.
-fn are_written(files: &MemFiles, case: &Case) -> bool {
-    files.get("image") == files.get("wanted")
-        && has(files, "graph", case.5)
-        && has(files, "map", case.6)
-}
-
-/// Whether the tool puts the text of a case.
-fn is_put(alloc: Global, files: &mut MemFiles, case: &Case) -> bool {
-    match case.1 {
-        "none" => answers(
-            alloc,
-            "rvcfi,rewrite,object,main,none,image,graph,map",
-            files,
-            0,
-            case.2,
-        ),
-        _ => answers(
-            alloc,
-            "rvcfi,rewrite,object,main,policy,image,graph,map",
-            files,
-            0,
-            case.2,
-        ),
-    }
-}
-
-/// Whether an object is hardened, and what is written is accepted.
-fn is_hardened(alloc: Global, case: &Case) -> bool {
-    let mut files = MemFiles::new(alloc, Vec::new(alloc));
-    add_case(alloc, &mut files, case).is_ok()
-        && is_put(alloc, &mut files, case)
-        && are_written(&files, case)
-        && answers(
-            alloc,
-            "rvcfi,verify,image,graph",
-            &mut files,
-            0,
-            "accepted\n",
-        )
-}
-
-#[test]
-fn hardened(rt: HostRuntime) {
-    for case in &CASES {
-        assert!(rt; is_hardened(rt.alloc(), case), "{}", case.2);
-    }
-}
 
 /// Objects by their names: the first are named by the number of the refusal of their one fault.
 #[rattlefmt::skip]

@@ -1,4 +1,5 @@
 //! Accesses where the region of code ends: loads reach eight bytes past it, which are zero; stores do not.
+use crate::memory::read_of;
 use rv_mem::{Memory, StoreFault, region};
 use rv_word::{End, Image, ImageVersion};
 use sample_programs::numbers::{number, rows};
@@ -73,17 +74,6 @@ fn memory_of(alloc: Global, version: ImageVersion, code: &[u8]) -> Option<Memory
     Memory::load(alloc, &Image::of_version(version, code, &[])).ok()
 }
 
-/// What is read at an address, if such a load is taken.
-fn read_of(memory: &Memory, addr: u64, n: u64) -> Option<u64> {
-    match n {
-        1 => memory.read(addr, 1).ok(),
-        2 => memory.read(addr, 2).ok(),
-        4 => memory.read(addr, 4).ok(),
-        8 => memory.read(addr, 8).ok(),
-        _ => None,
-    }
-}
-
 /// Whether no store of a size is taken at an address.
 fn stores_fault(memory: &mut Memory, addr: u64, n: u64) -> bool {
     let end = match n {
@@ -128,19 +118,9 @@ fn loads_reach_eight_bytes_past_code(rt: HostRuntime) {
     assert!(rt; rows(LOADS).count() == 46);
     for version in [ImageVersion::OneHart, ImageVersion::EightHarts] {
         let wrong = first_wrong(rt.alloc(), version, &full, "full");
-        assert!(rt;
-            wrong.is_none(),
-            "{}: {}",
-            version.number(),
-            wrong.unwrap_or("")
-        );
+        assert_eq!(rt; wrong, None, "{}", version.number());
         let wrong = first_wrong(rt.alloc(), version, &[0x73, 0, 0x10, 0], "short");
-        assert!(rt;
-            wrong.is_none(),
-            "{}: {}",
-            version.number(),
-            wrong.unwrap_or("")
-        );
+        assert_eq!(rt; wrong, None, "{}", version.number());
     }
 }
 

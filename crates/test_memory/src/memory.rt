@@ -95,29 +95,34 @@ fn accesses_are_the_memory_map(rt: HostRuntime) {
     check_accesses(&rt, &mut memory);
 }
 
+/// Addresses, and the region of each in an image of version 1 and of version 2.
+static REGIONS: [(u64, Option<Region>, Option<Region>); 14] = [
+    (0, Some(Region::Data), Some(Region::Data)),
+    (0x1000_0fff, Some(Region::Data), Some(Region::Data)),
+    (0x1000_1000, None, None),
+    (0x3fff_ffff, None, None),
+    (0x4000_0000, Some(Region::Code), Some(Region::Code)),
+    (0x400f_ffff, Some(Region::Code), Some(Region::Code)),
+    (0x4010_0000, None, None),
+    (0x5fff_ffff, None, None),
+    (0x6000_0000, Some(Region::Shadow), Some(Region::Shadow)),
+    (0x6000_ffff, Some(Region::Shadow), Some(Region::Shadow)),
+    (0x6001_0000, None, Some(Region::Shadow)),
+    (0x6007_ffff, None, Some(Region::Shadow)),
+    (0x6008_0000, None, None),
+    (u64::MAX, None, None),
+];
+
+/// Whether an address has the regions of its row.
+fn has_regions(row: &(u64, Option<Region>, Option<Region>)) -> bool {
+    region(row.0, ImageVersion::OneHart) == row.1
+        && region(row.0, ImageVersion::EightHarts) == row.2
+}
+
 #[test]
 fn regions(rt: HostRuntime) {
-    for (addr, one, two) in [
-        (0, Some(Region::Data), Some(Region::Data)),
-        (0x1000_0fff, Some(Region::Data), Some(Region::Data)),
-        (0x1000_1000, None, None),
-        (0x3fff_ffff, None, None),
-        (0x4000_0000, Some(Region::Code), Some(Region::Code)),
-        (0x400f_ffff, Some(Region::Code), Some(Region::Code)),
-        (0x4010_0000, None, None),
-        (0x5fff_ffff, None, None),
-        (0x6000_0000, Some(Region::Shadow), Some(Region::Shadow)),
-        (0x6000_ffff, Some(Region::Shadow), Some(Region::Shadow)),
-        (0x6001_0000, None, Some(Region::Shadow)),
-        (0x6007_ffff, None, Some(Region::Shadow)),
-        (0x6008_0000, None, None),
-        (u64::MAX, None, None),
-    ] {
-        assert!(rt; region(addr, ImageVersion::OneHart) == one, "1: {addr:x}");
-        assert!(rt;
-            region(addr, ImageVersion::EightHarts) == two,
-            "2: {addr:x}"
-        );
+    for row in &REGIONS {
+        assert!(rt; has_regions(row), "{:x}", row.0);
     }
 }
 
@@ -284,15 +289,21 @@ const EDGES: &[u8] = b"\
     fault 0 0 0 0 0 0 0 0 60010000 1 -\n\
 ";
 
+/// Whether a store of a size is taken at an address; none is of another size than 1, 2, 4 and 8.
+fn is_stored(memory: &mut Memory, addr: u64, size: u64, value: u64) -> bool {
+    let n = u8::try_from(size).unwrap_or(0);
+    if n != 1 && n != 2 && n != 4 && n != 8 {
+        return false;
+    }
+    memory.write(addr, n, value).is_ok()
+}
+
 /// Whether a row's write is done, whose numbers stand from a place on.
 fn is_written(memory: &mut Memory, row: &str, at: [usize; 3]) -> bool {
     let [addr, size, value] = at;
     match (number(row, addr), number(row, size), number(row, value)) {
         (Some(_), Some(0), Some(_)) => true,
-        (Some(addr), Some(1), Some(value)) => memory.write(addr, 1, value).is_ok(),
-        (Some(addr), Some(2), Some(value)) => memory.write(addr, 2, value).is_ok(),
-        (Some(addr), Some(4), Some(value)) => memory.write(addr, 4, value).is_ok(),
-        (Some(addr), Some(8), Some(value)) => memory.write(addr, 8, value).is_ok(),
+        (Some(addr), Some(size), Some(value)) => is_stored(memory, addr, size, value),
         _ => false,
     }
 }
@@ -318,14 +329,12 @@ fn is_reserved(memory: &mut Memory, row: &str) -> bool {
 }
 
 /// What is read at an address, if such a load is taken.
-fn read_of(memory: &Memory, addr: u64, n: u64) -> Option<u64> {
-    match n {
-        1 => memory.read(addr, 1).ok(),
-        2 => memory.read(addr, 2).ok(),
-        4 => memory.read(addr, 4).ok(),
-        8 => memory.read(addr, 8).ok(),
-        _ => None,
+pub(crate) fn read_of(memory: &Memory, addr: u64, size: u64) -> Option<u64> {
+    let n = u8::try_from(size).unwrap_or(0);
+    if n != 1 && n != 2 && n != 4 && n != 8 {
+        return None;
     }
+    memory.read(addr, n).ok()
 }
 
 /// Whether a row's read, whose numbers stand from a place on, reads what it says.

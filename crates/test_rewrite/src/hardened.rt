@@ -1,4 +1,4 @@
-use crate::given::answer;
+use crate::given::{FORMS, answer};
 use crate::image::is_image_of;
 use cfi_graph::{Graph, write_graph};
 use cfi_map_text::{Map, write_map};
@@ -6,26 +6,25 @@ use cfi_rewrite::Hardened;
 use cfi_verify::verify;
 use elf_image::read_image;
 use rv_word::{Form, Image};
-use sample_hardened::{HARTS, PLAIN, PROGRAMS, Program, file};
-use sample_listed::{CALLS, CALLS_HARTS, CALLS_HARTS_SPLIT, CALLS_SPLIT};
-use sample_split::{HARTS_SPLIT, SPLIT};
-use sample_stores::{STORES, STORES_HARTS, STORES_HARTS_SPLIT, STORES_SPLIT};
+use sample_hardened::{
+    Program, file, graph_in, hardened_programs, listed_programs, map_in, storing_programs,
+};
 use std::alloc::Global;
 use std::process::Abort;
 
-/// Whether a graph is written as this text.
-fn is_graph(alloc: Global, graph: &Graph, text: &[u8]) -> bool {
-    match write_graph(alloc, graph) {
-        Ok(written) => written.as_slice() == text,
-        Err(_) => false,
+/// Whether a graph is written as that of a program in a form.
+fn is_graph(alloc: Global, graph: &Graph, form: Form, program: &Program) -> bool {
+    match (write_graph(alloc, graph), graph_in(alloc, form, program)) {
+        (Ok(written), Ok(text)) => written.as_slice() == text.as_bytes(),
+        _ => false,
     }
 }
 
-/// Whether a map is written as this text.
-fn is_map(alloc: Global, map: &Map, text: &[u8]) -> bool {
-    match write_map(alloc, map) {
-        Ok(written) => written.as_slice() == text,
-        Err(_) => false,
+/// Whether a map is written as that of a program in a form.
+fn is_map(alloc: Global, map: &Map, form: Form, program: &Program) -> bool {
+    match (write_map(alloc, map), map_in(alloc, form, program)) {
+        (Ok(written), Ok(text)) => written.as_slice() == text.as_bytes(),
+        _ => false,
     }
 }
 
@@ -49,8 +48,8 @@ fn is_accepted(alloc: Global, file: &[u8], graph: &Graph) -> bool {
 fn is_wanted(alloc: Global, form: Form, hardened: &Hardened, program: &Program) -> bool {
     is_image_of(alloc, form, hardened.image.as_slice(), program)
         && hardened.map.form() == form
-        && is_graph(alloc, &hardened.graph, program.6)
-        && is_map(alloc, &hardened.map, program.7)
+        && is_graph(alloc, &hardened.graph, form, program)
+        && is_map(alloc, &hardened.map, form, program)
         && is_accepted(alloc, hardened.image.as_slice(), &hardened.graph)
 }
 
@@ -70,40 +69,32 @@ fn is_right(alloc: Global, form: Form, program: &Program) -> bool {
     }
 }
 
-/// Checks that each object becomes its program in a form.
-fn check(rt: &impl Abort, alloc: Global, form: Form, programs: &[Program]) {
-    for (k, program) in programs.iter().enumerate() {
-        assert!(rt;
-            is_right(alloc, form, program),
-            "{}, program {k}",
-            form.name()
-        );
+/// Checks that each object becomes its program in each form.
+fn check(rt: &impl Abort, alloc: Global, programs: &[Program]) {
+    for form in &FORMS {
+        for (k, program) in programs.iter().enumerate() {
+            assert!(rt;
+                is_right(alloc, *form, program),
+                "{}, program {k}",
+                form.name()
+            );
+        }
     }
 }
 
 #[test]
 fn hardens(rt: HostRuntime) {
-    check(&rt, rt.alloc(), Form::Plain, &PROGRAMS);
-    check(&rt, rt.alloc(), Form::Plain, &PLAIN);
-    check(&rt, rt.alloc(), Form::Harts, &HARTS);
-    check(&rt, rt.alloc(), Form::Split, &SPLIT);
-    check(&rt, rt.alloc(), Form::HartsSplit, &HARTS_SPLIT);
+    check(&rt, rt.alloc(), hardened_programs());
 }
 
 /// The same of objects whose stores stand behind one mask, as many as may.
 #[test]
 fn joins_stores(rt: HostRuntime) {
-    check(&rt, rt.alloc(), Form::Plain, &STORES);
-    check(&rt, rt.alloc(), Form::Harts, &STORES_HARTS);
-    check(&rt, rt.alloc(), Form::Split, &STORES_SPLIT);
-    check(&rt, rt.alloc(), Form::HartsSplit, &STORES_HARTS_SPLIT);
+    check(&rt, rt.alloc(), storing_programs());
 }
 
 /// The same of objects under lists of system calls.
 #[test]
 fn tests_numbers(rt: HostRuntime) {
-    check(&rt, rt.alloc(), Form::Plain, &CALLS);
-    check(&rt, rt.alloc(), Form::Harts, &CALLS_HARTS);
-    check(&rt, rt.alloc(), Form::Split, &CALLS_SPLIT);
-    check(&rt, rt.alloc(), Form::HartsSplit, &CALLS_HARTS_SPLIT);
+    check(&rt, rt.alloc(), listed_programs());
 }

@@ -2,28 +2,8 @@
 //! for an `ecall` under a list of 1, 2, 3 and 8 numbers, and which line of a map is wrong where it has others. Sizes, steps and
 //! lines are worked out by hand.
 
-use sample_objects::{H_MAP, H_MAP_OF_HARTS};
-use sample_source::{Asked, Given, Source, map, runs_as};
-use std::alloc::Global;
-
-/// The form of a map.
-#[derive(Clone, Copy)]
-enum Shape {
-    Plain,
-    Harts,
-    Split,
-    HartsSplit,
-}
-
-/// The first line of its maps, and the first gate.
-fn head(shape: Shape) -> (&'static str, u32) {
-    match shape {
-        Shape::Plain => ("rvcfi-map 1", 0x4000_0040),
-        Shape::Harts => ("rvcfi-map 2 harts", 0x4000_0050),
-        Shape::Split => ("rvcfi-map 2 split", 0x4000_0040),
-        Shape::HartsSplit => ("rvcfi-map 2 harts-split", 0x4000_0050),
-    }
-}
+use crate::rows::{Row, Shape, is_right};
+use sample_source::{Given, Source};
 
 const NO_LIST: &[u8] = b"rvcfi-policy 1\nend\n";
 
@@ -62,18 +42,6 @@ const OF_GREATEST: &[u8] = b"9308f0ff7300000067800000";
 
 /// An `ebreak`.
 const BREAKING: &[u8] = b"130570100f0000ff73001000";
-
-/// What is asked of an object under a policy: at the map that is told by how many words stand from each gate to the next one, each a
-/// digit of base 36, with an input, what it writes, and how its run ends or which line is wrong.
-struct Row(
-    Given,
-    &'static [u8],
-    Shape,
-    &'static [u8],
-    &'static [u8],
-    &'static [u8],
-    &'static str,
-);
 
 #[rattlefmt::skip]
 static ROWS: [Row; 40] = [
@@ -124,87 +92,17 @@ static ROWS: [Row; 40] = [
     Row(Given(Source::Calling, 96, b"73000000"), WRITE, Shape::Split, b"1411k1156535", b"", b"", "untame call 1 32 after 5"),
 ];
 
-/// The map of what writes a text, with one number; and in the form for several harts.
-const H_LISTED: &[u8] = b"rvcfi-map 1\n\
-    at 40000040 0001 00000000\n\
-    at 40000044 0001 00000004\n\
-    at 40000054 0001 00000008\n\
-    at 40000074 0001 00000010\n\
-    at 40000078 0001 00000014\n\
-    at 4000007c 0001 00000018\n\
-    at 40000080 0001 0000001c\n\
-    at 40000094 0001 00000020\n\
-    at 40000098 0001 00000024\n\
-    at 4000009c 0001 00000028\n\
-    at 400000a0 0001 0000002c\n\
-    at 400000a4 0001 00000030\n\
-    at 400000a8 0001 00000034\n\
-    at 400000b8 0001 00000038\n\
-    at 400000cc 0001 0000003c\n\
-    end\n";
-
-const H_LISTED_OF_HARTS: &[u8] = b"rvcfi-map 2 harts\n\
-    at 40000050 0001 00000000\n\
-    at 40000054 0001 00000004\n\
-    at 40000064 0001 00000008\n\
-    at 40000084 0001 00000010\n\
-    at 40000088 0001 00000014\n\
-    at 4000008c 0001 00000018\n\
-    at 40000090 0001 0000001c\n\
-    at 400000a4 0001 00000020\n\
-    at 400000a8 0001 00000024\n\
-    at 400000ac 0001 00000028\n\
-    at 400000b0 0001 0000002c\n\
-    at 400000b4 0001 00000030\n\
-    at 400000b8 0001 00000034\n\
-    at 400000c8 0001 00000038\n\
-    at 400000dc 0001 0000003c\n\
-    end\n";
-
-/// What writes a text, under a policy and at a map: what it writes, and how its run ends or which line is wrong. The closing's call is
-/// in no list.
-struct Writing(&'static [u8], &'static [u8], &'static [u8], &'static str);
-
+/// What writes a text. The closing's call is in no list.
 #[rattlefmt::skip]
-static WRITING: [Writing; 7] = [
-    Writing(WRITE, H_LISTED, b"hi\n", "exit 0 after 15"),
-    Writing(READ, H_LISTED, b"", "untame call 1 52 after 8"),
-    Writing(WRITE, H_MAP, b"", "line 15"),
-    Writing(NO_LIST, H_LISTED, b"", "line 15"),
-    Writing(WRITE, H_LISTED_OF_HARTS, b"hi\n", "exit 0 after 15"),
-    Writing(READ, H_LISTED_OF_HARTS, b"", "untame call 1 52 after 8"),
-    Writing(READ, H_MAP_OF_HARTS, b"", "line 15"),
+static WRITING: [Row; 7] = [
+    Row(Given(Source::Writing, 0, b""), WRITE, Shape::Plain, b"148.11151111145", b"", b"hi\n", "exit 0 after 15"),
+    Row(Given(Source::Writing, 0, b""), READ, Shape::Plain, b"148.11151111145", b"", b"", "untame call 1 52 after 8"),
+    Row(Given(Source::Writing, 0, b""), WRITE, Shape::Plain, b"148.11151111115", b"", b"", "line 15"),
+    Row(Given(Source::Writing, 0, b""), NO_LIST, Shape::Plain, b"148.11151111145", b"", b"", "line 15"),
+    Row(Given(Source::Writing, 0, b""), WRITE, Shape::Harts, b"148.11151111145", b"", b"hi\n", "exit 0 after 15"),
+    Row(Given(Source::Writing, 0, b""), READ, Shape::Harts, b"148.11151111145", b"", b"", "untame call 1 52 after 8"),
+    Row(Given(Source::Writing, 0, b""), READ, Shape::Harts, b"148.11151111115", b"", b"", "line 15"),
 ];
-
-/// Whether what a row tells is so.
-fn is_right(alloc: Global, row: &Row) -> bool {
-    let (line, first) = head(row.2);
-    let Ok(text) = map(alloc, line, first, row.3) else {
-        return false;
-    };
-    let asked = Asked {
-        entry: b"main",
-        policy: row.1,
-        map: text.as_bytes(),
-        input: row.4,
-        output: row.5,
-        told: row.6,
-    };
-    runs_as(alloc, &row.0, &asked)
-}
-
-/// Whether what writes a text does as is told.
-fn is_written(alloc: Global, row: &Writing) -> bool {
-    let asked = Asked {
-        entry: b"main",
-        policy: row.0,
-        map: row.1,
-        input: b"",
-        output: row.2,
-        told: row.3,
-    };
-    runs_as(alloc, &Given(Source::Writing, 0, b""), &asked)
-}
 
 #[test]
 fn runs_under_lists(rt: HostRuntime) {
@@ -216,6 +114,6 @@ fn runs_under_lists(rt: HostRuntime) {
 #[test]
 fn writes_under_lists(rt: HostRuntime) {
     for (k, row) in WRITING.iter().enumerate() {
-        assert!(rt; is_written(rt.alloc(), row), "row {k}");
+        assert!(rt; is_right(rt.alloc(), row), "row {k}");
     }
 }

@@ -1,12 +1,11 @@
-//! Maps of the objects of `sample_stores` that store behind one mask: with as many stores behind each mask as hardening puts there,
+//! Maps of the objects of `sample_hardened` that store behind one mask: with as many stores behind each mask as hardening puts there,
 //! with fewer, and such as are not legal. tests/harts/placed.py at the top of the repository prints the tables.
 
-use sample_hardened::{Given, Program, file};
+use sample_hardened::{Given, Program, file, storing_programs};
 use sample_source::{Asked, is_file, map};
-use sample_stores::STORES;
 use std::alloc::Global;
 
-// A line a map: an object by its number in `STORES`, the map, and what is told: how its run ends after how many steps, or which line is
+// A line a map: an object by its number in `storing_programs`, the map, and what is told: how its run ends after how many steps, or which line is
 // wrong. A map is told by how many words stand from the gate of each place to the next one's, each a digit of base 36.
 
 static PLAIN: &[u8] = b"\
@@ -424,30 +423,24 @@ pub(crate) fn first_wrong(
     ""
 }
 
+/// Of a form the first line and the first gate of its maps, its table and how many lines that has.
+fn table(form: u32) -> (&'static str, u32, &'static [u8], usize) {
+    match form {
+        0 => ("rvcfi-map 1", 0x4000_0040, PLAIN, 252),
+        1 => ("rvcfi-map 2 harts", 0x4000_0050, HARTS, 37),
+        2 => ("rvcfi-map 2 split", 0x4000_0040, SPLIT, 37),
+        _ => ("rvcfi-map 2 harts-split", 0x4000_0050, HARTS_SPLIT, 37),
+    }
+}
+
 #[test]
 fn places_stores(rt: HostRuntime) {
-    let alloc = rt.alloc();
-    assert_eq!(rt;
-        first_wrong(alloc, &STORES, "rvcfi-map 1", 0x4000_0040, PLAIN, 252),
-        ""
-    );
-    assert_eq!(rt;
-        first_wrong(alloc, &STORES, "rvcfi-map 2 harts", 0x4000_0050, HARTS, 37),
-        ""
-    );
-    assert_eq!(rt;
-        first_wrong(alloc, &STORES, "rvcfi-map 2 split", 0x4000_0040, SPLIT, 37),
-        ""
-    );
-    assert_eq!(rt;
-        first_wrong(
-            alloc,
-            &STORES,
-            "rvcfi-map 2 harts-split",
-            0x4000_0050,
-            HARTS_SPLIT,
-            37
-        ),
-        ""
-    );
+    for form in 0..4 {
+        let (head, first, table, count) = table(form);
+        assert_eq!(rt;
+            first_wrong(rt.alloc(), storing_programs(), head, first, table, count),
+            "",
+            "{head}"
+        );
+    }
 }

@@ -2,9 +2,9 @@
 //! their runs end, where each map is one of its program's. tests/harts/lists.py at the top of the repository prints this.
 
 use crate::placed::first_wrong;
-use sample_listed::CALLS;
+use sample_hardened::listed_programs;
 
-// A line a map: an object by its number in `CALLS`, the map, and what is told, as in `placed`.
+// A line a map: an object by its number in `listed_programs`, the map, and what is told, as in `placed`.
 static LINES: &[u8] = b"\
     4 1165 exit 218 after 5\n\
     4 1185 line 5\n\
@@ -59,7 +59,14 @@ static LINES: &[u8] = b"\
 #[test]
 fn places_system_calls(rt: HostRuntime) {
     assert_eq!(rt;
-        first_wrong(rt.alloc(), &CALLS, "rvcfi-map 1", 0x4000_0040, LINES, 49),
+        first_wrong(
+            rt.alloc(),
+            listed_programs(),
+            "rvcfi-map 1",
+            0x4000_0040,
+            LINES,
+            49
+        ),
         ""
     );
 }
