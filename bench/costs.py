@@ -6,20 +6,21 @@
 README.md beside this file says what is measured and what it needs.
 """
 
-import argparse
-import os
 import sys
 import tempfile
+from pathlib import Path
 
 sys.dont_write_bytecode = True
-HERE = os.path.dirname(os.path.abspath(__file__))
-sys.path[:0] = [os.path.join(HERE, "..", "tests", "real"), os.path.join(HERE, "..", "tools")]
+sys.path.insert(0, str(Path(__file__).resolve().parents[1]))
 
-import programs
-from explain import units
-from explain.texts import ONE, image_code
-from program_forms import FORMS
-from programs import CALLS, PROGRAMS, Hardened, Missing
+from bench.overhead import mean
+from tests.shared import programs
+from tests.shared.command import Words
+from tests.shared.forms import FORMS
+from tests.shared.programs import CALLS, PROGRAMS, Hardened
+from tools.explain import units
+from tools.explain.texts import ONE, image_code
+from tools.sysroot.compilers import Missing, gcc
 
 EIGHT = 0, 1, 62, 63, 64, 93, 94, 2047
 CHOICES = {**{"`%s`" % form: (form, None) for form in FORMS}, "a list of 3": ("plain", CALLS), "a list of 8": ("plain", EIGHT)}
@@ -29,7 +30,7 @@ ALONE = "each store alone"
 
 def hardened(tool, joined, form, calls):
     """An object hardened in a form, under a list of system calls or none."""
-    policy = "none" if calls is None else programs.policy_of(calls, joined + ".%d.policy" % len(calls))
+    policy = "none" if calls is None else programs.policy_file(calls, joined + ".%d.policy" % len(calls))
     made = Hardened(tool, joined, form, policy)
     if made.told[0] or made.verified()[0]:
         sys.exit("%s %s: %s" % (joined, form, made.told[1].decode()))
@@ -71,13 +72,6 @@ def measured(tool, compiler, level, program, folder):
     return found
 
 
-def mean(ratios):
-    product = 1.0
-    for ratio in ratios:
-        product *= ratio
-    return product ** (1 / len(ratios))
-
-
 def tell(processor, names, rows):
     """A table: what a program takes without hardening, and how many times as much with each choice."""
     for k, what in enumerate(("steps", "bytes of code")):
@@ -107,21 +101,18 @@ def choose(names, found):
 
 
 def main():
-    words = argparse.ArgumentParser(description=__doc__, formatter_class=argparse.RawDescriptionHelpFormatter)
-    words.add_argument("--program", default=programs.PROGRAM)
+    words = Words(__doc__)
     words.add_argument("--level", default="-O2", help="with =, as --level=-Os")
     options = words.parse_args()
-    if not os.access(options.program, os.X_OK):
-        sys.exit("%s is not there: cd crates/rvcfi && rt run -- verify data/a.img data/a.graph" % options.program)
     names = ["not hardened", "`plain`", ALONE] + [name for name in CHOICES if name != "`plain`"]
     try:
-        compilers = {processor: programs.gcc(processor) for processor in programs.PROCESSORS}
+        kinds = {processor: gcc(processor) for processor in programs.PROCESSORS}
     except Missing as what:
         sys.exit("not measured, since there is no %s" % what)
-    compilers["-fpic"], found = programs.shared(compilers["rv64im"]), {}
+    kinds["-fpic"], found = programs.shared(kinds["rv64im"]), {}
     with tempfile.TemporaryDirectory() as folder:
-        for kind, compiler in compilers.items():
-            tool = os.path.abspath(options.program)
+        for kind, compiler in kinds.items():
+            tool = options.program
             found[kind] = [(program, measured(tool, compiler, options.level, program, folder)) for program in PROGRAMS]
             if kind in programs.PROCESSORS:
                 tell(kind, [name for name in names if "harts" not in name], found[kind])  # four words more, once

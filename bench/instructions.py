@@ -8,18 +8,20 @@ scripts of turns; the steps also of the library's example `run` (library/build.s
 machine give the same counts.
 """
 
-import argparse
 import os
 import re
 import subprocess
 import sys
 import tempfile
+from pathlib import Path
 
 sys.dont_write_bytecode = True
+sys.path.insert(0, str(Path(__file__).resolve().parents[1]))
 
-import run
-from families import compiled
-from verify import KINDS, written
+from bench import run
+from bench.verify import KINDS, written
+from tests.shared.command import Words
+from tests.shared.families import compiled
 
 SHORT, LONG = 100000, 300000  # steps of the two runs
 EXAMPLE = os.path.join(os.path.dirname(os.path.abspath(__file__)), "..", "library", "out", "run")
@@ -63,8 +65,7 @@ def print_harts(what, command, folder):
 
 
 def main():
-    asked = argparse.ArgumentParser(description="Counts instructions of rvcfi.")
-    asked.add_argument("--program", default=run.PROGRAM)
+    asked = Words(__doc__)
     asked.add_argument("--example", default=EXAMPLE, help="the library's example run")
     asked = asked.parse_args()
     with tempfile.TemporaryDirectory() as folder:

@@ -11,16 +11,17 @@ import os
 import random
 import sys
 import tempfile
+from pathlib import Path
 
 sys.dont_write_bytecode = True
-HERE = os.path.dirname(os.path.abspath(__file__))
-sys.path.insert(0, os.path.join(HERE, "..", "tests", "real"))
+sys.path.insert(0, str(Path(__file__).resolve().parents[1]))
 
-import programs
-from costs import EIGHT
-from program_forms import FORMS
-from programs import CALLS, Linked, policy_of
-from verify import best_time, found, peak_memory
+from bench.costs import EIGHT
+from bench.verify import best_time, found, peak_memory
+from tests.shared import programs
+from tests.shared.forms import FORMS
+from tests.shared.programs import CALLS, Linked, policy_file
+from tools.sysroot import compilers
 
 TIERS, ROW = 10, 8  # functions call those of the next tier alone; so many of them are in each table of pointers
 OPERATORS = ["+", "-", "*", "&", "|", "^"]
@@ -114,7 +115,7 @@ class Grammar:
 
 def compiled(folder, sources):
     """The objects of the program, and what the host's build of it puts and ends with."""
-    compiler = programs.gcc()
+    compiler = compilers.gcc()
     objects = [programs.compiled(compiler, "-O2", name, folder) for name in ("start.s", "memory.c", "text.c")]
     hosted = [programs.source(name) for name in ("host.c", "text.c")]
     for number, source in enumerate(sources):
@@ -122,18 +123,18 @@ def compiled(folder, sources):
         with open(path + ".c", "w") as file:
             file.write(source)
         objects.append(path + ".o")
-        programs.must(compiler.command + compiler.options + ["-w", "-O2", "-I" + programs.HERE, "-c", path + ".c", "-o", objects[-1]])
+        compilers.must(compiler.command + compiler.options + ["-w", "-O2", "-I" + programs.SOURCES, "-c", path + ".c", "-o", objects[-1]])
         hosted.append(path + ".host.o")
-        programs.must([HOST, "-w", "-O1", "-I" + programs.HERE, "-c", path + ".c", "-o", hosted[-1]])
+        compilers.must([HOST, "-w", "-O1", "-I" + programs.SOURCES, "-c", path + ".c", "-o", hosted[-1]])
     host = os.path.join(folder, "larger")
-    programs.must([HOST, "-O1", "-o", host, *hosted])
-    done = programs.run([host], INPUT)
+    compilers.must([HOST, "-O1", "-o", host, *hosted])
+    done = compilers.run([host], INPUT)
     return objects, (done.stdout, done.returncode)
 
 
 def measure(tool, objects, wanted, folder, form, calls, runs):
     """A row of a form and a list: bytes, steps, milliseconds and memory of each command."""
-    policy = "none" if calls is None else policy_of(calls, os.path.join(folder, "list%d" % len(calls)))
+    policy = "none" if calls is None else policy_file(calls, os.path.join(folder, "list%d" % len(calls)))
     made = Linked(tool, objects, os.path.join(folder, form), form, policy)
     if made.told[0] or made.verified()[0]:
         sys.exit("%s: %s" % (form, made.told[1].decode()))

@@ -7,8 +7,9 @@ import random
 import struct
 from collections import Counter
 
-from images import (BAD_RETURN, BAD_TARGET, CODE, DEEP, FREE, OPENING, STORES, TARGETS_PER_CLASS, addi, branch, check, i_form, image_file, jal,
-                    plain, prologue, r_form, s_form, u_form)
+from bench.images import FREE, STORES, TARGETS_PER_CLASS, plain
+from tests.shared.instructions import EBREAK, ECALL, addi, branch, i_form, jal, r_form, s_form, u_form
+from tests.shared.units import BAD_TARGET, CODE, DEEP, OPENING, check, image_file, prologue, returning
 
 UNITS = CODE + 44
 ENTER, RETURN, COMPUTED = 5, 5, 15  # words
@@ -57,7 +58,7 @@ def words_of(rng, kind, at, size, label, target, in_leaf):
     if kind == "jump":
         return [jal(0, at, target)]
     if kind == "system":
-        return [rng.choice((0x00000073, 0x00100073))]
+        return [rng.choice((ECALL, EBREAK))]
     if kind == "short":
         return [r_form(0x33, 7, 0, 31, source, 4)] + [store() for _ in range(size - 1)]
     if kind == "long":
@@ -70,7 +71,7 @@ def words_of(rng, kind, at, size, label, target, in_leaf):
         return check(at, source, imm, label, 8) + again + [i_form(0x67, 0, 1, 31, 8)]
     if kind == "leaf return":
         return [i_form(0x67, 0, 0, 1, 0)]
-    return [i_form(0x03, 3, 31, 3, -8), addi(3, 3, -8), branch(0, 31, 1, 8), jal(0, at + 12, BAD_RETURN), i_form(0x67, 0, 0, 31, 0)]
+    return returning(at)
 
 
 def lean_pair(code_bytes, data_bytes=4096, seed=1):

@@ -6,17 +6,21 @@ graph of 2^26 bytes, with as many classes as there are labels; and what `rvcfi r
 a step that calls the system, by runs of two lengths of a program that does nothing else.
 """
 
-import argparse
 import os
 import struct
 import sys
 import tempfile
+from pathlib import Path
 
 sys.dont_write_bytecode = True
+sys.path.insert(0, str(Path(__file__).resolve().parents[1]))
 
-from images import CODE, addi, image_file
-from run import PROGRAM, ECALL, Program, write, write_pair
-from verify import peak_memory
+from bench.run import write, write_pair
+from bench.verify import peak_memory
+from tests.model.program import Program
+from tests.shared.command import Words
+from tests.shared.instructions import ECALL, addi
+from tests.shared.units import CODE, image_file
 
 MOST_FILE, MOST_CODE, MOST_DATA, MOST_LABEL = 1 << 26, 1 << 20, 1 << 25, 0xFFFFF
 LINES = 200000  # of the shorter script
@@ -52,9 +56,7 @@ def script(lines):
 
 
 def main():
-    asked = argparse.ArgumentParser(description="Measures what strangers' files cost at most.")
-    asked.add_argument("--program", default=PROGRAM)
-    program = asked.parse_args().program
+    program = Words(__doc__).parse_args().program
     with tempfile.TemporaryDirectory() as folder:
         image, graph = largest()
         pair = write_pair(folder, "largest", (image, graph))

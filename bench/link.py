@@ -9,12 +9,16 @@ bench/README.md says what is compared and what came out.
 import argparse
 import os
 import shutil
-import struct
 import sys
 import tempfile
+from pathlib import Path
 
-from families import CODE, FUNC, GCC, PROGBITS, RELA, STRTAB, SYMTAB, Section, compiled, object_file, relocation, symbol, words
-from verify import best_times, found, peak_memory
+sys.dont_write_bytecode = True
+sys.path.insert(0, str(Path(__file__).resolve().parents[1]))
+
+from bench.verify import best_times, found, peak_memory
+from tests.shared.elf import CODE_FLAGS, FUNC, PROGBITS, RELA, STRTAB, SYMTAB, Section, object_file, relocation, symbol, words
+from tests.shared.families import GCC, compiled
 
 LD = "riscv64-linux-gnu-ld"
 COUNTS = "10,100,1000"
@@ -37,14 +41,14 @@ def calling(first, last):
         symbols += symbol(len(names), FUNC if here else 0x10, 1 if here else 0, 28 * (number - first) if here else 0, 28 if here else 0)
         names += b"function_%d\0" % number
     uses = b"".join(relocation(28 * k + 8, k + 2, CALL_PLT) for k in range(count))
-    return object_file([Section(PROGBITS, code, CODE, align=4), Section(RELA, uses, link=3, info=1, align=8, entry=24),
+    return object_file([Section(PROGBITS, code, CODE_FLAGS, align=4), Section(RELA, uses, link=3, info=1, align=8, entry=24),
                         Section(SYMTAB, symbols, link=4, info=1, align=8, entry=24), Section(STRTAB, bytes(names))])
 
 
 def ending(number):
     """An object of one function, which returns."""
     names = b"\0function_%d\0" % number
-    return object_file([Section(PROGBITS, words(RETURN), CODE, align=4),
+    return object_file([Section(PROGBITS, words(RETURN), CODE_FLAGS, align=4),
                         Section(SYMTAB, symbol(0, 0, 0, 0) + symbol(1, FUNC, 1, 0, 4), link=3, info=1, align=8, entry=24), Section(STRTAB, names)])
 
 
@@ -59,7 +63,7 @@ def long_names(family, size):
     begins = [1 + k % strings * (each + 1) + k // strings * step for k in range(count)]
     symbols = symbol(0, 0, 0, 0) + symbol(len(names), FUNC, 1, 0, 4)
     symbols += b"".join(symbol(begin, 0 if family == "local" else 0x20, 0, 0) for begin in begins)
-    return object_file([Section(PROGBITS, words(RETURN), CODE, align=4), Section(SYMTAB, symbols, link=3, info=1, align=8, entry=24),
+    return object_file([Section(PROGBITS, words(RETURN), CODE_FLAGS, align=4), Section(SYMTAB, symbols, link=3, info=1, align=8, entry=24),
                         Section(STRTAB, names + b"f\0")])
 
 

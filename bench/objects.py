@@ -15,11 +15,13 @@ import shutil
 import subprocess
 import sys
 import tempfile
+from pathlib import Path
 
 sys.dont_write_bytecode = True
+sys.path.insert(0, str(Path(__file__).resolve().parents[1]))
 
-from families import FAMILIES, GCC, OVERLAPPING, compiled, shared_code, shared_data, shared_relocations
-from verify import OBJDUMP, best_time, peak_memory
+from bench.verify import OBJDUMP, best_time, peak_memory
+from tests.shared.families import FAMILIES, GCC, OVERLAPPING, compiled, shared_code, shared_data, shared_relocations
 
 TOP = os.path.join(os.path.dirname(os.path.abspath(__file__)), "..")
 NAME = "object_bench"

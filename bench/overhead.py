@@ -6,17 +6,16 @@
 README.md beside this file says what is measured and what it needs.
 """
 
-import argparse
-import os
 import sys
 import tempfile
+from pathlib import Path
 
 sys.dont_write_bytecode = True
-HERE = os.path.dirname(os.path.abspath(__file__))
-sys.path.insert(0, os.path.join(HERE, "..", "tests", "real"))
+sys.path.insert(0, str(Path(__file__).resolve().parents[1]))
 
-import programs
-from programs import LEVELS, PROGRAMS, Hardened, Missing
+from tests.shared import programs
+from tests.shared.command import Words
+from tests.shared.programs import LEVELS, PROGRAMS, Hardened
 
 ROW = "%-12s %-6s %-7s %-6s %-12s %8s %8s %6s   %6s %8s %6s"
 
@@ -47,16 +46,6 @@ def mean(ratios):
     return product ** (1 / len(ratios))
 
 
-def compilers():
-    found = []
-    for compiler in (programs.gcc, programs.clang):
-        try:
-            found += [compiler(processor) for processor in programs.PROCESSORS]
-        except Missing as what:
-            print("not measured, since there is no %s: %s" % (what, compiler.__name__))
-    return found
-
-
 def print_level(tool, compiler, level, forms, folder):
     """Prints a row a program and form and the means, and answers the ratios by form."""
     ratios = {form: [] for form in forms}
@@ -74,19 +63,16 @@ def print_level(tool, compiler, level, forms, folder):
 
 
 def main():
-    words = argparse.ArgumentParser(description=__doc__, formatter_class=argparse.RawDescriptionHelpFormatter)
-    words.add_argument("--program", default=programs.PROGRAM)
+    words = Words(__doc__)
     words.add_argument("--levels", default=",".join(LEVELS), help="with =, as --levels=-O2,-Os")
     words.add_argument("--forms", default="plain", help="as --forms=plain,harts-split")
     options = words.parse_args()
-    if not os.access(options.program, os.X_OK):
-        sys.exit("%s is not there: cd crates/rvcfi && rt run -- verify data/a.img data/a.graph" % options.program)
     rows = {}
     print(ROW % ("program", "by", "for", "level", "form", "steps", "hardened", "times", "bytes", "hardened", "times"))
     with tempfile.TemporaryDirectory() as folder:
-        for compiler in compilers():
+        for compiler in programs.compilers_here("not measured, since there is no %s: %s", programs.PROCESSORS):
             for level in options.levels.split(","):
-                made = print_level(os.path.abspath(options.program), compiler, level, options.forms.split(","), folder)
+                made = print_level(options.program, compiler, level, options.forms.split(","), folder)
                 for form, ratios in made.items():
                     rows.setdefault((compiler.processor, form), []).extend(ratios)
     for words, pairs in rows.items():

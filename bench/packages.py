@@ -9,16 +9,17 @@ the host's build prints. For each: computed transfers, classes, how many targets
 the run, not hardened (as qemu-riscv64 counts them) and hardened.
 """
 
-import argparse
 import os
 import sys
 import tempfile
+from pathlib import Path
 
 sys.dont_write_bytecode = True
-sys.path.append(os.path.join(os.path.dirname(os.path.abspath(__file__)), "..", "tests", "real"))
+sys.path.insert(0, str(Path(__file__).resolve().parents[1]))
 
-import libraries
-import programs
+from tests.real import libraries
+from tests.shared import programs
+from tests.shared.command import Words
 
 CHOICES = {
     "gcc": [[], ["-fjump-tables"], ["-fno-data-sections", "-fsection-anchors"]],
@@ -44,9 +45,8 @@ def row_of(tool, made, compiler, options, wanted):
 
 
 def main():
-    words = argparse.ArgumentParser(description=__doc__, formatter_class=argparse.RawDescriptionHelpFormatter)
+    words = Words(__doc__)
     words.add_argument("names", metavar="NAME", nargs="*", help="all where none is named")
-    words.add_argument("--program", default=programs.PROGRAM)
     words.add_argument("--sysroot", metavar="FOLDER", help="the library's folder, where it is built if it is not there")
     words.add_argument("--sources", metavar="FOLDER", help="where the packages are, or go to")
     words.add_argument("--compiler", choices=list(CHOICES), default="gcc")
@@ -61,7 +61,7 @@ def main():
             made = libraries.Built(package, options.sources, folder)
             wanted = made.on_host()
             for choice in CHOICES[options.compiler]:
-                cells = row_of(os.path.abspath(options.program), made, compiler, choice, wanted)
+                cells = row_of(options.program, made, compiler, choice, wanted)
                 print("| %s |" % " | ".join(map(str, cells)), flush=True)
 
 

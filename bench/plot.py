@@ -12,10 +12,12 @@ import sys
 from pathlib import Path
 
 sys.dont_write_bytecode = True
-HERE = Path(__file__).resolve().parent
-sys.path.insert(0, str(HERE.parent / "docs"))
+sys.path.insert(0, str(Path(__file__).resolve().parents[1]))
 
-from pictures import GREY, INK, Drawing
+from docs.pictures import GREY, INK, Drawing
+
+HERE = Path(__file__).resolve().parent
+
 
 # the lines that stand before the tables, by their ends
 STEPS, BYTES = "Steps, for rv64im:", "Bytes of code, for rv64im:"

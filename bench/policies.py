@@ -7,34 +7,36 @@ most, without a policy and with it, which must run alike.
 README.md beside this file says what is measured and what it needs; pyelftools besides.
 """
 
-import argparse
 import os
 import sys
 import tempfile
+from pathlib import Path
 
 sys.dont_write_bytecode = True
-HERE = os.path.dirname(os.path.abspath(__file__))
-REAL = os.path.join(HERE, "..", "tests", "real")
-sys.path.insert(0, REAL)
+sys.path.insert(0, str(Path(__file__).resolve().parents[1]))
 
-import programs
-from explained import python_with_elftools
-from larger import INPUT, Grammar
-from programs import PROGRAMS, Linked
-from split import STATES, checked, compilers, reach, steps
+from bench.larger import INPUT, Grammar
+from bench.split import ABSENT, checked, reach, steps
+from tests.real.explained import python_with_elftools
+from tests.shared import programs
+from tests.shared.command import Words
+from tests.shared.forms import FORMS
+from tests.shared.paths import ROOT
+from tests.shared.programs import PROGRAMS, STATES, Linked
+from tools.sysroot import compilers
 
-TOOL = os.path.join(HERE, "..", "tools", "policy.py")
+TOOL = str(ROOT / "tools" / "policy.py")
 WITHOUT_ANCHORS = {"gcc": ["-fno-section-anchors"], "clang": []}
 HEAD = ["program", "by", "calls", "at most", "jumps", "at most", "with a line", "code", "steps"]
 
 
 def compiled(compiler, level, folder, paths):
     """The objects of sources with debugging information, with what every program needs."""
-    own = compiler._replace(options=compiler.options + ["-g", "-w", "-I", REAL] + WITHOUT_ANCHORS[compiler.name])
+    own = compiler._replace(options=compiler.options + ["-g", "-w", "-I", programs.SOURCES] + WITHOUT_ANCHORS[compiler.name])
     objects = [programs.compiled(own, level, name, folder) for name in programs.LIBRARY[own.processor]]
     for path in paths:
         objects.append(os.path.join(folder, os.path.basename(path) + ".o"))
-        programs.must(own.command + own.options + [level, "-c", path, "-o", objects[-1]])
+        compilers.must(own.command + own.options + [level, "-c", path, "-o", objects[-1]])
     return objects
 
 
@@ -51,7 +53,7 @@ def cases(folder):
     """Of each program its name, its sources and its input."""
     for program in PROGRAMS:
         yield program.name, [programs.source(name) for name in program.files], program.input
-    yield STATES.name, [os.path.join(HERE, "programs", "states.c")], STATES.input
+    yield STATES.name, [programs.STATES_SOURCE], STATES.input
     yield "larger", written(folder, list(Grammar(1, 160).sources())), INPUT
 
 
@@ -59,7 +61,7 @@ def row(tool, form, objects, given):
     """The cells of a program, or none where it computes no transfer."""
     plain = checked(Linked(tool, objects, objects[-1], form))
     policy = objects[-1] + ".policy"
-    told = programs.must([python_with_elftools(), TOOL, *objects, policy]).decode()
+    told = compilers.must([python_with_elftools(), TOOL, *objects, policy]).decode()
     typed = checked(Linked(tool, objects, objects[-1], form, policy))
     sites = [made.classes()[1] for made in (plain, typed)]
     if not sites[0]:
@@ -75,20 +77,17 @@ def row(tool, form, objects, given):
 
 
 def main():
-    words = argparse.ArgumentParser(description=__doc__, formatter_class=argparse.RawDescriptionHelpFormatter)
-    words.add_argument("--program", default=programs.PROGRAM)
+    words = Words(__doc__)
     words.add_argument("--levels", default="-O2", help="with =, as --levels=-O2,-Os")
-    words.add_argument("--form", default="plain", choices=programs.FORMS)
+    words.add_argument("--form", default="plain", choices=FORMS)
     options = words.parse_args()
-    if not os.access(options.program, os.X_OK):
-        sys.exit("%s is not there: cd crates/rvcfi && rt run -- verify data/a.img data/a.graph" % options.program)
     print("| %s |\n|%s" % (" | ".join(HEAD), "---|" * len(HEAD)))
     with tempfile.TemporaryDirectory() as folder:
-        for number, (compiler, level) in enumerate((each, level) for each in compilers() for level in options.levels.split(",")):
+        for number, (compiler, level) in enumerate((each, level) for each in programs.compilers_here(ABSENT) for level in options.levels.split(",")):
             own = os.path.join(folder, str(number))
             os.mkdir(own)
             for name, paths, given in cases(own):
-                cells = row(os.path.abspath(options.program), options.form, compiled(compiler, level, own, paths), given)
+                cells = row(options.program, options.form, compiled(compiler, level, own, paths), given)
                 if cells:
                     print("| %s |" % " | ".join([name, "%s %s" % (compiler.name, level)] + cells), flush=True)
 

@@ -12,9 +12,13 @@ import shutil
 import subprocess
 import sys
 import tempfile
+from pathlib import Path
 
-from families import GCC, compiled
-from verify import OBJDUMP, best_time, found, peak_memory
+sys.dont_write_bytecode = True
+sys.path.insert(0, str(Path(__file__).resolve().parents[1]))
+
+from bench.verify import OBJDUMP, best_time, found, peak_memory
+from tests.shared.families import GCC, compiled
 
 LD = "riscv64-linux-gnu-ld"
 FUNCTIONS = "58,235,950"  # objects of about 64, 256 and 1,024 KiB

@@ -7,7 +7,6 @@ then runs of one hart and of eight beside an image of version 1, and the memory 
 README.md beside this file says what is measured and how the program is built.
 """
 
-import argparse
 import hashlib
 import os
 import random
@@ -17,20 +16,22 @@ import subprocess
 import sys
 import tempfile
 import time
+from pathlib import Path
 from typing import Callable, NamedTuple
 
 sys.dont_write_bytecode = True
+sys.path.insert(0, str(Path(__file__).resolve().parents[1]))
+
+from bench.verify import peak_memory
+from tests.model.program import Program
+from tests.shared import programs
+from tests.shared.command import Words
+from tests.shared.instructions import ECALL, addi, branch, i_form, jal, r_form, s_form, u_form
+from tests.shared.units import CODE, OPENING, PAGE, UNITS, image_file, prologue
+from tools.simulator.machine import quotient, signed
+from tools.sysroot import compilers
+
 HERE = os.path.dirname(os.path.abspath(__file__))
-TESTS = os.path.join(HERE, "..", "tests")
-REAL = os.path.join(TESTS, "real")
-sys.path[:0] = [REAL, os.path.join(TESTS, "harts")]
-
-import programs
-from images import CODE, OPENING, PAGE, UNITS, addi, branch, i_form, image_file, jal, prologue, r_form, s_form, u_form
-from program import ECALL, Program
-from verify import peak_memory
-
-PROGRAM = os.path.join(HERE, "..", "crates", "rvcfi", "out", "rvcfi")
 MANY, FEW = u_form(0x37, 5, 0x10000), addi(5, 0, 100)  # the loop's count, put into x5
 USAGE, LIMIT = 2, 12  # statuses of rvcfi
 MOST_STEPS = 1000000000
@@ -86,19 +87,8 @@ def unpacked(packed):
     return bytes(plain)
 
 
-def quotient(a, b):
-    """The quotient, rounded towards 0."""
-    return abs(a) // abs(b) * (1 if (a < 0) == (b < 0) else -1)
-
-
 def remainder(a, b):
     return a - quotient(a, b) * b
-
-
-def signed(value, bits):
-    """The low bits as a number with a sign."""
-    value %= 1 << bits
-    return value - (value >> bits - 1 << bits)
 
 
 def powers():
@@ -126,24 +116,24 @@ COMPILED = [
 
 def loop(count):
     """An image that counts x5 down to 0 and then exits with 7, and its graph."""
-    again = UNITS + 4
-    words = prologue(UNITS) + [count, addi(5, 5, -1), branch(0, 5, 0, 8), jal(0, again + 8, again)]
-    words += [addi(10, 0, 7), addi(17, 0, 93), 0x00000073, jal(0, UNITS + 28, CODE)]
+    again = UNITS[1] + 4
+    words = prologue(UNITS[1]) + [count, addi(5, 5, -1), branch(0, 5, 0, 8), jal(0, again + 8, again)]
+    words += [addi(10, 0, 7), addi(17, 0, 93), ECALL, jal(0, UNITS[1] + 28, CODE)]
     code = struct.pack("<%dI" % len(words), *words)
-    lines = ["rvcfi-graph 1", "code %08x %08x" % (CODE, len(code)), "call %08x %08x" % (OPENING, UNITS),
+    lines = ["rvcfi-graph 1", "code %08x %08x" % (CODE, len(code)), "call %08x %08x" % (OPENING, UNITS[1]),
              "edge %08x %08x" % (again + 4, again), "end", ""]
     return image_file(code, b""), "\n".join(lines).encode()
 
 
 def toucher(pages):
     """An image that stores a byte into each of at most 2,047 pages of data and then exits with 7, and its graph."""
-    again = UNITS + 12
-    words = prologue(UNITS) + [u_form(0x37, 5, 0x100), u_form(0x37, 7, 1), addi(6, 0, pages)]
+    again = UNITS[1] + 12
+    words = prologue(UNITS[1]) + [u_form(0x37, 5, 0x100), u_form(0x37, 7, 1), addi(6, 0, pages)]
     words += [addi(31, 5, 0), i_form(0x13, 1, 31, 31, 36), i_form(0x13, 5, 31, 31, 36), s_form(0, 31, 6, 0)]
     words += [r_form(0x33, 0, 0, 5, 5, 7), addi(6, 6, -1), branch(0, 6, 0, 8), jal(0, again + 28, again)]
-    words += [addi(10, 0, 7), addi(17, 0, 93), 0x00000073, jal(0, UNITS + 56, CODE)]
+    words += [addi(10, 0, 7), addi(17, 0, 93), ECALL, jal(0, UNITS[1] + 56, CODE)]
     code = struct.pack("<%dI" % len(words), *words)
-    lines = ["rvcfi-graph 1", "code %08x %08x" % (CODE, len(code)), "call %08x %08x" % (OPENING, UNITS),
+    lines = ["rvcfi-graph 1", "code %08x %08x" % (CODE, len(code)), "call %08x %08x" % (OPENING, UNITS[1]),
              "edge %08x %08x" % (again + 24, again), "end", ""]
     return image_file(code, b""), "\n".join(lines).encode()
 
@@ -205,9 +195,9 @@ def hardened(tool, compiler, program, folder):
     objects = [programs.compiled(compiler, LEVEL, name, folder) for name in programs.LIBRARY[compiler.processor] + program.files]
     own = os.path.join(folder, program.name + ".o")
     source = os.path.join(HERE, "programs", program.name + ".c")
-    programs.must(compiler.command + compiler.options + [LEVEL, "-I", REAL, "-c", source, "-o", own])
+    compilers.must(compiler.command + compiler.options + [LEVEL, "-I", programs.SOURCES, "-c", source, "-o", own])
     joined = os.path.join(folder, program.name + "_joined.o")
-    programs.must(compiler.join + ["-o", joined, own] + objects)
+    compilers.must(compiler.join + ["-o", joined, own] + objects)
     made = programs.Hardened(tool, joined)
     if made.told[0] or made.verified() != (0, b"accepted\n"):
         sys.exit("%s: %s" % (program.name, made.told[1].decode()))
@@ -274,8 +264,8 @@ class Pair:
 def compiled_cases(tool, folder):
     """The cases of the compiled programs, each with the test of what it puts."""
     try:
-        compiler = programs.gcc()
-    except programs.Missing as what:
+        compiler = compilers.gcc()
+    except compilers.Missing as what:
         print("not measured, since there is no %s: the compiled programs" % what)
         return []
     cases = []
@@ -335,16 +325,13 @@ def print_row(case, steps, least):
 
 
 def main():
-    parser = argparse.ArgumentParser(description="Times rvcfi run.")
-    parser.add_argument("--program", default=PROGRAM, help="the rvcfi that is timed")
+    parser = Words(__doc__)
     parser.add_argument("--steps", type=int, default=5000000, help="of the loop; at most 800000000, where it still goes on")
     parser.add_argument("--runs", type=int, default=5)
     options = parser.parse_args()
     if not 0 < options.steps <= 800000000 or options.runs < 1:
         parser.error("--steps is from 1 to 800000000, --runs at least 1")
-    if not os.path.exists(options.program):
-        sys.exit("%s is not there. %s" % (options.program, how_to_build()))
-    tool = os.path.abspath(options.program)
+    tool = options.program
     with tempfile.TemporaryDirectory() as folder:
         pair = Pair(tool, build_interpreter(folder))
         # 10 steps of the opening, 1 for the count, 2 or 3 for each turn of the loop, 3 to the exit

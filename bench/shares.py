@@ -6,27 +6,26 @@
 README.md beside this file says what is measured and what it needs.
 """
 
-import argparse
 import os
 import sys
 import tempfile
 from collections import Counter
+from pathlib import Path
 
 sys.dont_write_bytecode = True
-HERE = os.path.dirname(os.path.abspath(__file__))
-sys.path[:0] = [os.path.join(HERE, "..", "tests", "real"), os.path.join(HERE, "..", "tools")]
+sys.path.insert(0, str(Path(__file__).resolve().parents[1]))
 
-import larger
-import programs
-from explain import units
-from explain.texts import LEAN_ONE, ONE, image_code
-from overhead import compilers
-from program_forms import is_lean
-from programs import LEVELS, PROGRAMS, Hardened, Linked
+from bench import larger
+from tests.shared import programs
+from tests.shared.command import Words
+from tests.shared.forms import is_lean
+from tests.shared.programs import LEVELS, PROGRAMS, Hardened, Linked
+from tools.explain import units
+from tools.explain.texts import LEAN_ONE, ONE, image_code
 
 PARTS = "masks", "calls", "returns", "checks", "before units", "rest"
 IDLE, CODE = 0x00000013, 0x40000000
-RETURN, LONG_BRANCH = 4, 1  # words that a return and a long branch have more than the program's own
+RETURN = 4  # words that a return has more than the program's own
 
 
 def part_of(unit, after, word):
@@ -75,7 +74,7 @@ def checked(made):
 def of_builds(tool, levels, forms, folder):
     """By processor and form what each hundred steps and bytes of the builds become, in the mean."""
     rows = {}
-    for compiler in compilers():
+    for compiler in programs.compilers_here("not measured, since there is no %s: %s", programs.PROCESSORS):
         for level in levels:
             for program in PROGRAMS:
                 plain = programs.linked(programs.joined(compiler, level, program, folder))
@@ -101,14 +100,11 @@ def of_larger(tool, forms, folder):
 
 
 def main():
-    words = argparse.ArgumentParser(description=__doc__, formatter_class=argparse.RawDescriptionHelpFormatter)
-    words.add_argument("--program", default=programs.PROGRAM)
+    words = Words(__doc__)
     words.add_argument("--levels", default=",".join(LEVELS), help="with =, as --levels=-O2,-Os")
     words.add_argument("--forms", default="plain,lean", help="of one hart, as --forms=plain,split")
     options = words.parse_args()
-    if not os.access(options.program, os.X_OK):
-        sys.exit("%s is not there: cd crates/rvcfi && rt run -- verify data/a.img data/a.graph" % options.program)
-    tool, forms = os.path.abspath(options.program), options.forms.split(",")
+    tool, forms = options.program, options.forms.split(",")
     with tempfile.TemporaryDirectory() as folder:
         found = {**of_builds(tool, options.levels.split(","), forms, folder), **of_larger(tool, forms, folder)}
     print("| added to each hundred | %s |" % " | ".join(PARTS))

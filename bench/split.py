@@ -7,22 +7,21 @@ computed jump may reach, at most and in the mean, and the bytes of code and the 
 README.md beside this file says what is measured and what it needs.
 """
 
-import argparse
 import os
 import sys
 import tempfile
+from pathlib import Path
 
 sys.dont_write_bytecode = True
-HERE = os.path.dirname(os.path.abspath(__file__))
-REAL = os.path.join(HERE, "..", "tests", "real")
-sys.path.insert(0, REAL)
+sys.path.insert(0, str(Path(__file__).resolve().parents[1]))
 
-import programs
-from programs import PROGRAMS, Hardened, Missing, Program
+from tests.shared import programs
+from tests.shared.command import Words
+from tests.shared.programs import PROGRAMS, STATES, Hardened, states_object
 
 FORMS = "plain", "split"
+ABSENT = "not measured, since there is no %s: %s"
 HEAD = ["program", "by", "calls", "at most", "in the mean", "jumps", "at most", "in the mean", "code", "steps"]
-STATES = Program("states", [], b"The 12 states, of 3 (or 4) tables: 'go' on & on! -- 100% + 7 * 8 # \"end\".\n" * 40)
 
 
 class Given(Hardened):
@@ -31,15 +30,6 @@ class Given(Hardened):
     def __init__(self, tool, path, entry, form):
         self.entry = entry
         super().__init__(tool, path, form)
-
-
-def states_object(compiler, level, folder):
-    """Compiles the program of this folder, joins it with the library and answers the object's path."""
-    own, joined = (os.path.join(folder, "%s%s_states%s" % (compiler.name, level, end)) for end in (".o", "_joined.o"))
-    programs.must(compiler.command + compiler.options + [level, "-I", REAL, "-c", os.path.join(HERE, "programs", "states.c"), "-o", own])
-    library = [programs.compiled(compiler, level, name, folder) for name in programs.LIBRARY[compiler.processor]]
-    programs.must(compiler.join + ["-o", joined, own] + library)
-    return joined
 
 
 def reach(sites, wanted):
@@ -81,18 +71,8 @@ def row(name, by, pair, given=None):
     return cells + ["%d / %d" % (first, second)]
 
 
-def compilers():
-    found = []
-    for compiler in (programs.gcc, programs.clang):
-        try:
-            found.append(compiler())
-        except Missing as what:
-            print("not measured, since there is no %s: %s" % (what, compiler.__name__))
-    return found
-
-
 def rows(tool, levels, folder):
-    for compiler in compilers():
+    for compiler in programs.compilers_here(ABSENT):
         for level in levels:
             for program in PROGRAMS + [STATES]:
                 is_own = program is STATES
@@ -111,14 +91,11 @@ def given_rows(tool, objects, folder):
 
 
 def main():
-    words = argparse.ArgumentParser(description=__doc__, formatter_class=argparse.RawDescriptionHelpFormatter)
-    words.add_argument("--program", default=programs.PROGRAM)
+    words = Words(__doc__)
     words.add_argument("--levels", default="-O1,-O2,-Os", help="with =, as --levels=-O2,-Os")
     words.add_argument("--object", nargs=2, action="append", default=[], metavar=("PATH", "ENTRY"), help="one more object, not run")
     options = words.parse_args()
-    if not os.access(options.program, os.X_OK):
-        sys.exit("%s is not there: cd crates/rvcfi && rt run -- verify data/a.img data/a.graph" % options.program)
-    tool = os.path.abspath(options.program)
+    tool = options.program
     print("| %s |" % " | ".join(HEAD))
     print("|%s" % ("---|" * len(HEAD)))
     with tempfile.TemporaryDirectory() as folder:

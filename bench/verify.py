@@ -16,11 +16,14 @@ import subprocess
 import sys
 import tempfile
 import time
+from pathlib import Path
 
 sys.dont_write_bytecode = True
+sys.path.insert(0, str(Path(__file__).resolve().parents[1]))
 
-from images import PAGE, pair
-from lean_images import lean_pair
+from bench.images import pair
+from bench.lean_images import lean_pair
+from tests.shared.units import PAGE
 
 HERE = os.path.dirname(os.path.abspath(__file__))
 CRATE = os.path.join(HERE, "..", "crates", "rvcfi")

@@ -19,16 +19,14 @@ import tempfile
 from pathlib import Path
 
 sys.dont_write_bytecode = True
+sys.path.insert(0, str(Path(__file__).resolve().parents[1]))
+
+from bench import images
+from library.tests import compare, loading, running
+from library.tests.checks import Told, ended
+from library.tests.made import is_the_tutorials
+
 HERE = Path(__file__).resolve().parent
-sys.path[:0] = [str(HERE / "tests")]
-
-import compare
-import images
-import loading
-import running
-from made import is_the_tutorials
-from checks import Told, ended
-
 LIB, OUT, TESTS = HERE / "lib", HERE / "out", HERE / "tests"
 PAIRS = TESTS / "pairs"
 VISITORS, PLUGIN, LEAF = ([str(PAIRS / (name + end)) for end in (".img", ".graph")] for name in ("visitors", "plugin", "leaf"))

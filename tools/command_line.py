@@ -3,11 +3,6 @@
 import difflib
 import os
 import re
-import sys
-
-sys.path.append(os.path.join(os.path.dirname(os.path.abspath(__file__)), "..", "tests", "shared"))
-
-from program_forms import FORMS
 
 COMMANDS = os.path.join(os.path.dirname(os.path.abspath(__file__)), "..", "docs", "COMMANDS.md")
 HELP, VERSION = ("-h", "--help"), ("-V", "--version")
@@ -17,11 +12,20 @@ RIGHT = "The words are right:"
 NUMBERS, MOST = ["STEPS", "NUMBER"], 1_000_000_000
 
 
+def page():
+    with open(COMMANDS, encoding="utf-8") as file:
+        return file.read()
+
+
 def commands():
     """The names of each command's words, from the page's first lines."""
-    with open(COMMANDS, encoding="utf-8") as file:
-        lines = [line.split() for line in file if line.startswith("    rvcfi ")]
+    lines = [line.split() for line in page().split("\n") if line.startswith("    rvcfi ")]
     return {words[1]: words[2:] for words in lines}
+
+
+def forms():
+    """The words that may be FORM, from the page's list of them."""
+    return re.findall("^- `(.*?)`: ", page().partition("\n## `harden`\n")[2].partition("\n## ")[0], re.M)
 
 
 def main(words):
@@ -92,9 +96,9 @@ def miscounted(name, names, given):
 
 def misspelled(name, values):
     """A word that is there and is not what it should be."""
-    form, written = values.get("FORM", FORMS[0]), [values[each] for each in WRITTEN if each in values]
-    if form not in FORMS:
-        return "`%s` is no FORM: there are %s." % (form, ", ".join(FORMS))
+    form, written = values.get("FORM"), [values[each] for each in WRITTEN if each in values]
+    if form is not None and form not in forms():
+        return "`%s` is no FORM: there are %s." % (form, ", ".join(forms()))
     if name in WRITERS and len(set(written)) < len(written):
         return "Two of IMAGE, GRAPH and MAP are equal: %s. Each is a file of its own." % " ".join("`%s`" % each for each in written)
     for each in NUMBERS:

@@ -5,7 +5,7 @@
     qemu-riscv64 -one-insn-per-tb -d nochain,exec -D record program.qemu < FILE
     python3 tools/profile.py program.img program.map FILE.o .. --record record
 
-The first runs the image by the machine of tests/harts, which is slow, and tells how it ended, in a handler also what was refused: the
+The first runs the image by the machine of `simulator`, which is slow, and tells how it ended, in a handler also what was refused: the
 number of a system call, or the address of a return, a call or a jump. The others count a record of qemu's (`-singlestep` before
 version 8), or one with an address a line. The objects stand in the order in which they were linked. The columns (docs/MACHINE.md has the
 units):
@@ -32,12 +32,11 @@ from pathlib import Path
 from types import SimpleNamespace
 
 sys.dont_write_bytecode = True
-sys.path.append(str(Path(__file__).resolve().parents[1] / "tests" / "harts"))
 
 from explain import units
 from explain.files import ended, image_of, map_of, objects_of
 from explain.texts import Wrong, image_code
-from runs import Refused, Run, Script, script_of, stop_words
+from simulator.runs import Refused, Run, Script, script_of, stop_words
 
 CODE_END = 0x40100000
 COLUMNS = ["program", "masks", "calls", "returns", "checks", "gates", "branches", "lists", "rest"]
@@ -113,7 +112,7 @@ def record_of(path):
 
 
 def run_of(options, image, words, placed):
-    """A run of the image by the model's machine."""
+    """A run of the image."""
     start, filed = (struct.unpack_from("<Q", image, at)[0] for at in (72, 96))
     built = SimpleNamespace(version=placed.prologue.version, code=struct.pack("<%dI" % len(words), *words),
                             data=image[start:start + filed], starts=())

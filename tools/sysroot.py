@@ -23,7 +23,8 @@ import sys
 
 sys.dont_write_bytecode = True
 
-from sysroot.build import built, programs
+from sysroot.build import built
+from sysroot.compilers import Missing
 from sysroot.debian import Absent
 
 
@@ -38,7 +39,7 @@ def main():
         words.error("%s is there already" % options.folder)
     try:
         print(built(options.folder, options.compiler, options.heap, options.sources))
-    except (Absent, programs.Missing, RuntimeError) as what:
+    except (Absent, Missing, RuntimeError) as what:
         shutil.rmtree(options.folder, ignore_errors=True)
         sys.exit("sysroot.py: %s" % what)
 

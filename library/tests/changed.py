@@ -3,14 +3,11 @@ changed."""
 
 import random
 import struct
-import sys
 from pathlib import Path
 
-sys.path[:0] = [str(Path(__file__).resolve().parents[2] / name) for name in ("bench", "tests/harts")]
-
-import images
-import worked
-from lean_images import lean_pair
+from bench import images
+from bench.lean_images import lean_pair
+from tests.model import worked
 
 PAGE, HEADERS, CODE = 0x1000, 232, 0x40000000
 MOST_CODE = 1 << 18  # words of code at most

@@ -18,13 +18,13 @@ from collections import Counter
 from pathlib import Path
 
 sys.dont_write_bytecode = True
+sys.path.insert(0, str(Path(__file__).resolve().parents[2]))
+
+from library.tests.changed import drawn
+from tests.model.file_faults import PAGE, SHADOW_SIZE, field, image_fault
+from tests.model.lean_rules import told
+
 HERE = Path(__file__).resolve().parent
-sys.path[:0] = [str(HERE), *(str(HERE.parents[1] / "tests" / name) for name in ("model", "harts", "objects"))]
-
-from changed import drawn
-from expected import PAGE, SHADOW_SIZE, field, image_fault
-from lean_rules import told
-
 ASK = [str(HERE.parent / "out" / "ask")]
 PROGRAM = HERE.parents[1] / "crates" / "rvcfi" / "out" / "rvcfi"
 SECONDS = 60

@@ -2,20 +2,18 @@
 
 import random
 import re
-import sys
 from pathlib import Path
 
+from docs.tutorial import hostile
+from library.tests.changed import recorded
+from library.tests.checks import ended
+from tests.model import drawn
+from tests.model.program import Program
+from tests.real import attack
+from tests.shared.instructions import addi, i_form, u_form
+from tools.simulator.runs import answer
+
 REPOSITORY = Path(__file__).resolve().parents[2]
-sys.path[:0] = [str(REPOSITORY / name) for name in ("tests/harts", "tests/real", "docs/tutorial")]
-
-import attack
-import drawn
-import hostile
-from changed import recorded
-from program import ECALL, Program, addi, i_form, u_form
-from runs import answer
-from checks import ended
-
 CALLS = "63,64,93"
 EVENING = b"n\3Anng\1m\5helloo\6wisdom"
 GREETED = b"hi Ann\nmessage 532\n"
@@ -119,7 +117,7 @@ def of_loads(loader):
 
 
 def of_drawn_programs(loader, count, seed):
-    """Programs for one hart and for several, of which hart 0 runs, against the model of tests/harts."""
+    """Programs for one hart and for several, of which hart 0 runs, against the model of tests/model."""
     rng, left, wrong = random.Random(seed), count, []
     while left:
         built = drawn.program(rng, rng.choice((1, 2)), rng.choice((1, 2)))

@@ -1,20 +1,18 @@
-"""Whether the recorded pairs are those of docs/TUTORIAL.md, made anew by the model of tests/harts from the objects of its section 1; and whether
+"""Whether the recorded pairs are those of docs/TUTORIAL.md, made anew by the model of tests/model from the objects of its section 1; and whether
 the lean one is that of the model of tests/model."""
 
 import shutil
-import sys
 from pathlib import Path
 
+from library.tests.changed import recorded
+from library.tests.checks import ended
+from tests.model.hardener import Hardening, Source
+from tests.model.joiner import Joined
+from tests.model.lean_hardener import LeanHardening
+from tests.model.small_objects import H
+from tests.shared.texts import policy_text
+
 REPOSITORY = Path(__file__).resolve().parents[2]
-sys.path[:0] = [str(REPOSITORY / "tests" / name) for name in ("model", "harts", "objects")]
-
-from changed import recorded
-from hardener import Hardening, Source, policy_text
-from joiner import Joined
-from lean_hardener import LeanHardening
-from make_vectors import H
-from checks import ended
-
 GCC, VERSION = "riscv64-linux-gnu-gcc", "12.2.0"
 FILES = ["door.c", "memory.c", "start.s", "text.c", "visitors.c"]
 OPTIONS = ["-O2", "-march=rv64im", "-mabi=lp64", "-mcmodel=medlow", "-ffixed-t5", "-ffixed-t6", "-fno-pic", "-ffreestanding"]

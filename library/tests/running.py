@@ -2,19 +2,17 @@
 
 import random
 import re
-import sys
 from pathlib import Path
 
-REPOSITORY = Path(__file__).resolve().parents[2]
-sys.path[:0] = [str(REPOSITORY / name) for name in ("tests/harts", "tests/real")]
+from library.tests.changed import recorded
+from library.tests.checks import ended
+from library.tests.loading import DOOR, EVENING, GREETED
+from tests.model import drawn
+from tests.model.program import Program
+from tests.real import attack
+from tools.simulator.runs import answer
 
-import attack
-import drawn
-from changed import recorded
-from loading import DOOR, EVENING, GREETED
-from program import Program
-from runs import answer
-from checks import ended
+REPOSITORY = Path(__file__).resolve().parents[2]
 
 
 class Runner:
@@ -60,7 +58,7 @@ def of_a_small_stack(runner):
 
 
 def modelled(built, given, limit):
-    """The status and the report of a run, by the model of tests/harts, without the numbers of harts."""
+    """The status and the report of a run, by the model of tests/model, without the numbers of harts."""
     status, told = answer(built, None, given, limit)
     length, rest = int(told.split(b"\n")[0].split()[1]), told.split(b"\n", 1)[1]
     stop = re.search(rb"^stop (?:hart \d+ )?(.*)\n", rest[length:], re.M).group(1)
@@ -83,7 +81,7 @@ def of_depth(runner):
 
 
 def of_drawn_programs(runner, count, seed):
-    """Programs for one hart and for several, of which hart 0 runs, against the model of tests/harts."""
+    """Programs for one hart and for several, of which hart 0 runs, against the model of tests/model."""
     rng, wrong = random.Random(seed), []
     for k in range(count):
         built = drawn.program(rng, rng.choice((1, 2)), rng.choice((1, 2)))

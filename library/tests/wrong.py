@@ -13,7 +13,6 @@ import sys
 import tempfile
 from pathlib import Path
 
-sys.dont_write_bytecode = True
 REPOSITORY = Path(__file__).resolve().parents[2]
 COPIED = ["library", "tests", "docs", "bench", "tools"]
 HEAP, ARENA, HEADER, RUN = "c/heap.c", "c/arena.c", "include/rvcfi.h", "include/rvcfi_run.h"

@@ -8,8 +8,12 @@ print of its sections and symbols, and of each function's instructions and reloc
 import re
 import subprocess
 import sys
+from pathlib import Path
 
-import object_of
+sys.dont_write_bytecode = True
+sys.path.insert(0, str(Path(__file__).resolve().parents[2]))
+
+from tests.demo import object_of
 
 KINDS = {26: "R_RISCV_HI20", 27: "R_RISCV_LO12_I", 19: "R_RISCV_CALL_PLT", 51: "R_RISCV_RELAX", 2: "R_RISCV_64"}
 SECTIONS = [

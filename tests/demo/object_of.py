@@ -1,13 +1,19 @@
 #!/usr/bin/env python3
 """The object that `demo` makes of a number, written a second time, from the rules alone.
 
-    object_of.py NUMBER          writes the object's bytes to standard output
-    object_of.py --sums NUMBER..  prints for each number its object's length and the FNV-1a hash (64 bits) of its bytes
-    object_of.py --rows NUMBER COUNT  prints the words of the first COUNT functions, and their relocations and symbols
+    python3 tests/demo/object_of.py [--check]
+
+prints the rows of crates/test_tool/src/sums.rt: of some numbers their objects' lengths, and the FNV-1a hashes (64 bits) of their bytes.
 """
 
 import struct
 import sys
+from pathlib import Path
+
+sys.dont_write_bytecode = True
+sys.path.insert(0, str(Path(__file__).resolve().parents[2]))
+
+from tests.shared import tables
 
 FUNCTIONS = 2000
 BLOCK = 50
@@ -148,31 +154,13 @@ def object_of(number):
     return header + file[64:] + headers
 
 
-def fnv(data):
-    """FNV-1a with 64 bits."""
-    value = 0xCBF29CE484222325
-    for byte in data:
-        value = (value ^ byte) * 0x100000001B3 % 2**64
-    return value
+def sums():
+    rows = ((number, object_of(number)) for number in (0, 1, 12345, 1000000000))
+    found = ["    (%d, %d, 0x%016x)," % (number, len(data), tables.fnv(data)) for number, data in rows]
+    return "static SUMS: [(u32, usize, u64); %d] = [\n%s\n];\n" % (len(found), "\n".join(found))
 
 
-def print_rows(number, count):
-    words, relocations, names = program(number)
-    end = names[count][1] + names[count][2]
-    print("words", " ".join("%08x" % word for word in words[: end // 4]))
-    for relocation in relocations:
-        if relocation[0] < end:
-            print("relocation offset %d kind %d symbol %d addend %d" % relocation)
-    for name in names[: count + 1]:
-        print("symbol %s value %d size %d" % name)
-
+TABLES = {"sums": ("test_tool/src/sums.rt", sums)}
 
 if __name__ == "__main__":
-    if sys.argv[1] == "--sums":
-        for number in sys.argv[2:]:
-            data = object_of(int(number))
-            print("%s %d %016x" % (number, len(data), fnv(data)))
-    elif sys.argv[1] == "--rows":
-        print_rows(int(sys.argv[2]), int(sys.argv[3]))
-    else:
-        sys.stdout.buffer.write(object_of(int(sys.argv[1])))
+    sys.exit(tables.main(__doc__, TABLES))

@@ -4,8 +4,8 @@ import collections
 import os
 import random
 
-import samples
-from answers import wrong
+from tests.fuzz import samples
+from tests.fuzz.answers import wrong
 
 KIB = 1 << 10
 USUAL, MACHINE = 176 * KIB, 320 * KIB  # bytes of a call without its files, and of a machine's table of pages and the first of them

@@ -2,10 +2,10 @@
 
 from typing import List, NamedTuple
 
-import samples
-from asked import COMMANDS
-from program_forms import most_steps
-from turns import IMAGE, OBJECT, TEXT, turned
+from tests.fuzz import samples
+from tests.fuzz.asked import COMMANDS
+from tests.fuzz.turns import IMAGE, OBJECT, TEXT, turned
+from tests.shared.forms import most_steps
 
 STEPS = [b"0", b"1", b"10", b"100", b"1000", b"3000", b"20000"]
 WORDS = [b"", b"-", b"--", b"-x", b"none", b"absent", b"folder", b"0", b"1000000001", b"01", b"+1", b"-1", b" 1", b"9" * 40, b"\xff",

@@ -1,25 +1,21 @@
 """What is turned: objects, and the images, graphs and maps that the program makes of them, with policies and scripts.
 
-The objects are those of tests/objects, those of bench/families.py that do not name the same bytes as two sections, and, where
+The objects are those of tests/objects, those of tests/shared/families.py that do not name the same bytes as two sections, and, where
 compilers are there, the programs of tests/real. They are hardened in the program's forms in turn, in each form every other one under a list
-of system calls. Images for several harts are also those that tests/harts draws, each beside an object that is not its own.
+of system calls. Images for several harts are also those that tests/model/drawn.py draws, each beside an object that is not its own.
 """
 
 import os
 import random
 import struct
-import sys
+from pathlib import Path
 from typing import NamedTuple, Optional
 
-sys.dont_write_bytecode = True
-HERE = os.path.dirname(os.path.abspath(__file__))
-sys.path[:0] = [os.path.join(HERE, "..", name) for name in ("real", "harts", "shared", os.path.join("..", "bench"))]
-
-import drawn
-import families
-import programs
-from program_forms import FORMS as TEXTS
-from turns import SYMTAB, sections
+from tests.fuzz.turns import SYMTAB, sections
+from tests.model import drawn
+from tests.shared import families, programs
+from tests.shared.forms import FORMS as TEXTS
+from tests.shared.paths import ROOT
 
 LEVELS = ["-O0", "-O2"]
 SIZES = 3000, 50000  # bytes of an object of a family
@@ -116,29 +112,15 @@ def script_of(draw):
 
 def of_compilers(folder):
     """The programs of tests/real by each compiler that is there: names and bytes."""
-    found = {}
-    for compiler in (programs.gcc, programs.clang):
-        try:
-            found.update(compiled(compiler(), folder))
-        except programs.Missing as what:
-            print("without the programs of %s, since there is no %s" % (compiler.__name__, what))
-    return found
-
-
-def compiled(compiler, folder):
-    paths = [programs.joined(compiler, level, program, folder) for level in LEVELS for program in programs.PROGRAMS]
-    return {os.path.basename(path): read(path) for path in paths}
-
-
-def read(path):
-    with open(path, "rb") as file:
-        return file.read()
+    here = programs.compilers_here("without its programs, since there is no %s: %s")
+    paths = [programs.joined(each, level, program, folder) for each in here for level in LEVELS for program in programs.PROGRAMS]
+    return {os.path.basename(path): Path(path).read_bytes() for path in paths}
 
 
 def objects(folder):
     """All objects: names and bytes."""
-    stored = os.path.join(HERE, "..", "objects")
-    found = {name: read(os.path.join(stored, name)) for name in sorted(os.listdir(stored)) if name.endswith(".o")}
+    stored = str(ROOT / "tests" / "objects")
+    found = {name: Path(os.path.join(stored, name)).read_bytes() for name in sorted(os.listdir(stored)) if name.endswith(".o")}
     found.update({"%s_%d" % (family.__name__, size): family(size) for family in families.FAMILIES for size in SIZES})
     return {**found, **of_compilers(folder)}
 
@@ -171,7 +153,7 @@ def sample(name, content, form, policy, program, folder):
     for entry in names:
         words = [b"rewrite"] if form == b"plain" else [b"harden", form]
         if program.call(words + [path, entry, policy] + made, folder).status == 0:
-            image, graph, map_file = (read(path) for path in made)
+            image, graph, map_file = (Path(path).read_bytes() for path in made)
             return Sample(name, content, entry, image, graph, map_file, policy_of(content, graph, map_file), form)
     return Sample(name, content, names[0], None, None, None, None, form)
 

@@ -29,22 +29,21 @@ What fails is left in a folder with its files and command line. It needs Python 
 and the program; with the compilers of tests/real/run.py there are more objects. The status is 1 where a case failed.
 """
 
-import argparse
 import os
 import random
 import shlex
 import sys
 import tempfile
 import time
+from pathlib import Path
 
 sys.dont_write_bytecode = True
+sys.path.insert(0, str(Path(__file__).resolve().parents[2]))
 
-import calls
-import samples
-from asked import KIB, Case, Failed, Figures
-from cases import turned_case
-
-PROGRAM = samples.programs.PROGRAM
+from tests.fuzz import calls, samples
+from tests.fuzz.asked import KIB, Case, Failed, Figures
+from tests.fuzz.cases import turned_case
+from tests.shared.command import Words
 
 
 def told(case, why):
@@ -92,16 +91,13 @@ def numbers(options):
 
 
 def main():
-    words = argparse.ArgumentParser(description=__doc__, formatter_class=argparse.RawDescriptionHelpFormatter)
-    words.add_argument("--program", default=PROGRAM)
+    words = Words(__doc__)
     words.add_argument("--minutes", type=float, default=1)
     words.add_argument("--seed", default=str(random.SystemRandom().randrange(10 ** 9)))
     words.add_argument("--case", type=int)
     words.add_argument("--keep", metavar="FOLDER", help="where failed cases are left; a new folder for temporary files without it")
     options = words.parse_args()
-    if not os.access(options.program, os.X_OK):
-        sys.exit("%s is not there: cd crates/rvcfi && rt run -- verify data/a.img data/a.graph" % options.program)
-    program, figures = calls.Program(os.path.abspath(options.program)), Figures()
+    program, figures = calls.Program(options.program), Figures()
     print("seed %s" % options.seed, flush=True)
     with tempfile.TemporaryDirectory() as folder, tempfile.TemporaryDirectory() as scratch:
         kept = options.keep or os.path.join(tempfile.gettempdir(), "rvcfi-fuzz-%s" % options.seed)

@@ -5,14 +5,14 @@ Each turn takes a source of random numbers and the bytes, and answers other byte
 
 import struct
 
-from program_forms import MODELLED
+from tests.shared.forms import FORMS
 
 LIMITS = [0, 1, 2, 3, 4, 7, 8, 15, 16, 24, 63, 64, 0x7F, 0x80, 0xFF, 0x100, 0xFFF, 0x1000, 0x1001, 0x7FFF, 0x8000, 0xFEFF, 0xFF00,
           0xFFF1, 0xFFF2, 0xFFFF, 0x10000, 0xFFFFC, 0xFFFFF, 0x100000, 1 << 25, (1 << 26) - 1, 0xFF00000, 0xFFF1000, (1 << 28) - 1,
           1 << 28, 0x40000000, 0x40000040, 0x400FFFFC, 0x60000000, 0x7FFFFFFF, 1 << 31, (1 << 32) - 1, 1 << 32, 1 << 62,
           (1 << 63) - 1, 1 << 63, (1 << 64) - 1, (1 << 64) - 64, (1 << 64) - 4096]
 WORDS = [b"", b" ", b"+", b"calls", b"64", b"2047", b"2048", b"rvcfi-policy", b"rvcfi-map", b"rvcfi-graph", b"1", b"2", b"-1", b"none",
-         b"end", b"at", b"site", b"turn", b"class", b"callclass", b"jumpclass", b"leaf", b"3", b"0x10", b"9" * 30, b"\xff\0", *(form.encode() for form in MODELLED)]
+         b"end", b"at", b"site", b"turn", b"class", b"callclass", b"jumpclass", b"leaf", b"3", b"0x10", b"9" * 30, b"\xff\0", *(form.encode() for form in FORMS)]
 FORMATS = {1: "<B", 2: "<H", 4: "<I", 8: "<Q"}
 SPECIAL = [0x00000073, 0x00100073, 0x00008067, 0x00000067, 0x0000006F, 0x000000EF, 0xFB5FF06F, 0x00000037, 0x00001037, 0x00000517,
            0x00000013, 0x00000000, 0xFFFFFFFF, 0x0000000F, 0x0000100F, 0xC0002573, 0x00028067, 0x000280E7, 0x00000063, 0x00000463,

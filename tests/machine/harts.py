@@ -1,68 +1,33 @@
 #!/usr/bin/env python3
-"""Prints the programs and tables of crates/test_machine/src/machine.rt: `python3 tests/machine/harts.py`.
+"""Prints the programs and tables of crates/test_machine/src/machine.rt: `python3 tests/machine/harts.py [--check]`.
 
 A small model of its own: harts that take turns, one step each, over one memory, one input and one output.
 """
+
 import random
+import sys
+from pathlib import Path
+
+sys.dont_write_bytecode = True
+sys.path.insert(0, str(Path(__file__).resolve().parents[2]))
+
+from tests.shared import tables
+from tests.shared.instructions import ECALL, add, addi, i_form, jump, ld, lui, sd, slli
 
 CODE, DATA, START = 0x40000000, 0x10000, 0x4000000C
 MASK = (1 << 64) - 1
 
 
-# words, by the tables of the unprivileged ISA
-def i_type(op, f3, rd, rs1, imm):
-    return (imm & 0xFFF) << 20 | rs1 << 15 | f3 << 12 | rd << 7 | op
-
-
-def s_type(f3, rs1, rs2, imm):
-    return (imm >> 5 & 0x7F) << 25 | rs2 << 20 | rs1 << 15 | f3 << 12 | (imm & 0x1F) << 7 | 0x23
-
-
-def addi(rd, rs1, imm):
-    return i_type(0x13, 0, rd, rs1, imm)
-
-
-def slli(rd, rs1, amount):
-    return i_type(0x13, 1, rd, rs1, amount)
-
-
-def add(rd, rs1, rs2):
-    return rs2 << 20 | rs1 << 15 | rd << 7 | 0x33
-
-
-def lui(rd, imm):
-    return imm << 12 | rd << 7 | 0x37
-
-
-def ld(rd, rs1, imm):
-    return i_type(0x03, 3, rd, rs1, imm)
-
-
-def lbu(rd, rs1, imm):
-    return i_type(0x03, 4, rd, rs1, imm)
-
-
-def sd(rs1, rs2, imm):
-    return s_type(3, rs1, rs2, imm)
-
-
-def jal(rd, offset):
-    bits = (offset >> 20 & 1) << 31 | (offset >> 1 & 0x3FF) << 21 | (offset >> 11 & 1) << 20 | (offset >> 12 & 0xFF) << 12
-    return bits | rd << 7 | 0x6F
-
-
-ECALL = 0x73
-
 # Each hart adds its number and one to a sum that all share, and keeps in x9 and in a double-word of its own how often.
 SHARE = [
     lui(5, 0x10), slli(6, 10, 3), add(6, 6, 5), addi(7, 10, 1),
-    ld(8, 5, 64), add(8, 8, 7), sd(5, 8, 64), addi(9, 9, 1), sd(6, 9, 0), jal(0, -20),
+    ld(8, 5, 64), add(8, 8, 7), sd(8, 5, 64), addi(9, 9, 1), sd(9, 6, 0), jump(0, -20),
 ]
 
 # Each hart reads a byte of the input to a place of its own, writes it, and exits with it.
 TELL = [
     lui(5, 0x10), add(6, 5, 10), addi(10, 0, 0), addi(11, 6, 0), addi(12, 0, 1), addi(17, 0, 63), ECALL,
-    addi(10, 0, 1), addi(17, 0, 64), ECALL, lbu(10, 6, 0), addi(17, 0, 93), ECALL,
+    addi(10, 0, 1), addi(17, 0, 64), ECALL, i_form(0x03, 4, 10, 6, 0), addi(17, 0, 93), ECALL,
 ]
 
 
@@ -171,13 +136,10 @@ def tell_rows():
         yield f"{name} {harts:x} {first} {addr:x} {byte:x} {rest} {output:x} {len(model.output):x} {model.events} {told}"
 
 
-def main():
-    for name, words in (("SHARE", SHARE), ("TELL", TELL)):
-        print(name, ", ".join(f"0x{word:08x}" for word in words))
-    for rows in (share_rows(), tell_rows()):
-        print()
-        for row in rows:
-            print(f"    {row}\\n\\")
+TABLES = {name: ("test_machine/src/machine.rt", make) for name, make in {
+    "SHARE": lambda: tables.words("static SHARE", SHARE), "TELL": lambda: tables.words("static TELL", TELL),
+    "SHARED": lambda: tables.text("const SHARED", share_rows()), "TOLD": lambda: tables.text("const TOLD", tell_rows())}.items()}
 
 
-main()
+if __name__ == "__main__":
+    sys.exit(tables.main(__doc__, TABLES))

@@ -1,5 +1,5 @@
 #!/usr/bin/env python3
-"""Prints the table of crates/test_machine/src/steps.rt: `python3 tests/machine/steps.py`.
+"""Prints the table of crates/test_machine/src/steps.rt: `python3 tests/machine/steps.py [--check]`.
 
 Each instruction of steps.s is assembled by GNU binutils into a program that loads x10 to x12,
 points x13 to 16 bytes, and stands at the addresses that the machine of rv_machine has for code and
@@ -7,10 +7,18 @@ data; qemu runs it. The words about it are jumps to an end that tells, by their 
 instruction went, and writes that with x12 and the 8 bytes at x13. Products and quotients follow, each
 of the same numbers: 0, 1, -1, the least numbers of both widths, and others drawn from a seed.
 """
+
 import random
 import subprocess
+import sys
 import tempfile
+from concurrent.futures import ThreadPoolExecutor
 from pathlib import Path
+
+sys.dont_write_bytecode = True
+sys.path.insert(0, str(Path(__file__).resolve().parents[2]))
+
+from tests.shared import tables
 
 HERE = Path(__file__).parent
 TOOLS = "riscv64-linux-gnu-"
@@ -101,11 +109,19 @@ def executed(line, a, b):
     return word, *(int.from_bytes(told[k : k + 8], "little") for k in (0, 8, 16))
 
 
-def main():
-    for line, a, b in rows():
-        word, x12, pc, after = executed(line, a, b)
-        numbers = " ".join(f"{number:x}" for number in (word, a, b, x12, pc, after))
-        print(f"    {line.split()[0]} {numbers}\\n\\")
+def row(given):
+    line, a, b = given
+    word, x12, pc, after = executed(line, a, b)
+    return "%s %x %x %x %x %x %x" % (line.split()[0], word, a, b, x12, pc, after)
 
 
-main()
+def steps():
+    with ThreadPoolExecutor() as pool:
+        return tables.text("const STEPS", pool.map(row, rows()))
+
+
+TABLES = {"steps": ("test_machine/src/steps.rt", steps)}
+
+
+if __name__ == "__main__":
+    sys.exit(tables.main(__doc__, TABLES))

@@ -11,23 +11,23 @@ which some 200 are refused, evenly spread, or all with --each. It needs Linux wi
 and how many of these it did without. A command that makes none is an error.
 """
 
-import argparse
 import os
 import re
 import struct
 import subprocess
 import sys
 import tempfile
+from pathlib import Path
 
 sys.dont_write_bytecode = True
+sys.path.insert(0, str(Path(__file__).resolve().parents[2]))
+
+from tests.shared.command import Words
+from tests.shared.forms import FORMS
+from tests.shared.paths import CRATES
+from tests.shared.units import UNITS, image_file, prologue
 
 HERE = os.path.dirname(os.path.abspath(__file__))
-ROOT = os.path.join(HERE, "..", "..")
-sys.path[:0] = [os.path.join(ROOT, "bench"), os.path.join(HERE, "..", "shared")]
-
-from images import UNITS, image_file, prologue
-from program_forms import FORMS
-
 NO_MEMORY = 5
 SECONDS = 60
 
@@ -121,7 +121,7 @@ COMMANDS += [(words.replace("FORM", form), *row) for form in FORMS for words, *r
 
 def sample_objects():
     """The bytes of the objects that tests use."""
-    with open(os.path.join(ROOT, "crates", "sample_objects", "src", "lib.rt")) as source:
+    with open(CRATES / "sample_objects" / "src" / "lib.rt") as source:
         found = dict(re.findall(r'static (\w+): &\[u8\] = b"([^"]*)"', source.read()))
     objects = {name: bytes.fromhex(re.sub(r"[\\\s]", "", found[key])) for name, key in OBJECTS.items()}
     objects["deep.o"] = objects["recurs.o"].replace(MOST, TOO_DEEP)
@@ -137,7 +137,7 @@ def write_file(folder, name, content):
 
 def write_files(folder):
     for name, (units, data, calls) in PROGRAMS.items():
-        words = prologue(UNITS) + units
+        words = prologue(UNITS[1]) + units
         code = struct.pack("<%dI" % len(words), *words)
         graph = "rvcfi-graph 1\ncode 40000000 %08x\ncall 4000000c 40000040\n%send\n" % (len(code), calls)
         write_file(folder, name + ".img", image_file(code, data))
@@ -211,13 +211,9 @@ def chosen(words, count, each):
 
 
 def main():
-    parser = argparse.ArgumentParser(description="Refuses each allocation of rvcfi in turn.")
-    parser.add_argument("--program", default=os.path.join(ROOT, "crates", "rvcfi", "out", "rvcfi"))
+    parser = Words(__doc__)
     parser.add_argument("--each", action="store_true", help="each allocation of demo, too")
     options = parser.parse_args()
-    program = os.path.abspath(options.program)
-    if not os.path.exists(program):
-        sys.exit("%s is not there: `cd crates/rvcfi && rt run` builds it" % program)
     total = spared = 0
     with tempfile.TemporaryDirectory() as folder:
         shim = os.path.join(folder, "refuse.so")
@@ -225,11 +221,11 @@ def main():
         write_files(folder)
         for words, status, line, written in COMMANDS:
             before = held(folder)
-            text, count = undisturbed(program, folder, words, status, line)
+            text, count = undisturbed(options.program, folder, words, status, line)
             after = held(folder)
             restore(folder, before)
             numbers = chosen(words, count, options.each)
-            without = refuse_each(program, folder, words, numbers, (status, text, b""), first_states(before, after, written))
+            without = refuse_each(options.program, folder, words, numbers, (status, text, b""), first_states(before, after, written))
             restore(folder, after)
             print("%-60s %6d allocations, %d refused, %d done without" % (words, count, len(numbers), without), flush=True)
             total, spared = total + len(numbers), spared + without

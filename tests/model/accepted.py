@@ -1,28 +1,25 @@
 """Accepted pairs, and runs of them under an attacker who changes data before each step.
 
-The pairs are the small objects of tests/harts/forms.py and drawn ones, hardened in each form by the model of tests/harts, with and
-without a list of system calls; programs that tests/harts/drawn.py draws unit by unit, and such with a fault that is none.
+The pairs are the small objects of tests/model/forms.py and drawn ones, hardened in each form by the model of tests/model, with and
+without a list of system calls; programs that tests/model/drawn.py draws unit by unit, and such with a fault that is none.
 """
 
 import random
 import struct
-import sys
 from itertools import product
-from pathlib import Path
 from typing import NamedTuple
 
-sys.path[:0] = [str(Path(__file__).resolve().parents[1] / "harts")]
-
-import drawn
-from confined import PART_SIZE, HartStep, part_of, slot, started
-from faults import base, call, small
-from forms import FORMS, LISTING, MOST, ROWS, STORING
-from hardener import Hardening, Source, policy_text, small_object
-from machine import DATA, DATA_END
-from make_pointers import made
-from make_vectors import ECALL, FUNC, HI20, LO12_I, OBJECT, RETURN, addi, beq, jal, jalr, ld, lui, sd
-from program import CODE, EBREAK
-from rules import verdict
+from tests.model import drawn
+from tests.model.confined import PART_SIZE, HartStep, part_of, slot, started
+from tests.model.faults import base, call, small
+from tests.model.forms import FORMS, LISTING, MOST, ROWS, STORING
+from tests.model.hardener import Hardening, Source, small_object
+from tests.model.rules import verdict
+from tests.model.small_objects import FUNC, HI20, LO12_I, OBJECT, made
+from tests.shared.instructions import EBREAK, ECALL, RETURN, addi, beq, jalr, jump, ld, lui, sd
+from tests.shared.texts import policy_text
+from tests.shared.units import CODE
+from tools.simulator.machine import DATA, DATA_END
 
 LISTS = ((63, 64, 93), (5,), MOST)
 POINTERS = 12
@@ -138,7 +135,7 @@ class Writing:
         ends = [*list(self.starts.values())[1:], 4 * len(self.words)]
         symbols = [(name, FUNC, at, end - at) for (name, at), end in zip(self.starts.items(), ends)]
         symbols += [("p%d" % k, OBJECT, 8 * k, 8) for k in range(POINTERS)]
-        words = [word if isinstance(word, int) else jal(1, self.starts[word] - 4 * k) for k, word in enumerate(self.words)]
+        words = [word if isinstance(word, int) else jump(1, self.starts[word] - 4 * k) for k, word in enumerate(self.words)]
         called = [name for name in self.names if name != "main"]
         return made("DRAWN", words, symbols, self.relocations, [self.rng.choice(called) for _ in range(POINTERS)])
 
@@ -192,7 +189,7 @@ class Writing:
 
 
 def hardened_rows():
-    """The small objects of tests/harts/forms.py in each form, with the list that they have, and with one where they have none."""
+    """The small objects of tests/model/forms.py in each form, with the list that they have, and with one where they have none."""
     for row in ROWS + STORING + LISTING:
         for form in FORMS:
             source = Source(small_object(row))

@@ -7,12 +7,13 @@ transfers may reach are gates.
 
 import re
 
-from hardener import low, store_offset
-from lean_hardener import LeanMaps
-from machine import ALL, BRANCHES, CODE, CODE_SIZE, WINDOW, Machine, signed
-from maps import MOST_CALLS, Maps
-from program import ECALL, first_unit
-from program_forms import is_lean, most_steps
+from tests.model.hardener import low, store_offset
+from tests.model.lean_hardener import LeanMaps
+from tests.model.maps import MOST_CALLS, Maps
+from tests.shared.forms import is_lean, most_steps
+from tests.shared.instructions import ECALL
+from tests.shared.units import first_unit
+from tools.simulator.machine import ALL, BRANCHES, CODE, CODE_SIZE, WINDOW, Machine
 
 LOAD, STORE, SYSTEM, EBREAK = 0x03, 0x23, 0x73, 0x00100073
 HANDLERS_END = CODE + 12

@@ -7,16 +7,17 @@ With a program, its `compare` has to answer as this model does, also of an image
 import random
 from collections import Counter
 
-from accepted import LISTS
-from compared import SourceRun, compared, form_of
-from forms import LISTING, ROWS, STORING
-from hardener import policy_text, small_object
-from hardening import Source, hardened_in
-from lean_drawn import LeanWriting
-from lean_hardener import is_outside_of_lean
-from lean_table import Given, Model, Program
-from maps import ended, is_outside
-from program_forms import MODELLED, is_lean
+from tests.model.accepted import LISTS
+from tests.model.compared import SourceRun, compared, form_of
+from tests.model.forms import LISTING, ROWS, STORING
+from tests.model.hardener import Source, small_object
+from tests.model.hardening import hardened_in
+from tests.model.lean_drawn import LeanWriting
+from tests.model.lean_hardener import is_outside_of_lean
+from tests.model.lean_kinds import Given, Model, Program
+from tests.model.maps import ended, is_outside
+from tests.shared.forms import FORMS, is_lean
+from tests.shared.texts import policy_text
 
 LIMIT, MOST, INPUT = 1000, 200000, b"abc"
 
@@ -29,10 +30,10 @@ def end_of(source):
 
 
 def small_ones():
-    """The small objects of tests/harts/forms.py, each with a form, and with what the model makes of it."""
+    """The small objects of tests/model/forms.py, each with a form, and with what the model makes of it."""
     for row in ROWS + STORING + LISTING:
         given = Given((small_object(row),), "", row.policy_text(), row.entry)
-        yield from ((row.name, given._replace(form=form)) for form in MODELLED)
+        yield from ((row.name, given._replace(form=form)) for form in FORMS)
 
 
 def drawn_ones(rng, count):
@@ -41,7 +42,7 @@ def drawn_ones(rng, count):
         calls = rng.choice(LISTS)
         content = LeanWriting(rng, tuple(calls)).object().file()
         policy = policy_text(*rng.choice(((), (calls,))))
-        yield from (("drawn object %d" % number, Given((content,), form, policy)) for form in MODELLED)
+        yield from (("drawn object %d" % number, Given((content,), form, policy)) for form in FORMS)
 
 
 def unlike_ends():
@@ -70,11 +71,9 @@ def checks(seed, many):
 
 
 def check_program(told, seed):
-    """A program's `compare` of small and drawn objects, beside their own images and another one's, in the forms that it has."""
+    """A program's `compare` of small and drawn objects, beside their own images and another one's."""
     asked, model, count, before = Program(told.program, told.folder), Model(), 0, None
     for name, given in [*small_ones(), *drawn_ones(random.Random(seed), 40)]:
-        if given.form not in asked.forms:
-            continue
         made = given.made
         for image in {made.image, before or made.image}:
             limit, count = LIMIT if image == made.image else 200, count + 1

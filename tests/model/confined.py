@@ -1,21 +1,17 @@
 """The statement `IsConfined` of crates/cfi_confined/specs/Confined.antt, definition by definition and of all versions, over the machine of
-tests/harts.
+tools/simulator.
 
 It reads that page, the machine and the graph's lines: no unit, no template and no rule. The head of each function names the
 definition that it is. Where the statement asks for some `newer` list of pending calls, `moves` gives the one that there can be, since
 its rows exclude each other. No pc from which a step may run on is below 76, so that a difference is that of natural numbers.
 """
 
-import sys
 from functools import lru_cache
-from pathlib import Path
 from typing import NamedTuple, Optional
 
-sys.path[:0] = [str(Path(__file__).resolve().parents[1] / "harts")]
-
-from machine import CODE as CODE_START, CODE_SIZE, CODE_TAIL, DATA_END, SHADOW, SHADOW_SIZE, START, Machine
-from program import first_unit
-from rules import branch_offset
+from tests.model.rules import branch_offset
+from tests.shared.units import first_unit
+from tools.simulator.machine import CODE as CODE_START, CODE_SIZE, CODE_TAIL, DATA_END, SHADOW, SHADOW_SIZE, START, Machine
 
 PART_SIZE, MOST_PENDING = SHADOW_SIZE[1], 8191
 TURNS = {"exit": "Exit", "break": "Break", "load": "LoadFault", "store": "StoreFault", "fetch": "FetchFault", "illegal": "Illegal"}
@@ -97,7 +93,7 @@ class Noted(dict):
 
 
 class Watched(Machine):
-    """The machine of tests/harts, whose data are changed between steps, and which notes what it writes, its steps and its stop."""
+    """The machine of tools/simulator, whose data are changed between steps, and which notes what it writes, its steps and its stop."""
 
     def __init__(self, version, code, data, given, harts):
         super().__init__(version, code, data, given, harts)
@@ -342,8 +338,3 @@ class Statement:
             if turn != "Ran":
                 return None
         return None
-
-
-def failure_of(built, steps, harts=1, given=b""):
-    """Where the run of an image under a graph fails, from the ordinary start on, or None."""
-    return Statement(built.version, built.graph).failure(started(built, harts, given), steps)

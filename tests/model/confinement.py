@@ -6,7 +6,7 @@
 (a) No run of an accepted pair may fail. (b) Each pair of faults.py has to be rejected by the rule that its row tells, and its run has to
 fail where and as the row tells, or to be confined where it tells that. (c) Each clause of the statement is switched off in turn,
 and some row of (b) has to pass by it; and each permission is taken away in turn, and some run of (a) has to fail by it. Pairs are
-judged by tests/harts/rules.py, and where a program is named by its `verify` too. `--many` draws so many times as many pairs. The last
+judged by tests/model/rules.py, and where a program is named by its `verify` too. `--many` draws so many times as many pairs. The last
 line counts pairs, runs, rows and switches, and the status is 1 where one failed.
 """
 
@@ -18,15 +18,15 @@ from collections import Counter
 from pathlib import Path
 
 sys.dont_write_bytecode = True
-sys.path[:0] = [str(Path(__file__).resolve().parents[2] / "library" / "tests")]
+sys.path.insert(0, str(Path(__file__).resolve().parents[2]))
 
-import accepted
-from confined import Statement, may_start, started
-from expected import graph_fault, image_fault
-from faults import faults
-from machine import START
-from rules import verdict
-from switched import STRICTER, WEAKER
+from tests.model import accepted
+from tests.model.confined import Statement, may_start, started
+from tests.model.faults import faults
+from tests.model.file_faults import graph_fault, image_fault
+from tests.model.rules import verdict
+from tests.model.switched import STRICTER, WEAKER
+from tools.simulator.machine import START
 
 class Told:
     """How many checks passed, which failed, and the program that is asked too, if one is."""

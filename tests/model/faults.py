@@ -6,19 +6,18 @@ faults do no harm in their run, which is confined; they come last. Most pairs ar
 """
 
 import struct
-import sys
-from pathlib import Path
 from typing import NamedTuple, Optional
 
-sys.path[:0] = [str(Path(__file__).resolve().parents[1] / "harts")]
+from tests.model.confined import MOST_PENDING, HartStep
+from tests.model.lists_tables import changed as with_words
+from tests.model.program import Program
+from tests.model.worked import pointers
+from tests.shared.instructions import BEQ, BNE, EBREAK, ECALL, LD, RETURN, SD, addi, branch, i_form, jal, ld, s_form, u_form
+from tests.shared.units import CODE, UNITS
+from tools.simulator.machine import CODE_SIZE, START
 
-from confined import MOST_PENDING, HartStep
-from lists import changed as with_words
-from machine import CODE_SIZE, START
-from program import CLOSING, CODE, EBREAK, ECALL, UNITS, Program, addi, branch, i_form, jal, s_form, u_form
-from worked import BEQ, BNE, LD, SD, load, pointers
-
-NOP, RETURN = addi(0, 0, 0), i_form(0x67, 0, 0, 1, 0)
+NOP = addi(0, 0, 0)
+CLOSING = UNITS[1] - 8
 POINTERS = 0x10000  # where the data of the programs begin: pointers to f, g and h
 CLASS, OTHER = 1, 3  # the labels of f and g, and of h, for calls
 
@@ -87,10 +86,10 @@ def going(p, begin, jumped, call=lambda: None):
     p.plain(addi(17, 0, p.calls[0] if p.calls else 5), NOP)
     p.label("ecall")
     p.ecall()
-    p.plain(u_form(0x37, 5, 0x10), load(5, 0, 5))
+    p.plain(u_form(0x37, 5, 0x10), ld(5, 5, 0))
     p.label("icall")
     p.icall(5, 0, CLASS)
-    p.plain(load(1, 8, 2), addi(2, 2, 16), u_form(0x37, 5, 0x10), load(5, 8, 5), NOP)
+    p.plain(ld(1, 2, 8), addi(2, 2, 16), u_form(0x37, 5, 0x10), ld(5, 5, 8), NOP)
     p.label("ijump")
     p.ijump(5, 0, jumped)
     for name, label, jump in ("f", CLASS, None), ("g", CLASS, jumped), ("h", OTHER, None):
@@ -250,7 +249,7 @@ def classes(built, at):
 def computed(built, at):
     """Computed transfers without a check, and checks that let pass what they should not."""
     icall, ijump = at["icall"], at["ijump"]
-    loaded = plain(u_form(0x37, 5, 0x10), load(5, 0, 5))
+    loaded = plain(u_form(0x37, 5, 0x10), ld(5, 5, 0))
     for name, rd, row in ("a bare computed jump", 0, "Moves Jalr x0"), ("a bare computed call", 1, "Moves Jalr x1"):
         bare = small(loaded, label("bare"), plain(i_form(0x67, 0, rd, 5, 0)), label("f"), a_return, data=pointers("f"))
         yield Fault(name, bare, "Unit", bare.labels["bare"], (row,))
@@ -277,20 +276,20 @@ def past_checks(built, at):
 
 def returns(built, at):
     """Returns to another address than that of the newest call."""
-    taken = plain(u_form(0x37, 5, 0x10), load(1, 0, 5))
+    taken = plain(u_form(0x37, 5, 0x10), ld(1, 5, 0))
     bare = small(taken, label("bare"), plain(RETURN), label("f"), a_return, data=pointers("f"))
     yield Fault("a return without its test", bare, "Unit", bare.labels["bare"], ("Moves Jalr x0",))
     moved = small(taken, plain(u_form(0x37, 3, 0x10), addi(3, 3, 16)), label("returns"), a_return, label("f"), a_return,
                   data=lambda labels: struct.pack("<2Q", labels["f"], labels["f"]))
     yield Fault("a return with x3 moved into data", moved, "Unit", moved.labels["returns"] + 16, ("Moves Jalr x0",))
-    older = small(call("f"), a_return, label("f"), taken, label("returns"), a_return, data=struct.pack("<Q", CLOSING[1]))
+    older = small(call("f"), a_return, label("f"), taken, label("returns"), a_return, data=struct.pack("<Q", CLOSING))
     at_slot = older.labels["returns"]
     yield Fault("a return to the call before the newest", patched(older, {at_slot: i_form(0x03, LD, 31, 3, -16)}), "Unit", at_slot + 16,
                 ("Moves Jalr x0",))
     # A call of the third word; a computed jump from there to the second word, where that call would return to; and from there a
     # return to the closing, though that call is still pending.
     u = UNITS[1]
-    early = small(plain(jal(1, 0, 8), i_form(0x67, 0, 0, 1, CLOSING[1] - u - 4), RETURN))
+    early = small(plain(jal(1, 0, 8), i_form(0x67, 0, 0, 1, CLOSING - u - 4), RETURN))
     early = relined(early, None, "class 00001 %08x" % (u + 4), "site %08x jump 00001" % (u + 8 - 48), "call %08x %08x" % (u - 28, u + 8))
     yield Fault("a return past a call that is still pending", early, "Unit", u + 4, ("Moves Jalr x0",))
 
@@ -308,9 +307,9 @@ def system_calls(built, at):
                 send + 20, ("MayEcall",))
     unhalting = patched(listed, {send - 8: addi(17, 0, 65), send + 16: NOP})
     yield Fault("a guard that does not halt", unhalting, "Unit", send + 20, ("MayEcall",))
-    yield Fault("a closing that does not exit", patched(built, {CLOSING[1]: addi(17, 0, 64)}), "Prologue", CLOSING[1] + 4, ("MayEcall",))
+    yield Fault("a closing that does not exit", patched(built, {CLOSING: addi(17, 0, 64)}), "Prologue", CLOSING + 4, ("MayEcall",))
     early = small(plain(addi(17, 0, 93)), a_return)
-    yield Fault("a closing that exits a word early", patched(early, {CLOSING[1]: ECALL}), "Prologue", CLOSING[1], ("MayEcall",))
+    yield Fault("a closing that exits a word early", patched(early, {CLOSING: ECALL}), "Prologue", CLOSING, ("MayEcall",))
     exiting = patched(small(plain(addi(17, 0, 93))), {CODE: ECALL})
     yield Fault("a handler that exits", exiting, "Prologue", CODE, ("MayStop Exit", "MayEcall"))
     yield Fault("a handler that makes a system call", patched(small(), {CODE: ECALL}), "Prologue", CODE, ("MayStop Ran", "MayEcall"))
@@ -323,7 +322,7 @@ def stops(built, at):
     yield Fault("a handler that loads where nothing is", patched(small(), {CODE: beyond}), "Prologue", CODE, ("MayStop LoadFault",))
     yield Fault("an opening that loads where nothing is", patched(built, {START: beyond}), "Prologue", START, ("MayStop LoadFault",))
     yield Fault("a break in the opening", patched(built, {START: EBREAK}), "Prologue", START, ("MayStop Break",))
-    yield Fault("a break in the closing", patched(small(a_return), {CLOSING[1]: EBREAK}), "Prologue", CLOSING[1], ("MayStop Break",))
+    yield Fault("a break in the closing", patched(small(a_return), {CLOSING: EBREAK}), "Prologue", CLOSING, ("MayStop Break",))
     into_code = small(plain(u_form(0x37, 6, 0x40000)), label("store"), plain(s_form(SD, 6, 5, 0)), a_return)
     yield Fault("a store into code", into_code, "Unit", into_code.labels["store"], ("MayStop StoreFault",))
     masked = UNITS[1] + 32 + 4 + 12  # past a call and a jump
@@ -395,7 +394,7 @@ def harmless(built, at):
         CODE, len(built.code) + 4)), "Length", None)
     yield Fault("a jump past a mask, where x31 is an address of data", small(
         lambda p: p.store(SD, 5, 0, 2), lambda p: p.jump(p.at + 4 + 12), lambda p: p.store(SD, 6, 8, 2), a_return), "Target", None)
-    yield Fault("a jump to the closing", small(lambda p: p.jump(CLOSING[1])), "Target", None)
+    yield Fault("a jump to the closing", small(lambda p: p.jump(CLOSING)), "Target", None)
     yield Fault("a store into the next slot", small(plain(s_form(SD, 3, 3, 0)), a_return), "Unit", None)
     yield Fault("a return whose test is none, with the right x1", patched(small(label("return"), a_return), {
         UNITS[1] + 8: branch(BEQ, 0, 0, 8)}), "Unit", None)

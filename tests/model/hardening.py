@@ -9,12 +9,12 @@ import sys
 from pathlib import Path
 
 sys.dont_write_bytecode = True
-sys.path[:0] = [str(Path(__file__).resolve().parents[1] / name) for name in ("harts", "objects", "shared")]
+sys.path.insert(0, str(Path(__file__).resolve().parents[2]))
 
-from hardener import Hardening, Source
-from joiner import Joined
-from lean_hardener import LeanHardening
-from program_forms import MODELLED, is_lean
+from tests.model.hardener import Hardening, Source
+from tests.model.joiner import Joined
+from tests.model.lean_hardener import LeanHardening
+from tests.shared.forms import FORMS, is_lean
 
 
 def hardened_in(form, source, entry, policy=""):
@@ -24,7 +24,7 @@ def hardened_in(form, source, entry, policy=""):
 
 def main():
     words = argparse.ArgumentParser(description=__doc__, formatter_class=argparse.RawDescriptionHelpFormatter)
-    words.add_argument("form", metavar="FORM", choices=MODELLED)
+    words.add_argument("form", metavar="FORM", choices=FORMS)
     for name in ("entry", "policy", "image", "graph", "map"):
         words.add_argument(name, metavar=name.upper())
     words.add_argument("objects", metavar="OBJECT", nargs="+")

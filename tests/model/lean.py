@@ -10,9 +10,8 @@ such pair whose run leaves its graph has to be accepted then. (c) No run of a dr
 Small and drawn objects are compared with what they become in each form, and nothing may differ. (e) Where levels are named, the
 programs of tests/real are compiled, and have to run hardened as in form `split`. With a program, its
 `verify` is asked of the pairs of versions 1 and 2 that confinement.py has and of each pair of version 3, and its `run` of those that
-are accepted and of programs that fill the shadow stack, and both have to answer as this model does; of each row of (a) whose form it
-has its commands are asked too, and where it has both lean forms its `harden` of more objects (tests/shared/program_forms.py tells which
-it has). The status is 1 where something failed.
+are accepted and of programs that fill the shadow stack, and both have to answer as this model does; of the rows of (a) its
+commands are asked too, and its `harden` of more objects. The status is 1 where something failed.
 """
 
 import argparse
@@ -22,30 +21,20 @@ from collections import Counter
 from pathlib import Path
 
 sys.dont_write_bytecode = True
-sys.path[:0] = [str(Path(__file__).resolve().parents[1] / name) for name in ("harts", "objects", "shared")]
+sys.path.insert(0, str(Path(__file__).resolve().parents[2]))
 
-import accepted
-import compared_drawn
-import faults
-import lean_asked
-import lean_cases
-import lean_drawn
-import lean_faults
-import lean_real
-import lean_rows
-import lean_switched
-import lean_table
-import lean_tables
-from confined import started
-from confinement import Told
-from lean_rules import pair_of, told as told_of
-from lean_walk import LeanStatement
-from program_forms import FORMS, LEAN
+from tests.model import (
+    accepted, compared_drawn, faults, lean_asked, lean_cases, lean_crate, lean_drawn, lean_faults, lean_kinds, lean_real, lean_rows,
+    lean_switched)
+from tests.model.confined import started
+from tests.model.confinement import Told
+from tests.model.lean_rules import pair_of, told as told_of
+from tests.model.lean_walk import LeanStatement
 
 
 def run_rows(told, asked):
     """That the model or a program answers as the rows have it."""
-    lean_table.ask(told, (row for rows in (*lean_rows.ALL, *lean_cases.ALL) for row in rows()), asked)
+    lean_kinds.ask(told, (row for rows in (*lean_rows.ALL, *lean_cases.ALL) for row in rows()), asked)
 
 
 def failure_of(fault):
@@ -71,7 +60,7 @@ def run_faults(told):
 
 
 def run_tables(told):
-    count, lines = lean_tables.checks()
+    count, lines = lean_crate.checks()
     for _ in range(count - len(lines)):
         told.check(True, "")
     run_checks(told, lines)
@@ -85,20 +74,19 @@ def run_checks(told, lines):
 
 
 def run_program(told, seed, levels):
-    """What a program tells of pairs, and of objects where it hardens in the lean forms."""
+    """What a program tells of pairs and of objects."""
     pairs = [built for _, built in accepted.pairs(seed, 1)] + [fault.built for fault in faults.faults()]
     for number, built in enumerate(pairs):
         said = told_of(built.version, built.words, built.graph)
         got = told.verified(built.image, built.graph)
         told.check(got == (0 if said == "accepted" else 1, said + "\n"), "pair %d: the program says %r, not %s" % (number, got, said))
     print("asked of the program: %d pairs of versions 1 and 2" % len(pairs))
-    run_rows(told, lean_table.Program(told.program, told.folder))
+    run_rows(told, lean_kinds.Program(told.program, told.folder))
     lean_asked.check_pairs(told, seed)
     lean_asked.check_steps(told)
     lean_asked.check_deepest(told)
     compared_drawn.check_program(told, seed)
-    if set(LEAN) <= set(FORMS):
-        lean_asked.check_objects(told, levels)
+    lean_asked.check_objects(told, levels)
 
 
 def main():
@@ -114,7 +102,7 @@ def main():
         words.error("there is no program %s" % options.program)
     with tempfile.TemporaryDirectory() as folder:
         told = Told(options.program and str(Path(options.program).resolve()), folder)
-        run_rows(told, lean_table.Model())
+        run_rows(told, lean_kinds.Model())
         run_tables(told)
         run_checks(told, lean_switched.checks(run_faults(told)))
         run_checks(told, lean_drawn.checks(options.seed, options.many))

@@ -4,27 +4,25 @@
 import random
 from pathlib import Path
 
-import lean_cases
-import lean_drawn
-import lean_faults
-import lean_rows
-import lean_table
-import programs
-from forms import LEAN, LISTING, ROWS, STORING
-from hardener import Source, files_in, policy_text, small_object, unlike, unlike_in
-from lean_hardener import LeanHardening
-from lean_real import compiled
-from lean_rules import pair_of, told as told_of
-from make_pointers import Q
-from make_vectors import P
-from runs import answer
+from tests.model import lean_cases, lean_drawn, lean_faults, lean_kinds, lean_rows
+from tests.model.compare_hardened import files_in, unlike, unlike_in
+from tests.model.forms import LEAN, LISTING, ROWS, STORING
+from tests.model.hardener import Source, small_object
+from tests.model.lean_hardener import LeanHardening
+from tests.model.lean_real import compiled
+from tests.model.lean_rules import pair_of, told as told_of
+from tests.model.small_objects import P, Q
+from tests.shared import programs
+from tests.shared.texts import policy_text
+from tools.simulator.runs import answer
+from tools.sysroot import compilers
 
 LIMIT, MOST = 1000, 200000  # steps of a run, and of one that fills the shadow stack
 
 
 def pairs(seed):
     """Pairs, each with a name."""
-    yield from lean_table.pairs(row for rows in (*lean_rows.ALL, *lean_cases.ALL) for row in rows())
+    yield from lean_kinds.pairs(row for rows in (*lean_rows.ALL, *lean_cases.ALL) for row in rows())
     yield from ((fault.name, fault.built) for fault in lean_faults.faults())
     yield from (("pair %d of seed %d" % (number, seed), built) for number, (_, built) in enumerate(lean_drawn.pairs(random.Random(seed), 1)))
 
@@ -50,7 +48,7 @@ def check_pairs(told, seed):
             whole = built._replace(starts=pair_of(built.version, built.words, built.graph).starts())
             script, runs = turned(rng, whole), runs + 1
             (told.folder / "script").write_bytes(script)
-            done = programs.run([told.program, "run", *(str(told.folder / each) for each in ("image", "graph", "script")), "none", str(LIMIT)])
+            done = compilers.run([told.program, "run", *(str(told.folder / each) for each in ("image", "graph", "script")), "none", str(LIMIT)])
             wanted = answer(whole, script, b"", LIMIT)
             told.check((done.returncode, done.stdout) == wanted, "%s: the program runs it to %r, not %r" % (name, done.stdout, wanted))
     print("asked of the program: %d pairs with graphs of version 3, and %d runs" % (count, runs))
@@ -73,7 +71,7 @@ def check_steps(told):
                 for to in (*pointers, pointers[1] + 8, pointers[1] + 3):
                     script, count = turned_before(step, to), count + 1
                     (told.folder / "script").write_bytes(script)
-                    done = programs.run([told.program, "run", *(str(told.folder / each) for each in ("image", "graph", "script")), "none", str(LIMIT)])
+                    done = compilers.run([told.program, "run", *(str(told.folder / each) for each in ("image", "graph", "script")), "none", str(LIMIT)])
                     wanted = answer(whole, script, b"", LIMIT)
                     told.check((done.returncode, done.stdout) == wanted, "%s, step %d to %x: %r, not %r" % (form, step, to, done.stdout, wanted))
     print("asked of the program: %d runs, a pointer turned before each step" % count)
@@ -85,7 +83,7 @@ def check_deepest(told):
     for name, of in lean_cases.deepest():
         built = of.built
         told.verified(built.image, built.graph)
-        done = programs.run([told.program, "run", *(str(told.folder / each) for each in ("image", "graph")), "none", "none", str(MOST)])
+        done = compilers.run([told.program, "run", *(str(told.folder / each) for each in ("image", "graph")), "none", "none", str(MOST)])
         whole = built._replace(starts=pair_of(built.version, built.words, built.graph).starts())
         wanted = answer(whole, None, b"", MOST)
         told.check((done.returncode, done.stdout) == wanted, "%s: %r, not %r" % (name, done.stdout, wanted))
@@ -94,7 +92,7 @@ def check_deepest(told):
 
 
 def check_objects(told, levels):
-    """`harden` of the small objects of tests/harts/forms.py, and of compiled ones."""
+    """`harden` of the small objects of forms.py, and of compiled ones."""
     folder, count = str(told.folder), 0
     path, policy = (str(told.folder / each) for each in ("object", "policy"))
     for row in ROWS + STORING + LISTING:

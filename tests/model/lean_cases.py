@@ -1,20 +1,21 @@
 """More images of graphs of version 3 with literal numbers: one rule after another, lines of leaf ranges, lists of system calls, harts,
-depth, tameness, which units each version has, links, bounds and limits. lean_table.py says how a row is asked.
+depth, tameness, which units each version has, links, bounds and limits. lean_kinds.py says how a row is asked.
 """
 
-from forms import FORMS, LEAN
-from lean_hardener import LeanMaps
-from lean_program import NOP, computed, enter
-from lean_rows import (ENTERED, HEAD, HEAD_OF_HARTS, LIMIT, OPENED, OVER, alike, edited, given, object_of, raw)
-from lean_rules import pair_of
-from lean_table import Case, Compares, Given, Hardens, Runs, Verifies, numbers, script
-from lean_walk import LeanRun
-from links import F, MAIN
-from lists import program
-from make_pointers import Q
-from make_vectors import RETURN, H, P, R, T, addi, beq, jal, ld, lui, sd
-from program import CODE, branch, check, i_form, push
-from runs import Script
+
+from tests.model.forms import FORMS, LEAN
+from tests.model.lean_hardener import LeanMaps
+from tests.model.lean_kinds import Case, Compares, Given, Hardens, Runs, Verifies, numbers, script
+from tests.model.lean_program import NOP, computed, enter
+from tests.model.lean_rows import ENTERED, HEAD, HEAD_OF_HARTS, LIMIT, OPENED, OVER, alike, edited, given, object_of, raw
+from tests.model.lean_rules import pair_of
+from tests.model.lean_walk import LeanRun
+from tests.model.links_table import F, MAIN
+from tests.model.lists_tables import program
+from tests.model.small_objects import H, P, Q, R, T
+from tests.shared.instructions import RETURN, addi, beq, branch, i_form, jump, ld, lui, sd
+from tests.shared.units import CODE, check, push
+from tools.simulator.runs import Script
 
 LEAF, CALLED = "leaf 40000074 40000090", "call 40000050 40000074"  # of the leaf that is called, and of its call
 
@@ -30,7 +31,7 @@ def spelled(words):
 
 def stopped(words):
     """Words and a stop."""
-    return "%s %s" % (words, spelled([jal(0, -4 * len(numbers(words)))]))
+    return "%s %s" % (words, spelled([jump(0, -4 * len(numbers(words)))]))
 
 
 def entered(offset):
@@ -247,8 +248,8 @@ def calling_itself(count):
 
 def counting(k):
     """Calls itself so many times, and then a leaf."""
-    return object_of(lui(10, 2), addi(10, 10, k - 8192), jal(0, 4), addi(2, 2, -16), sd(1, 2, 8), beq(10, 0, 16), addi(10, 10, -1), jal(1, -16),
-                     jal(0, 8), jal(1, 16), ld(1, 2, 8), addi(2, 2, 16), RETURN, addi(10, 0, 5), RETURN)
+    return object_of(lui(10, 2), addi(10, 10, k - 8192), jump(0, 4), addi(2, 2, -16), sd(1, 2, 8), beq(10, 0, 16), addi(10, 10, -1), jump(1, -16),
+                     jump(0, 8), jump(1, 16), ld(1, 2, 8), addi(2, 2, 16), RETURN, addi(10, 0, 5), RETURN)
 
 
 def deepest():
@@ -282,7 +283,7 @@ def units_by_version():
         yield name, words, no_unit, "accepted"
     yield "seventeen stores", " ".join([short] + [store] * 17), no_unit, "rejected Unit 40000084"
     yield "the mask of older versions", "FF810F93 024F9F93 024FDF93 " + store, "accepted", no_unit
-    yield "the call of older versions", spelled(push(at) + [jal(1, -28)]), None, no_unit
+    yield "the call of older versions", spelled(push(at) + [jump(1, -28)]), None, no_unit
     for past in 0, 4, 8:
         old = check(at, 5, -4, 1, past)
         yield "an older jump that reads %d behind its target" % past, spelled(old + [i_form(0x67, 0, 0, 31, 0)]), None, no_unit
@@ -320,10 +321,10 @@ def links():
 
 def kept():
     """Branches over a word."""
-    words = beq(10, 0, 8), jal(0, 4), RETURN, jal(1, -8), RETURN
+    words = beq(10, 0, 8), jump(0, 4), RETURN, jump(1, -8), RETURN
     yield Hardens("a branch over a jump with a lead", object_of(*words), "rewritten code 148 data 0 classes 0 sites 0", {0x44: "02050063 0180006F"})
     yield Hardens("the same in form split", object_of(*words, form="split"), "rewritten code 152 data 0 classes 0 sites 0")
-    yield Hardens("a branch over a jump without a lead", object_of(beq(10, 0, 8), jal(0, 4), RETURN),
+    yield Hardens("a branch over a jump without a lead", object_of(beq(10, 0, 8), jump(0, 4), RETURN),
                   "rewritten code 64 data 0 classes 0 sites 0", {0x2C: "00051463 0080006F 0040006F 00008067 FC5FF06F"})
 
 

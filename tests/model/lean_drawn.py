@@ -9,18 +9,18 @@ elsewhere: most of these are rejected, and what is accepted all the same has to 
 import random
 from collections import Counter
 
-import drawn
-from accepted import LISTS, Case, Writing
-from forms import LEAN, LISTING, ROWS, STORING
-from hardener import Hardening, Source, policy_text, small_object
-from lean_hardener import LeanHardening
-from lean_program import NOP, enter
-from lean_rules import pair_of, told
-from lean_walk import LeanStatement
-from machine import CODE, START, Machine
-from make_vectors import RETURN, addi, beq, jal, jalr, lui
-from program import jal as jump_word, u_form
-from rules import jal_target
+from tests.model import drawn
+from tests.model.accepted import LISTS, Case, Writing
+from tests.model.forms import LEAN, LISTING, ROWS, STORING
+from tests.model.hardener import Hardening, Source, small_object
+from tests.model.lean_hardener import LeanHardening
+from tests.model.lean_program import NOP, enter
+from tests.model.lean_rules import pair_of, told
+from tests.model.lean_walk import LeanStatement
+from tests.model.rules import jal_target
+from tests.shared.instructions import RETURN, addi, beq, jal, jalr, jump, lui, u_form
+from tests.shared.texts import policy_text
+from tools.simulator.machine import CODE, START, Machine
 
 
 class LeanWriting(Writing):
@@ -37,11 +37,11 @@ class LeanWriting(Writing):
         if kind > 0.9:
             self.pointer()
             return self.put(jalr(0, 5))
-        return self.put(addi(10, 10, 1), *([RETURN] if kind < 0.85 else [beq(10, 6, 8), jal(0, -4), RETURN]))
+        return self.put(addi(10, 10, 1), *([RETURN] if kind < 0.85 else [beq(10, 6, 8), jump(0, -4), RETURN]))
 
 
 def hardened(rng, count):
-    """The small objects of tests/harts/forms.py, and drawn ones, in both forms, with and without a list."""
+    """The small objects of tests/model/forms.py, and drawn ones, in both forms, with and without a list."""
     for row in ROWS + STORING + LISTING:
         for form in LEAN:
             yield LeanHardening(Source(small_object(row)), row.entry, form, row.policy_text()).built
@@ -62,7 +62,7 @@ def retargeted(rng, built, units):
     kind, old, _ = units[at]
     to = rng.choice([start for start, unit in units.items() if wanted in (unit[0], None)] or list(units))
     words, rd = list(built.words), int(kind == "direct")
-    words[(at - CODE) // 4] = jump_word(rd, at, to)
+    words[(at - CODE) // 4] = jal(rd, at, to)
     name = "call" if rd else "edge"
     return words, built.graph.replace(b"\n%s %08x %08x\n" % (name.encode(), at, old), b"\n%s %08x %08x\n" % (name.encode(), at, to))
 
@@ -91,7 +91,7 @@ def led(rng, built, units):
         return ranged(rng, built, units)
     at, words = rng.choice(enters) + rng.choice((-8, -4, -4, -4, 16, 20, 20)), list(built.words)
     label = rng.choice([unit[1] for unit in units.values() if unit[0] == "gate"] or [1])
-    words[(at - CODE) // 4] = rng.choice((NOP, u_form(0x37, 0, label), u_form(0x37, 0, 9), jump_word(0, at, at + 24), RETURN, enter(at)[4]))
+    words[(at - CODE) // 4] = rng.choice((NOP, u_form(0x37, 0, label), u_form(0x37, 0, 9), jal(0, at, at + 24), RETURN, enter(at)[4]))
     return words, built.graph
 
 

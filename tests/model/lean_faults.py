@@ -2,19 +2,20 @@
 graph, and by which clauses (lean_walk.py has their names), as they were read from the rules. What does no harm comes last.
 """
 
-from faults import CLASS, NOP, OTHER, POINTERS, Fault, going, label, line, patched, plain, pointers, reclassed, relined, small
-from lean_program import LEAF_RETURN, LeanProgram
-from machine import CODE, START
-from program import EBREAK, ECALL, UNITS_OF_3, addi, branch, i_form, jal, push, r_form, s_form, u_form
-from worked import BEQ, BNE, LD, SD, load
+
+from tests.model.faults import CLASS, NOP, OTHER, POINTERS, Fault, going, label, line, patched, plain, reclassed, relined, small
+from tests.model.lean_program import LEAF_RETURN, LeanProgram
+from tests.model.worked import pointers
+from tests.shared.instructions import BEQ, BNE, EBREAK, ECALL, LD, SD, addi, branch, i_form, jal, ld, r_form, s_form, u_form
+from tests.shared.units import UNITS_OF_3, push
+from tools.simulator.machine import CODE, START
 
 JUMPED = 2  # the label of the class of jumps
 FIRST = UNITS_OF_3[1]
 CLOSING = FIRST - 8
-SLOT = 0x60000008  # the first of the shadow stack
 LIMIT = 12 * 8193
 UPPER = lambda rd, imm: u_form(0x37, rd, imm)
-LOADED = plain(UPPER(5, 0x10), load(5, 0, 5))  # the pointer to f
+LOADED = plain(UPPER(5, 0x10), ld(5, 5, 0))  # the pointer to f
 
 
 def base(version=1, calls=None):
@@ -89,7 +90,7 @@ def units(*puts):
 
 
 SAVED = units(plain(addi(2, 2, -16)), lambda p: p.store(SD, 1, 8, 2))
-RESTORED = units(plain(load(1, 8, 2), addi(2, 2, 16)), a_return)
+RESTORED = units(plain(ld(1, 2, 8), addi(2, 2, 16)), a_return)
 MAIN = units(SAVED, call("f"), RESTORED)  # calls f and returns
 
 
@@ -116,9 +117,9 @@ def kept_sites(built, at):
         p = lean(*puts, **more)
         return Fault(name, p, rule, p.labels[at_label], clauses)
 
-    taken = plain(UPPER(6, 0x10), load(1, 0, 6))
+    taken = plain(UPPER(6, 0x10), ld(1, 6, 0))
     yield of("a leaf that keeps x1 in data and loads it again", MAIN, lambda p: p.leaf("f"), plain(addi(2, 2, -16)),
-             lambda p: p.store(SD, 1, 8, 2), plain(UPPER(6, 0x10), load(1, 0, 6), addi(2, 2, 16)), label("last"), a_leaf_return,
+             lambda p: p.store(SD, 1, 8, 2), plain(UPPER(6, 0x10), ld(1, 6, 0), addi(2, 2, 16)), label("last"), a_leaf_return,
              lambda p: p.end_leaf(), data=pointers("main body"))
     yield of("a return by x1 outside of leaves", taken, label("last"), a_leaf_return, label("f"), data=pointers("main body"))
     yield of("a return by x1 behind an enter", MAIN, function("f"), taken, label("last"), a_leaf_return, data=pointers("main body"))
@@ -210,7 +211,7 @@ def computed(built, at):
 
 def returns(built, at):
     """Returns to another address than that of the newest call."""
-    taken = plain(UPPER(5, 0x10), load(1, 0, 5))
+    taken = plain(UPPER(5, 0x10), ld(1, 5, 0))
     own = lean(MAIN, function("f"), taken, label("return"), a_return, data=pointers("main body"))
     begun = own.labels["return"]
     yield Fault("a return without its test", patched(own, {begun + 8: branch(BEQ, 0, 0, 8), begun + 16: i_form(0x67, 0, 0, 1, 0)}), "Unit",

@@ -1,11 +1,12 @@
 """What an object becomes in the forms of graphs of version 3: leads, entries, leaves, stores behind short and long masks."""
 
-from forms import LEAN
-from hardener import Groups, Hardening, Layout, size_of, store_offset
-from lean_program import LeanProgram
-from lean_rules import writes_x1
-from machine import CODE, CODE_SIZE, WINDOW
-from maps import Maps, is_outside
+
+from tests.model.forms import LEAN
+from tests.model.hardener import Groups, Hardening, Layout, size_of, store_offset
+from tests.model.lean_program import LeanProgram
+from tests.model.lean_rules import writes_x1
+from tests.model.maps import Maps, is_outside
+from tools.simulator.machine import CODE, CODE_SIZE, WINDOW
 
 SIZES = {"call": 4, "ijump": 60, "icall": 60}
 CALLS = "call", "icall", "ijump"  # what no leaf has

@@ -3,12 +3,10 @@
 A function saves it by an enter, behind its lead; one that calls nothing and leaves x1 alone may be a leaf, which returns by x1.
 """
 
-import sys
-from pathlib import Path
 
-sys.path[:0] = [str(Path(__file__).resolve().parents[1] / "harts")]
-
-from program import Program, addi, check, i_form, jal, push, r_form, s_form, u_form
+from tests.model.program import Program
+from tests.shared.instructions import addi, i_form, jal, r_form, s_form, u_form
+from tests.shared.units import check, push
 
 NOP, LEAF_RETURN = addi(0, 0, 0), i_form(0x67, 0, 0, 1, 0)
 MASK = [u_form(0x37, 4, 0x10000), addi(4, 4, -1)]  # makes x4 anew

@@ -2,18 +2,16 @@
 undisturbed runs end as those in form `split` do, with the same output. It tells what they cost against that form."""
 
 import math
-import sys
 import tempfile
 from pathlib import Path
 
-sys.path[:0] = [str(Path(__file__).resolve().parents[1] / "real")]
-
-import programs
-from forms import LEAN
-from hardener import CALLS, Hardening, Source, policy_text
-from lean_hardener import LeanHardening
-from lean_rules import pair_of, told
-from runs import Run, Script
+from tests.model.forms import LEAN
+from tests.model.hardener import CALLS, Hardening, Source
+from tests.model.lean_hardener import LeanHardening
+from tests.model.lean_rules import pair_of, told
+from tests.shared import programs
+from tests.shared.texts import policy_text
+from tools.simulator.runs import Run, Script
 
 STEPS = 3000000
 
@@ -26,17 +24,11 @@ def run_of(built, starts, given):
 
 def compiled(levels, folder):
     """The programs of each compiler that there is: a name, the object and the input."""
-    for make in (programs.gcc, programs.clang):
-        for processor in programs.PROCESSORS:
-            try:
-                compiler = make(processor)
-            except programs.Missing as what:
-                print("not run, since there is no %s: programs for %s of %s" % (what, processor, make.__name__))
-                continue
-            for level in levels:
-                for program in programs.PROGRAMS:
-                    path = programs.joined(compiler, level, program, folder)
-                    yield "%s of %s for %s %s" % (program.name, make.__name__, processor, level), Path(path).read_bytes(), program.input
+    for compiler in programs.compilers_here("not run, since there is no %s: programs of %s", programs.PROCESSORS):
+        for level in levels:
+            for program in programs.PROGRAMS:
+                name = "%s of %s for %s %s" % (program.name, compiler.name, compiler.processor, level)
+                yield name, Path(programs.joined(compiler, level, program, folder)).read_bytes(), program.input
 
 
 def checks(levels):

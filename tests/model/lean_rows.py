@@ -1,21 +1,21 @@
 """Images of graphs of version 3 with literal numbers, as they were worked out apart from this model: what objects become, how images
-run, and what comparing them with their objects tells. lean_table.py says how a row is asked.
+run, and what comparing them with their objects tells. lean_kinds.py says how a row is asked.
 """
 
-from forms import coded
-from hardener import small_object
-from lean_program import NOP
-from lean_rules import pair_of
-from lean_table import Case, Compares, Given, Hardens, Leaves, Runs, Verifies, numbers, policy_of, script
-from lean_walk import HostileRun
-from links import F
-from lists import Small
-from machine import CODE
-from make_vectors import (CALL_PLT, ECALL, FUNC, HI20, LO12_S, NOTYPE, OBJECT, RETURN, B, H, Object, P, addi, auipc, beq, jal, jalr, ld, lui,
-                          sd)
-from make_pointers import Q
-from program import EBREAK, Built, branch
-from runs import Script
+
+from tests.model.forms import coded
+from tests.model.hardener import small_object
+from tests.model.lean_kinds import Case, Compares, Given, Hardens, Leaves, Runs, Verifies, numbers, policy_of, script
+from tests.model.lean_program import NOP
+from tests.model.lean_rules import pair_of
+from tests.model.lean_walk import HostileRun
+from tests.model.links_table import F
+from tests.model.lists_tables import Small
+from tests.model.program import Built
+from tests.model.small_objects import B, CALL_PLT, FUNC, H, HI20, LO12_S, NOTYPE, OBJECT, P, Q, Object
+from tests.shared.instructions import EBREAK, ECALL, RETURN, addi, auipc, beq, branch, jalr, jump, ld, lui, sd
+from tools.simulator.machine import CODE
+from tools.simulator.runs import Script
 
 HEAD = ("00100073 00100073 00100073 10000137 10000237 FFF20213 600001B7 00818193 00C000EF 05D00893 00000073")
 HEAD_OF_HARTS = ("00100073 00100073 00100073 10000137 10000237 FFF20213 01451F93 41F10133 600001B7 01051F93 01F181B3 00818193 00C000EF "
@@ -149,7 +149,7 @@ def relocated():
     yield alike("a relocated store", of)
 
 
-ENTERED = frame(jal(1, 16))[:3] + [ld(1, 2, 8), addi(2, 2, 16), addi(10, 10, 2), addi(10, 10, 1), RETURN]
+ENTERED = frame(jump(1, 16))[:3] + [ld(1, 2, 8), addi(2, 2, 16), addi(10, 10, 2), addi(10, 10, 1), RETURN]
 
 
 def calls():
@@ -170,15 +170,15 @@ def calls():
     yield Runs(name + ", run", of, ["stop exit 4", "steps 34", "walk 15"])
     yield alike(name, of)
     for name, words, wanted in (
-            ("a return and a jump back in a leaf", (addi(10, 0, 1), beq(10, 0, 8), RETURN, jal(0, -8)), ["leaf 4000002c 4000003c"]),
+            ("a return and a jump back in a leaf", (addi(10, 0, 1), beq(10, 0, 8), RETURN, jump(0, -8)), ["leaf 4000002c 4000003c"]),
             ("a loop and a system call in a leaf", (addi(10, 10, -1), branch(1, 10, 0, -4), ECALL, RETURN), ["leaf 4000002c 4000003c"]),
             ("no leaf: a word of a label", (lui(0, 1), RETURN), []), ("no leaf: x1 is written", (addi(1, 1, 0), RETURN), []),
             ("no leaf: it goes on to the end", (RETURN, NOP), []), ("no leaf: it breaks at its end", (EBREAK,), []),
-            ("a leaf behind a place that is none", (jal(1, 8), RETURN, addi(5, 0, 0), RETURN), ["leaf 4000005c 40000064"])):
+            ("a leaf behind a place that is none", (jump(1, 8), RETURN, addi(5, 0, 0), RETURN), ["leaf 4000005c 40000064"])):
         yield Leaves(name, object_of(*words), wanted)
 
 
-CALLING = jal(1, 8)  # calls the place behind the next one
+CALLING = jump(1, 8)  # calls the place behind the next one
 ENDLESS = Object("ENDLESS", [([auipc(1, 0), jalr(1, 1)], "call", ""), ([NOP], "plain", "")], [("main", FUNC, 1, 0, 12), ("f", NOTYPE, 0, 0, 0)],
                  [(0, CALL_PLT, "f")])
 
@@ -187,11 +187,11 @@ def leaves():
     """Which entries are leaves by what stands before them, what goes there and where they go, and where they end."""
     jumping = jalr(0, 5)
     for name, words, lines, wanted in (
-            ("no leaf: it goes elsewhere", (CALLING, RETURN, jal(0, -4)), (), []),
-            ("no leaf: it is gone to from elsewhere", (jal(1, 12), beq(10, 0, 8), RETURN, NOP, RETURN), (), []),
-            ("a leaf behind a jump", (CALLING, jal(0, -4), RETURN), (), ["leaf 4000004c 40000050"]),
+            ("no leaf: it goes elsewhere", (CALLING, RETURN, jump(0, -4)), (), []),
+            ("no leaf: it is gone to from elsewhere", (jump(1, 12), beq(10, 0, 8), RETURN, NOP, RETURN), (), []),
+            ("a leaf behind a jump", (CALLING, jump(0, -4), RETURN), (), ["leaf 4000004c 40000050"]),
             ("a leaf behind a computed jump", (CALLING, jumping, RETURN), (), ["leaf 40000084 40000088"]),
-            ("two leaves, one behind the other", (jal(1, 12), jal(1, 12), RETURN, RETURN, RETURN), (),
+            ("two leaves, one behind the other", (jump(1, 12), jump(1, 12), RETURN, RETURN, RETURN), (),
              ["leaf 40000060 40000064", "leaf 40000064 40000068"]),
             ("no leaf: a target stands before its return", (CALLING, jumping, NOP, RETURN), ("site main+4 main+c",), []),
             ("a leaf before a target", (CALLING, jumping, RETURN, NOP, RETURN), ("site main+4 main+c",), ["leaf 40000084 40000088"]),

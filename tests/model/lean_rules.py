@@ -5,15 +5,11 @@ leaf range. At a saved one it stands on the shadow stack. Rule Leaf keeps the tw
 """
 
 import re
-import sys
 from bisect import bisect_right
-from pathlib import Path
 
-sys.path[:0] = [str(Path(__file__).resolve().parents[2] / "library" / "tests")]
-
-from expected import ADDRESS, CODE, Text, graph_fault
-from lean_program import LEAF_RETURN, PAST, computed, enter, long_mask, short_mask
-from rules import CALL, GATE, GUARDED, STOP, Pair, common, jal_target, masked
+from tests.model.file_faults import ADDRESS, CODE, Text, graph_fault
+from tests.model.lean_program import LEAF_RETURN, PAST, computed, enter, long_mask, short_mask
+from tests.model.rules import CALL, GATE, GUARDED, STOP, Pair, common, jal_target, masked
 
 IN_LEAF = "plain", "stores", "edge", STOP, CALL, "break", GUARDED, "leaf return"  # the kinds of units of a leaf range
 ENDING = STOP, "return", "leaf return", "jump", "break"  # the kinds that never go on to the next unit, besides jumps

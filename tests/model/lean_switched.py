@@ -1,7 +1,8 @@
 """The rules of graphs of version 3 with one of them, or a part of one, switched off. Some row of lean_faults.py whose run leaves its graph
 has to be accepted then, so each is needed. Length, Unused, and where leaf ranges begin and end guard no run: they are not here."""
 
-from lean_rules import LeanPair
+
+from tests.model.lean_rules import LeanPair
 
 RULES = "Prologue", "Leaf", "Target", "Unlisted", "Site", "Gate", "Astray", "End"
 

@@ -11,12 +11,13 @@ fails is told by its name: those of confined.py, and
     x4, pending, x3, slots, x1       at a unit's start, the mask; how many sites pend; the registers and the slots that hold them
 """
 
-from confined import PART_SIZE, Failure, Statement, Watched, part_of, slot
-from lean_program import PAST
-from machine import ALL, CODE, DATA_END, SHADOW, START
-from program import HANDLERS
-from rules import GUARDED, STOP
-from runs import Run
+
+from tests.model.confined import PART_SIZE, Failure, Statement, Watched, part_of, slot
+from tests.model.lean_program import PAST
+from tests.model.rules import GUARDED, STOP
+from tests.shared.units import HANDLERS
+from tools.simulator.machine import ALL, CODE, DATA_END, SHADOW, START
+from tools.simulator.runs import Run
 
 MASK, MOST_CALLS = 2**28 - 1, 8192
 BAD_TARGET, BAD_RETURN, DEEP = sorted(HANDLERS)

@@ -6,7 +6,9 @@ switched off are two rows of `Moves`, which no machine breaks: a word that is no
 transfer goes on to the next word.
 """
 
-from confined import DATA_END, MOST_PENDING, PART_SIZE, START, Instr, Statement, row_of, slot
+
+from tests.model.confined import MOST_PENDING, PART_SIZE, Instr, Statement, row_of, slot
+from tools.simulator.machine import DATA_END, START
 
 
 def switched(base=Statement, **methods):

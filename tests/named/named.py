@@ -6,16 +6,26 @@ listed and does not name it. `version_1.txt` has what goes by cases on versions 
 variable profile, or of that of an image or of a form. `units.txt` has what goes by cases on nearly all units, and so what a new unit
 comes to, beside files of its own.
 
-It also asks that the table of docs/COMPILING.md has just the numbers and names that the definitions of refusals have.
+It also asks that the table of docs/COMPILING.md has just the numbers and names that the definitions of refusals have; that in
+docs/ARCHITECTURE.md the table of additions is what additions.py prints, and groups and crates are those of crates.txt, each crate on
+earlier ones; and that scripts import along LAYERS, each folder from earlier ones and by whole names, so that there is no ring.
 """
 
-import pathlib
+import ast
 import re
 import sys
+from pathlib import Path
 
-HERE = pathlib.Path(__file__).resolve().parent
-ROOT = HERE.parent.parent
-CRATES = ROOT / "crates"
+sys.dont_write_bytecode = True
+sys.path.insert(0, str(Path(__file__).resolve().parents[2]))
+
+from tests.named import additions
+from tests.shared.paths import CRATES, ROOT
+
+HERE = Path(__file__).resolve().parent
+PAGE = ROOT / "docs" / "ARCHITECTURE.md"
+LAYERS = ["tools|docs", "tests/shared", "tests/model", "tests/.*", "bench", "library"]  # one beside another imports nothing of it
+PATH = "sys.path.insert(0, str(Path(__file__).resolve().parents[%d]))"  # the one way to what stands elsewhere
 VARIANT = re.compile(r"\b(?:V\.|Unit::)(\w+)")
 NEARLY_ALL = 10
 # The definitions of refusals with numbers of their own, and those of images, which have one number.
@@ -82,8 +92,68 @@ def refusals():
     return wrong, len(told & defined)
 
 
+def architecture():
+    """What is wrong with the page of the architecture, and how many of its crates stand right."""
+    text = PAGE.read_text()
+    wrong = [] if additions.text() + "\n" in text else ["docs/ARCHITECTURE.md: python3 tests/named/additions.py prints another table"]
+    groups = re.findall(r"^# ([^:\n.]*)(?::.*)?\n((?:\w.*\n)+)", (ROOT / "crates.txt").read_text(), re.M)
+    lines = [line for _, lines in groups for line in lines.splitlines()]
+    before = set()
+    for name, libraries in ((re.split("[ :]", line)[0], line.partition(":")[2].split()) for line in lines):
+        wrong += ["crates.txt: %s stands before %s" % (name, each) for each in libraries if each not in before and (CRATES / each).exists()]
+        before.add(name)
+    parts = [(title, re.findall(r"`(\w+)`", " ".join(re.findall(r"^- (.*?):", part, re.M))))
+             for title, part in re.findall(r"^### (.*)\n((?:(?!#).*\n)*)", text, re.M)]
+    told = [(title, names) for title, names in parts if title != "Tests"]
+    wanted = [(title, [re.split("[ :]", line)[0] for line in lines.splitlines()]) for title, lines in groups if title != "Tests"]
+    wrong += ["docs/ARCHITECTURE.md: %s has %s, and crates.txt %s" % (*one, other) for one, other in zip(told, wanted) if one != other]
+    return wrong, len(before)
+
+
+def layer(folder):
+    return next(k for k, pattern in enumerate(LAYERS) if re.fullmatch(pattern, folder))
+
+
+def folder_of(path):
+    """The folder of a script that counts: of tests the second one too."""
+    parts = path.relative_to(ROOT).parts
+    return "/".join(parts[:2]) if parts[0] == "tests" else parts[0]
+
+
+def imported(path):
+    """The files of the repository that a script imports, and by which name."""
+    for node in ast.walk(ast.parse(path.read_text())):
+        if isinstance(node, ast.Import):
+            names = [(each.name, each.name) for each in node.names]
+        elif isinstance(node, ast.ImportFrom) and not node.level:
+            names = [(node.module, node.module), *(("%s.%s" % (node.module, each.name), node.module) for each in node.names)]
+        else:
+            continue
+        for name, said in names:
+            for base in (ROOT, path.parent):
+                file = base / (name.replace(".", "/") + ".py")
+                if file.exists():
+                    yield file, said, base == ROOT
+
+
+def imports():
+    """What is wrong with the imports of scripts, and how many are right."""
+    wrong, right = [], 0
+    for path in sorted(path for top in ("tools", "docs", "tests", "bench", "library") for path in (ROOT / top).rglob("*.py")):
+        own, name = folder_of(path), str(path.relative_to(ROOT))
+        lines = re.findall(r"^ *(sys\.path.*)$", path.read_text(), re.M)
+        wrong += ["%s: %s" % (name, line) for line in lines if line != PATH % (len(path.relative_to(ROOT).parts) - 1) or own in ("tools", "docs")]
+        for file, said, is_whole in imported(path):
+            other = folder_of(file)
+            if not (is_whole or own in ("tools", "docs")) or other != own and layer(other) >= layer(own):
+                wrong.append("%s: imports %s" % (name, said))
+            else:
+                right += 1
+    return wrong, right
+
+
 def main():
-    told = [faults(name, names) for name, names in LISTS.items()] + [refusals()]
+    told = [faults(name, names) for name, names in LISTS.items()] + [refusals(), architecture(), imports()]
     wrong = [line for lines, _ in told for line in lines]
     print("\n".join(wrong + [f"{sum(right for _, right in told)} passed, {len(wrong)} failed"]))
     return 1 if wrong else 0

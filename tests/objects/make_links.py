@@ -1,10 +1,8 @@
 #!/usr/bin/env python3
-"""What several objects are as one program, for crates/test_link and crates/sample_links: `python3 tests/objects/make_links.py`,
-with `rows`, `orders`, `worked` or `samples` to print a module of them.
+"""What several objects are as one program, for crates/test_link and crates/sample_links:
+`python3 tests/objects/make_links.py [--check] [NAME ..]`. Each module is made otherwise:
 
-Without a word it compares what it makes with those modules, and the status is 1 where one differs. Each is made otherwise:
-
-    rows      objects by their texts, which stand in the module. What is told of them is by the model of tests/harts; the refusals
+    rows      objects by their texts, which stand in the module. What is told of them is by the model of tests/model; the refusals
               that the model does not have were written by hand, and are kept
     orders    objects that define one name in all ways: which of them defines it, by the data that GNU ld links, and where data end
     worked    two programs in each form of hardening: the words of their units, their data, their graphs and their maps by the
@@ -20,20 +18,21 @@ import re
 import subprocess
 import sys
 import tempfile
+from pathlib import Path
 
 sys.dont_write_bytecode = True
+sys.path.insert(0, str(Path(__file__).resolve().parents[2]))
 
-import make_vectors
-from make_vectors import PER_LINE
-from object_texts import HERE, Text, files_of, joined, numbers, told
+from tests.model import small_objects
+from tests.model.forms import FORMS
+from tests.model.hardener import Hardening
+from tests.model.object_texts import Text, files_of, joined, numbers, told
+from tests.shared import tables
+from tests.shared.paths import CRATES
+from tests.shared.units import UNITS
+from tools.simulator.runs import Run, Script
 
-from forms import FORMS
-from hardener import Hardening
-from program import UNITS
-from runs import Run, Script
-
-CRATES = HERE.parents[1] / "crates"
-TESTS, SAMPLES = CRATES / "test_link" / "src", CRATES / "sample_links" / "src"
+HERE = Path(__file__).resolve().parent
 GNU, ENTRY, CODE, WIDTH = "riscv64-linux-gnu-", "main", 0x40000000, 112
 BY_HAND = ("Undecodable", "ReservedRegister", "BadTransfer", "BadPair", "RelocKind", "RelocPlace", "BadCodePointer", "Policy",
            "RelocRange")
@@ -43,11 +42,6 @@ HEAD = re.compile(r"/// ([^\n]*)\n#\[rattlefmt::skip\]\npub\(crate\) static (\w+
 
 def tool(*words):
     return subprocess.run(words, check=True, capture_output=True).stdout
-
-
-def content_of(path):
-    with open(path, "rb") as file:
-        return file.read()
 
 
 def wrapped(row):
@@ -69,9 +63,9 @@ def table(name, comment, rows):
 
 # The rows: texts with a name each.
 
-def tables():
+def known():
     """The tables of rows.rt: each one's name, the comment, and its rows."""
-    for comment, name, text in HEAD.findall((TESTS / "rows.rt").read_text()):
+    for comment, name, text in HEAD.findall((CRATES / "test_link" / "src" / "rows.rt").read_text()):
         yield name, comment, re.sub(r"\\\n *", "", text).replace("\\n", "\n").split("\n")[:-1]
 
 
@@ -81,8 +75,8 @@ def told_again(row):
 
 
 def rows_module():
-    text = (TESTS / "rows.rt").read_text()
-    lines = [line for name, comment, rows in tables() for line in table(name, comment, [told_again(row) for row in rows])]
+    text = (CRATES / "test_link" / "src" / "rows.rt").read_text()
+    lines = [line for name, comment, rows in known() for line in table(name, comment, [told_again(row) for row in rows])]
     return text[:text.index("\n///") + 1] + "\n".join(lines)
 
 
@@ -119,7 +113,7 @@ def linked(texts):
         if done.returncode:
             return refused(done.stderr)
         tool(GNU + "objcopy", "-O", "binary", "--only-section", ".data", made, content)
-        data = content_of(content)
+        data = Path(content).read_bytes()
         return "data %d%s, end %x" % (len(data), numbers(data), end_of(made))
 
 
@@ -206,8 +200,7 @@ class Constants:
 
 def table_lines(name, words):
     """A table of words, as a module has it."""
-    rows = ["    " + ", ".join("0x%08x" % word for word in words[k:k + 8]) + "," for k in range(0, len(words), 8)]
-    return ["/// The units of `%s`." % name, "#[rattlefmt::skip]", "pub const %s: [u32; %d] = [" % (name, len(words)), *rows, "];", ""]
+    return ["/// The units of `%s`." % name, "#[rattlefmt::skip]", *tables.words("pub const " + name, words).split("\n")]
 
 
 def text_lines(name, content):
@@ -234,7 +227,7 @@ def worked_row(constants, which, form, whole):
 def worked_module():
     constants = Constants()
     rows = [worked_row(constants, which, form, joined(files))
-            for which, files in (("Pair", files_of(PAIR)), ("Table", [make_vectors.T.file()])) for form in FORMS]
+            for which, files in (("Pair", files_of(PAIR)), ("Table", [small_objects.T.file()])) for form in FORMS]
     texts = wrapped(PAIR)
     return "\n".join([
         "//! Objects as one program in each form of hardening: the words of their units, their data, their graphs and their maps,",
@@ -277,20 +270,17 @@ def joined_by_ld(paths):
     with tempfile.TemporaryDirectory() as folder:
         made = os.path.join(folder, "made.o")
         tool(GNU + "ld", "-r", "--unique=.text", "-o", made, *paths)
-        return joined([content_of(made)])
+        return joined([Path(made).read_bytes()])
 
 
 def hashed(content):
-    number = 0xCBF29CE484222325
-    for byte in content:
-        number = (number ^ byte) * 0x100000001B3 % 2**64
-    digits = "%016x" % number
+    digits = "%016x" % tables.fnv(content)
     return "Sum(%d, 0x%s)" % (len(content), "_".join(digits[k:k + 4] for k in range(0, 16, 4)))
 
 
 def sum_row(which, form, paths):
     """Three objects in a form."""
-    wholes = joined_by_ld(paths), joined([content_of(path) for path in paths])
+    wholes = joined_by_ld(paths), joined([Path(path).read_bytes() for path in paths])
     by_ld, by_itself = (Hardening(whole, ENTRY, form) for whole in wholes)
     assert (by_ld.image, by_ld.graph) == (by_itself.image, by_itself.graph)
     run = run_of(by_itself)
@@ -299,16 +289,9 @@ def sum_row(which, form, paths):
     return "    Sums(\n        Form::%s, Objects::%s,\n        %s, Run(%d, %d, %d),\n    )," % (FORM[form], which, sums, *run)
 
 
-def static(name):
-    """An object as a static, in lines of digits."""
-    digits = content_of(path_of(name)).hex()
-    lines = [digits[at:at + 2 * PER_LINE] for at in range(0, len(digits), 2 * PER_LINE)]
-    head = 'pub(crate) static %s: &[u8] = b"\\' % name.upper()
-    return [head, *("    %s\\" % line for line in lines[:-1]), '    %s";' % lines[-1], ""]
-
-
 def samples_module():
-    objects = [line for names in COMPILED.values() for name in names for line in static(name)]
+    objects = [tables.hexadecimal("pub(crate) static " + name.upper(), Path(path_of(name)).read_bytes())
+               for names in COMPILED.values() for name in names]
     rows = [sum_row(which, form, [path_of(name) for name in names]) for which, names in COMPILED.items() for form in FORMS]
     return "\n".join([
         "//! Three objects of gcc 12.2, the first two of them with a table of addresses, and three of clang 16.0, of the sources",
@@ -322,19 +305,8 @@ def samples_module():
         "pub static SUMS: [Sums; %d] = [" % len(rows), *rows, "];", ""])
 
 
-MODULES = {"rows": (TESTS, rows_module), "orders": (TESTS, orders_module), "worked": (SAMPLES, worked_module),
-           "samples": (SAMPLES, samples_module)}
-
-
-def main():
-    if len(sys.argv) > 1:
-        print(MODULES[sys.argv[1]][1](), end="")
-        return 0
-    wrong = [name for name, (folder, made) in MODULES.items() if (folder / (name + ".rt")).read_text() != made()]
-    told_wrong = ": not " + ", ".join(wrong) if wrong else ""
-    print("%d of %d modules are those of the crates%s" % (len(MODULES) - len(wrong), len(MODULES), told_wrong))
-    return 1 if wrong else 0
-
+TABLES = {"rows": ("test_link/src/rows.rt", rows_module), "orders": ("test_link/src/orders.rt", orders_module),
+          "worked": ("sample_links/src/worked.rt", worked_module), "samples": ("sample_links/src/samples.rt", samples_module)}
 
 if __name__ == "__main__":
-    sys.exit(main())
+    sys.exit(tables.main(__doc__, TABLES))

@@ -1,7 +1,5 @@
 #!/bin/sh
-# Builds the objects of this folder from its sources, and from the objects expected.txt (what `readelf` lists) and
-# programs.txt (what they are as programs, counted by `objdump` and `readelf`) and linked.txt (what GNU ld or lld makes of
-# those that are programs), by binutils, lld, gcc and clang for RISC-V. make_vectors.py prints five objects that are written by hand.
+# Builds the objects of this folder from its sources by gcc and clang for RISC-V; make_samples.py prints what crates/ has of them.
 # Each object is relocatable RV64I with the soft-float ABI: e_flags 0, no group, no thread-local data, no list of initialisers.
 set -eu
 cd "$(dirname "$0")"
@@ -59,6 +57,4 @@ for name in first second third; do
     (cd links && clang-16 --target=riscv64 $together -ffixed-x30 -ffixed-x31 -fno-addrsig -mcmodel=small -fno-pic -c $name.c -o ${name}_clang.o)
 done
 
-python3 make_expected.py *.o > expected.txt
-python3 make_programs.py *.o > programs.txt
-python3 make_linked.py switch_*.o pointers_clang.o menu.o tree.o spans.o shared.o slots.o entries.o > linked.txt
+python3 make_samples.py --check

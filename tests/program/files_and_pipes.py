@@ -8,7 +8,6 @@ A case that this machine cannot set up (a file that root may not read, without a
 told as skipped. The last line counts the cases, and the status is 1 where one failed.
 """
 
-import argparse
 import os
 import resource
 import shutil
@@ -19,15 +18,19 @@ import sys
 import tempfile
 import threading
 import time
+from pathlib import Path
 
 sys.dont_write_bytecode = True
-HERE = os.path.dirname(os.path.abspath(__file__))
-sys.path[:0] = [os.path.join(HERE, "..", "..", "bench"), os.path.join(HERE, "..", "model"), os.path.join(HERE, "..", "shared")]
+sys.path.insert(0, str(Path(__file__).resolve().parents[2]))
 
-from families import CODE as CODE_FLAGS, FUNC, PROGBITS, Section, symbol, with_tables, words as code_of
-from hardening import Source, hardened_in
-from images import CODE, OPENING, UNITS, addi, image_file, jal, prologue, u_form
-from program_forms import FORMS
+from tests.model.hardener import Source
+from tests.model.hardening import hardened_in
+from tests.shared.command import Words
+from tests.shared.elf import CODE_FLAGS, FUNC, PROGBITS, Section, symbol, with_tables, words as code_of
+from tests.shared.forms import FORMS
+from tests.shared.instructions import addi, jal, u_form
+from tests.shared.paths import CRATES, ROOT
+from tests.shared.units import CODE, OPENING, UNITS, image_file, prologue
 
 ECALL = 0x00000073
 LIMIT = 1 << 26  # bytes of a file at most
@@ -37,9 +40,9 @@ SECONDS = 60
 
 def program_of(words):
     """An image of plain and system units that end with a stop, its graph, and the addresses of its units."""
-    ends = UNITS + 4 * len(words)
-    code = struct.pack("<%dI" % (17 + len(words)), *prologue(UNITS), *words, jal(0, ends, CODE))
-    lines = ["rvcfi-graph 1", "code %08x %08x" % (CODE, len(code)), "call %08x %08x" % (OPENING, UNITS), "end", ""]
+    ends = UNITS[1] + 4 * len(words)
+    code = struct.pack("<%dI" % (17 + len(words)), *prologue(UNITS[1]), *words, jal(0, ends, CODE))
+    lines = ["rvcfi-graph 1", "code %08x %08x" % (CODE, len(code)), "call %08x %08x" % (OPENING, UNITS[1]), "end", ""]
     return image_file(code, b""), "\n".join(lines).encode()
 
 
@@ -58,7 +61,7 @@ ECHOES = program_of([addi(10, 0, 0), u_form(0x37, 11, 0x10), addi(12, 0, 2000)] 
 
 def report(output, status, units):
     """The report of a run from the opening (10 instructions) through so many plain and system units to an exit."""
-    walk = [OPENING] + [UNITS + 4 * k for k in range(units)]
+    walk = [OPENING] + [UNITS[1] + 4 * k for k in range(units)]
     lines = "\nstop exit %d\nsteps %d\nwalk %d\ntrail %s\n" % (
         status, 10 + units, len(walk), " ".join("%08x" % at for at in walk[-16:]))
     return b"output %d\n" % len(output) + output + lines.encode()
@@ -75,7 +78,7 @@ USAGE = b"usage: rvcfi rewrite|verify|run|compare|demo|harden|link|compare-link\
 
 def hardened_files():
     """The image, the graph and the map of that object."""
-    code = struct.pack("<%dI" % (16 + len(HARDENED)), *prologue(UNITS), *HARDENED)
+    code = struct.pack("<%dI" % (16 + len(HARDENED)), *prologue(UNITS[1]), *HARDENED)
     graph = b"rvcfi-graph 1\ncode 40000000 0000005c\ncall 4000000c 40000040\nend\n"
     return image_file(code, b""), graph, MAP
 
@@ -382,7 +385,7 @@ CASES = (files_that_cannot_be_read, files_of_other_kinds, words_of_other_kinds, 
 
 
 def lay_out(folder):
-    data = os.path.join(HERE, "..", "..", "crates", "rvcfi", "data")
+    data = str(CRATES / "rvcfi" / "data")
     for name in ("a.img", "a.graph"):
         shutil.copyfile(os.path.join(data, name), os.path.join(folder, name))
     os.chdir(folder)
@@ -414,11 +417,7 @@ def state(folder):
 
 
 def main():
-    parser = argparse.ArgumentParser(description="Runs rvcfi on real files, pipes and faults.")
-    parser.add_argument("--program", default=os.path.join(HERE, "..", "..", "crates", "rvcfi", "out", "rvcfi"))
-    program = os.path.abspath(parser.parse_args().program)
-    if not os.path.exists(program):
-        sys.exit("%s is not there: `cd crates/rvcfi && rt run` builds it" % program)
+    program = Words(__doc__).parse_args().program
     with tempfile.TemporaryDirectory() as folder:
         os.chmod(folder, 0o755)
         copy = os.path.join(folder, "out")  # where any user may run it
@@ -431,7 +430,7 @@ def main():
         for case in CASES:
             case(cases)
         cases.tell("the files after all", state(cases.folder), before)
-        os.chdir(HERE)
+        os.chdir(ROOT)
     skipped = ", %d skipped" % len(cases.skipped) if cases.skipped else ""
     print("program: %d passed, %d failed%s" % (cases.passed, len(cases.failed), skipped))
     sys.exit(1 if cases.failed else 0)

@@ -7,9 +7,10 @@ write onto the shadow stack by `read`; no script can see that.
 
 import os
 
-import programs
-from pitfalls import MACHINE
-from programs import Hardened
+from tests.real.pitfalls import MACHINE
+from tests.shared import programs
+from tests.shared.programs import Hardened
+from tools.sysroot import compilers
 
 ASKS = ["command", "shadow"]
 LEFT = 42
@@ -17,8 +18,8 @@ LEFT = 42
 
 def hardened(tool, name, folder):
     path = os.path.join(folder, name + "_joined.o")
-    command = [programs.tool("riscv64-linux-gnu-gcc", "riscv64-unknown-elf-gcc")] + MACHINE
-    programs.must(command + ["-c", programs.source(os.path.join("cases", name + ".s")), "-o", path])
+    command = [compilers.tool("riscv64-linux-gnu-gcc", "riscv64-unknown-elf-gcc")] + MACHINE
+    compilers.must(command + ["-c", programs.source(os.path.join("cases", name + ".s")), "-o", path])
     return Hardened(tool, path)
 
 
@@ -29,7 +30,7 @@ def of_requests(tool, folder):
         status, _, report = made.run(b"")
         yield name + ", verify", made.verified(), (0, b"accepted\n")
         yield name + ", run", (status, report["stop"][0]), (11, "break")
-        done = programs.run(programs.QEMU_SCRIPT + [made.image, made.image + ".qemu"])
+        done = compilers.run(programs.QEMU_SCRIPT + [made.image, made.image + ".qemu"])
         said = b"not made" in done.stderr and b"semihosting" in done.stderr
         yield name + ", for qemu", (done.returncode, said, os.path.exists(made.image + ".qemu")), (1, True, False)
 

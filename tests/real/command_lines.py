@@ -7,23 +7,22 @@ The lines are drawn from commands, words, numbers, forms and options, in a folde
 lines is known from docs/COMMANDS.md. The last line counts what was asked, and the status is 1 where one failed.
 """
 
-import argparse
-import os
 import random
 import sys
 import tempfile
+from pathlib import Path
 
 sys.dont_write_bytecode = True
+sys.path.insert(0, str(Path(__file__).resolve().parents[2]))
 
-import programs
+from tests.shared.command import Words
+from tests.shared.forms import FORMS
+from tools.command_line import RIGHT, commands, told
+from tools.sysroot import compilers
 
-sys.path.append(os.path.join(programs.HERE, "..", "..", "tools"))
-
-from command_line import RIGHT, commands, told
-from program_forms import MODELLED
 
 SHORT = ["", "-h", "--help", "-V", "--version", "--", "-", "-x", "--steps=5", "--vers", "-hx", "-Vh"]
-LIKE = {"FORM": [*MODELLED, "Plain", "both"],
+LIKE = {"FORM": [*FORMS, "Plain", "both"],
         "STEPS": ["1", "0000000001", "1000000000", "1000000001", "00000000001", "1k", "+1", "-1"],
         "NUMBER": ["1000000001", "00000000007", "x", "1 "]}
 KNOWN = [
@@ -46,7 +45,7 @@ def drawn(draw, known):
 
 def answered(tool, words, folder):
     """The status of the program, which finds none of the files."""
-    return programs.run([tool] + words, cwd=folder).returncode
+    return compilers.run([tool] + words, cwd=folder).returncode
 
 
 def faults(options, folder):
@@ -55,7 +54,7 @@ def faults(options, folder):
     lines = [[name, "--help"] for name in known] + [line.split() for line, _ in KNOWN] + [[word] for word in SHORT]
     lines += [drawn(draw, known) for _ in range(options.lines)]
     for words in lines:
-        status, text = answered(os.path.abspath(options.program), words, folder), told(words)
+        status, text = answered(options.program, words, folder), told(words)
         if (status == 2) == text.startswith(RIGHT):
             yield "FAILED %r: status %d, and told is: %s" % (words, status, text)
     for line, wanted in KNOWN:
@@ -64,14 +63,10 @@ def faults(options, folder):
 
 
 def main():
-    words = argparse.ArgumentParser(description=__doc__, formatter_class=argparse.RawDescriptionHelpFormatter)
-    words.add_argument("--program", default=programs.PROGRAM)
+    words = Words(__doc__)
     words.add_argument("--lines", type=int, default=1000)
     words.add_argument("--seed", type=int, default=1)
     options = words.parse_args()
-    if not os.access(options.program, os.X_OK):
-        print("%s is not there: cd crates/rvcfi && rt run -- verify data/a.img data/a.graph" % options.program)
-        return 1
     with tempfile.TemporaryDirectory() as folder:
         failed = list(faults(options, folder))
     asked = len(commands()) + 2 * len(KNOWN) + len(SHORT) + options.lines

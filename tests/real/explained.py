@@ -11,26 +11,30 @@ is known from the sources, or is what readelf, nm and rvcfi's own files have. Th
 status is 1 where one failed.
 """
 
-import argparse
 import os
 import re
 import subprocess
 import sys
 import tempfile
+from pathlib import Path
 
 sys.dont_write_bytecode = True
+sys.path.insert(0, str(Path(__file__).resolve().parents[2]))
 
-import lean_explained
-import programs
-import told
-from attack import ATTACKS
-from pitfalls import CHANCES, LABELS, MACHINE, NO_ZEROS, Bench, policy_of
-from program_forms import FORMS, is_apart, is_for_harts, is_lean
-from programs import Hardened, Linked, Missing
-from refusals import PLAIN, compiled, many_sections
+from tests.real import lean_explained, told
+from tests.real.attack import ATTACKS
+from tests.real.pitfalls import CHANCES, LABELS, MACHINE, NO_ZEROS, Bench, policy_of
+from tests.real.refusals import PLAIN, compiled, many_sections
+from tests.shared import programs
+from tests.shared.command import Words
+from tests.shared.forms import FORMS, is_apart, is_for_harts, is_lean
+from tests.shared.paths import ROOT
+from tests.shared.programs import Hardened, Linked
+from tools.sysroot import compilers
+from tools.sysroot.compilers import Missing
 
 NOTHING = "Nothing that hardening does not refuse is known to end a run.\n"
-TOOL = os.path.join(programs.HERE, "..", "..", "tools", "explain.py")
+TOOL = str(ROOT / "tools" / "explain.py")
 CYCLES = "int main(void) { long t; __asm__ volatile(\"rdcycle %0\" : \"=r\"(t)); return t; }"
 LONE_LOW = r"""int main(void)
 {
@@ -47,7 +51,7 @@ CALLS = "int f(void), g(void); extern int n; int h(void) { return g(); } int mai
 def python_with_elftools():
     """A Python that has pyelftools: this one, or the system's, to which Debian's package adds it."""
     for python in (sys.executable, "/usr/bin/python3"):
-        if os.access(python, os.X_OK) and not programs.run([python, "-c", "import elftools"]).returncode:
+        if os.access(python, os.X_OK) and not compilers.run([python, "-c", "import elftools"]).returncode:
             return python
     raise Missing("pyelftools (apt-get install python3-pyelftools)")
 
@@ -57,7 +61,7 @@ class Asked:
 
     def __init__(self, tool, folder):
         self.python, self.script = python_with_elftools(), TOOL
-        self.compiler = programs.gcc()
+        self.compiler = compilers.gcc()
         self.bench = Bench(tool, folder, self.compiler)
         self.tool, self.folder, self.count, self.failed = tool, folder, 0, []
 
@@ -66,12 +70,12 @@ class Asked:
 
     def made(self, *words, given=b""):
         """What a script prints, or what it ends with where it could not do its work."""
-        done = programs.run([self.python, *words], given)
+        done = compilers.run([self.python, *words], given)
         return "status %d: %s" % (done.returncode, done.stderr.decode()) if done.stderr else done.stdout.decode()
 
     def ended(self, *words):
         """The status of a script that is given no answer."""
-        return programs.run([self.python, *words]).returncode
+        return compilers.run([self.python, *words]).returncode
 
     def has(self, what, text, *wanted):
         for part in wanted:
@@ -132,14 +136,14 @@ def of_refusals(asked):
 
 
 def group_name(asked):
-    lines = programs.must([programs.binutils("readelf"), "-gW", asked.bench.case("macros.c", ["-g3"])]).decode()
+    lines = compilers.must([compilers.binutils("readelf"), "-gW", asked.bench.case("macros.c", ["-g3"])]).decode()
     return re.search(r"COMDAT group section .* \[(\S+)\]", lines).group(1)
 
 
 def of_undefined(asked):
     """All undefined names, as nm lists them."""
     path = asked.source(CALLS)
-    names = programs.must([programs.binutils("nm"), "-u", path]).decode().split()[1::2]
+    names = compilers.must([compilers.binutils("nm"), "-u", path]).decode().split()[1::2]
     asked.refusal(path, "Undefined are %d in all" % len(names), *("    %s " % name for name in names))
 
 
@@ -320,7 +324,7 @@ def of_lists(asked, program, made):
     text = asked.told("graph", *objects(made), made.graph, made.map)
     calls = "system call 63: read_input 1\nsystem call 64: write_output 1\nsystem call 93: _start 1, leave 1\n"
     asked.has("numbers of system calls", text, calls + "no list; one with which all of these are made: calls 63 64 93")
-    listed = Hardened(asked.tool, made.object, policy=programs.policy_of(programs.CALLS, asked.bench.new(".policy")))
+    listed = Hardened(asked.tool, made.object, policy=programs.policy_file(programs.CALLS, asked.bench.new(".policy")))
     text = asked.told("graph", listed.object, listed.graph, listed.map, "--policy", listed.policy)
     asked.has("a list", text, calls + "the list: calls 63 64 93\n")
     asked.same("a list's classes", "not the classes" in text, False, text)
@@ -329,7 +333,7 @@ def of_lists(asked, program, made):
     asked.same("guarded calls", sorted(found), [(name, "system calls 63 64 93") for name in ("_start", "leave", "read_input", "write_output")],
                listing)
     asked.same("no bare call", re.findall(r"^[0-9a-f]{8}  system .* ecall$", listing, re.M), [], listing)
-    halted = Hardened(asked.tool, made.object, policy=programs.policy_of((63, 93), asked.bench.new(".policy")))
+    halted = Hardened(asked.tool, made.object, policy=programs.policy_file((63, 93), asked.bench.new(".policy")))
     report = halted.asked(["run", halted.image, halted.graph, "none", halted.input_file(program.input), programs.STEPS])[1]
     asked.has("halted by a list", asked.told("report", halted.object, halted.graph, halted.map, given=report),
               "in __cfi_bad_target: what failed is write_output+", "ecall: the number of its system call is not in the list",
@@ -398,7 +402,7 @@ def of_strange_names(asked):
     asked.same("a strange name, unprintable", "\033" in told, False)
     paths = [renamed(asked, "int strange_one = %d;" % each, b"s\xff \n\033[1m go") for each in (1, 2)]
     files = [path + end for end in (".img", ".graph", ".map")]
-    answer = programs.run([asked.tool, "link", "plain", "main", "none", *files, *paths]).stdout
+    answer = compilers.run([asked.tool, "link", "plain", "main", "none", *files, *paths]).stdout
     asked.same("a strange duplicate", answer, b"refused 27 Duplicate s\xff \n\033[1m go\n")
     told = asked.told("refusal", *paths, given=answer)
     asked.has("a strange duplicate", told, "Duplicate s? ??[1m go\n", "    in object 2: s? ??[1m go (symbol ")
@@ -455,17 +459,13 @@ def try_all(asked):
 
 
 def main():
-    words = argparse.ArgumentParser(description=__doc__, formatter_class=argparse.RawDescriptionHelpFormatter)
-    words.add_argument("--program", default=programs.PROGRAM)
+    words = Words(__doc__)
     options = words.parse_args()
-    if not os.access(options.program, os.X_OK):
-        print("%s is not there: cd crates/rvcfi && rt run -- verify data/a.img data/a.graph" % options.program)
-        return 1
     with tempfile.TemporaryDirectory() as folder:
         try:
-            programs.binutils("objdump")
-            programs.tool("gcc", "cc", "clang")
-            asked = Asked(os.path.abspath(options.program), folder)
+            compilers.binutils("objdump")
+            compilers.tool("gcc", "cc", "clang")
+            asked = Asked(options.program, folder)
         except Missing as what:
             print("not run, since there is no %s: tests/real/explained.py" % what)
             return 0

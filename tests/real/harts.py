@@ -1,7 +1,7 @@
 """The program for several harts, `clerks`: it does the same under every order of steps, and its planted fault, used by one hart
 against the return address of another, opens the door in the plain program and ends the hardened one in a handler.
 
-The plain program runs for several harts in the model of tests/harts. What the orders come to must be what the host's build
+The plain program runs for several harts in the model of tests/model. What the orders come to must be what the host's build
 makes of them, whoever works them off.
 
 It is built for rv64im without -fpic at every level by each compiler, joined by `ld -r` and hardened in the form `harts`, at -O2
@@ -13,15 +13,12 @@ and runs under the same turns, without attacks. The forms for one hart are left 
 import concurrent.futures
 import os
 import random
-import sys
 
-import programs
-from program_forms import FORMS, is_for_harts
-from programs import CALLS, LEVELS, LIBRARY, Hardened, Linked, Program
+from tests.shared import programs
+from tests.shared.forms import FORMS, is_for_harts
+from tests.shared.programs import CALLS, LEVELS, LIBRARY, Hardened, Linked, Program
+from tools.simulator.machine import Machine
 
-sys.path.append(os.path.join(programs.HERE, "..", "harts"))
-
-from machine import Machine
 
 IN_FORMS = list(filter(is_for_harts, FORMS))
 OFFICE = ["clerks.c", "lock.c", "door.c"]
@@ -135,7 +132,7 @@ class Build:
         self.name = "%s %s %s, %s by %s%s" % (compiler.name, compiler.processor, level, form, join, ", listed" * listed)
         joined = programs.joined(compiler, level, program, folder)
         self.plain = programs.linked(joined)
-        policy = programs.policy_of(CALLS, joined.replace("_joined.o", "_listed.policy")) if listed else "none"
+        policy = programs.policy_file(CALLS, joined.replace("_joined.o", "_listed.policy")) if listed else "none"
         if join == "ld -r":
             self.office = Office(tool, joined, form, policy)
         else:

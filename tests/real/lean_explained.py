@@ -4,18 +4,16 @@ For tests/real/explained.py. The images are those of the model (tests/model), wh
 the program verifies and runs them. Why each entry of cases/leaves.s is no leaf is known from that source.
 """
 
-import os
 import re
-import sys
 
-import programs
-import told
-from program_forms import LEAN
-from programs import Hardened
+from tests.model.hardener import Source
+from tests.model.hardening import hardened_in
+from tests.real import told
+from tests.shared import programs
+from tests.shared.forms import LEAN
+from tests.shared.programs import Hardened
+from tools.sysroot import compilers
 
-sys.path.append(os.path.join(programs.HERE, "..", "model"))
-
-from hardening import Source, hardened_in
 
 WHY = {  # of cases/leaves.s: by each entry that is no leaf what is told of it
     "main": ["it calls: main+8: ", "it makes a computed call: main+68: jalr t0", "it writes x1: main+6c: ld ra,8(sp)"],
@@ -106,8 +104,8 @@ def of_profile(asked, program, made):
         return asked.same(name + ", a profile", text[:100], "function")
     asked.same(name + ", all steps", (row[0], sum(row[1:])), (int(made.run(program.input)[2]["steps"][0]),) * 2, text)
     try:
-        programs.tool("qemu-riscv64", "qemu-riscv64-static")
-    except programs.Missing as what:
+        compilers.tool("qemu-riscv64", "qemu-riscv64-static")
+    except compilers.Missing as what:
         return print("not run, since there is no %s: the profile of %s beside qemu's trace" % (what, name))
     words, leads = told.words_of(made.image), leads_of(made)
     first = made.made.layout.first

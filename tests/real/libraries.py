@@ -9,21 +9,24 @@ must be those of the same files built for the host. Without names it is `sums` (
 library by itself must be refused for nothing but names that it does not define. What is missing, as a network, is told as not run. The last line counts what was asked, and the status is 1 where one failed.
 """
 
-import argparse
 import glob
 import os
 import sys
 import tempfile
+from pathlib import Path
 from typing import NamedTuple
 
 sys.dont_write_bytecode = True
-HERE = os.path.dirname(os.path.abspath(__file__))
-sys.path.append(os.path.join(HERE, "..", "..", "tools"))
+sys.path.insert(0, str(Path(__file__).resolve().parents[2]))
 
-import programs
-from programs import FORMS, Hardened, Missing
-from sysroot.build import built
-from sysroot.debian import Absent, archive, unpacked
+from tests.shared import programs
+from tests.shared.command import Words
+from tests.shared.forms import FORMS
+from tests.shared.programs import Hardened
+from tools.sysroot import compilers
+from tools.sysroot.build import built
+from tools.sysroot.compilers import Missing
+from tools.sysroot.debian import Absent, archive, unpacked
 
 SMALL = ["sums", "cmark"]
 REFUSED = ["libc_ssp_stack_protector.c.o"]  # runs before `main`; nothing names it without -fstack-protector
@@ -95,14 +98,14 @@ class Built:
 
     def on_host(self):
         path = os.path.join(self.folder, self.package.name + "_host")
-        programs.must([programs.tool("gcc", "cc", "clang"), "-O1", "-o", path] + self.words() + ["-lm"])
-        done = programs.run([path], self.input)
+        compilers.must([compilers.tool("gcc", "cc", "clang"), "-O1", "-o", path] + self.words() + ["-lm"])
+        done = compilers.run([path], self.input)
         return done.stdout, done.returncode
 
     def joined(self, compiler, name="", *options):
         """One object of the program and what it needs of the library."""
         path = os.path.join(self.folder, self.package.name + name + "_joined.o")
-        programs.must([compiler, "-O2", *options, "-o", path] + self.words())
+        compilers.must([compiler, "-O2", *options, "-o", path] + self.words())
         return path
 
 
@@ -130,7 +133,7 @@ def members(tool, compiler, folder):
     """The members of the library that are refused for more than what they name and do not have, and how many it has."""
     place = os.path.join(folder, "members")
     os.makedirs(place)
-    programs.must([programs.binutils("ar"), "x", os.path.join(os.path.dirname(compiler), "lib", "libc.a"), "--output", place])
+    compilers.must([compilers.binutils("ar"), "x", os.path.join(os.path.dirname(compiler), "lib", "libc.a"), "--output", place])
     names, wrong = sorted(os.listdir(place)), []
     for name in names:
         path = os.path.join(place, name)
@@ -152,29 +155,25 @@ def try_all(options, folder):
     """The lines to print, and how much was asked."""
     options.sources = options.sources or os.path.join(folder, "sources")
     compiler = compiler_of(options, folder)
-    lines, asked = members(os.path.abspath(options.program), compiler, folder)
+    lines, asked = members(options.program, compiler, folder)
     for package in PACKAGES:
         if package.name in (options.names or SMALL):
-            failed, count = tried(os.path.abspath(options.program), Built(package, options.sources, folder), compiler)
+            failed, count = tried(options.program, Built(package, options.sources, folder), compiler)
             lines, asked = lines + failed, asked + count
     return lines, asked
 
 
 def main():
-    words = argparse.ArgumentParser(description=__doc__, formatter_class=argparse.RawDescriptionHelpFormatter)
+    words = Words(__doc__)
     words.add_argument("names", metavar="NAME", nargs="*", help="of " + " ".join(package.name for package in PACKAGES))
-    words.add_argument("--program", default=programs.PROGRAM)
     words.add_argument("--sysroot", metavar="FOLDER", help="the library's folder, where it is built if it is not there")
     words.add_argument("--sources", metavar="FOLDER", help="where the packages are, or go to")
     words.add_argument("--compiler", choices=["gcc", "clang"], default="gcc")
     options = words.parse_args()
-    if not os.access(options.program, os.X_OK):
-        print("%s is not there: cd crates/rvcfi && rt run -- verify data/a.img data/a.graph" % options.program)
-        return 1
     with tempfile.TemporaryDirectory() as folder:
         try:
-            programs.tool("qemu-riscv64", "qemu-riscv64-static")
-            programs.binutils("ld")
+            compilers.tool("qemu-riscv64", "qemu-riscv64-static")
+            compilers.binutils("ld")
             lines, asked = try_all(options, folder)
         except (Missing, Absent) as what:
             print("not run: tests/real/libraries.py: %s" % str(what).replace("\n", " ")[:300])

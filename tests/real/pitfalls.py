@@ -7,9 +7,10 @@ of the hardened program, whose status is that of the host's build.
 import os
 import shutil
 
-import programs
-from programs import STEPS
-from refusals import Asked
+from tests.real.refusals import Asked
+from tests.shared import programs
+from tests.shared.programs import STEPS
+from tools.sysroot import compilers
 
 MACHINE = ["-march=rv64i", "-mabi=lp64"]
 BAD_RETURN, BAD_TARGET = "stop handler __cfi_bad_return", "stop handler __cfi_bad_target"
@@ -34,7 +35,7 @@ class Bench:
         path = self.new(".o")
         words = (command or self.compiler.command) + ([] if name.endswith(".s") else self.compiler.options + ["-O2"])
         words = [word for word in words if word not in without] + list(more)
-        programs.must(words + ["-c", programs.source(name), "-o", path])
+        compilers.must(words + ["-c", programs.source(name), "-o", path])
         return path
 
     def case(self, name, more=(), **rest):
@@ -42,7 +43,7 @@ class Bench:
 
     def joined(self, *objects, more=()):
         path = self.new("_joined.o")
-        programs.must(self.compiler.join + list(more) + ["-o", path] + list(objects))
+        compilers.must(self.compiler.join + list(more) + ["-o", path] + list(objects))
         return path
 
     def ends(self, path, entry="main", policy="none"):
@@ -60,9 +61,9 @@ class Bench:
     def host(self, name):
         """How the host's build of a case ends."""
         path = self.new(".host")
-        compiler = programs.tool(*(["g++", "clang++"] if name.endswith(".cpp") else ["gcc", "cc", "clang"]))
-        programs.must([compiler, "-O1", "-o", path, programs.source(os.path.join("cases", name))])
-        return "stop exit %d" % programs.run([path]).returncode
+        compiler = compilers.tool(*(["g++", "clang++"] if name.endswith(".cpp") else ["gcc", "cc", "clang"]))
+        compilers.must([compiler, "-O1", "-o", path, programs.source(os.path.join("cases", name))])
+        return "stop exit %d" % compilers.run([path]).returncode
 
 
 def of_alignment(bench):
@@ -77,7 +78,7 @@ def of_alignment(bench):
 def of_aligned_assembly(bench):
     for more, wanted in ("", "refused 9 Undecodable"), (".option norelax\n", "stop exit 0"):
         path = bench.asked.file("aligned%d.s" % len(more), (more + ".globl main\nmain: li a0, 0\nret\n.p2align 4\nnext: ret\n").encode())
-        programs.must(bench.compiler.command + ["-c", path, "-o", path + ".o"])
+        compilers.must(bench.compiler.command + ["-c", path, "-o", path + ".o"])
         yield "aligned assembly, " + more.strip(), bench.ends(path + ".o"), wanted
 
 
@@ -100,7 +101,7 @@ def of_groups(bench):
     macros, host = bench.case("macros.c", ["-g3"]), bench.host("macros.c")
     yield "-g3", bench.ends(macros), "refused 7 SectionKind"
     yield "-g3, groups taken apart", bench.ends(bench.joined(macros, more=["--force-group-allocation"])), host
-    programs.must([programs.binutils("strip"), "-g", macros])
+    compilers.must([compilers.binutils("strip"), "-g", macros])
     yield "-g3, stripped", bench.ends(macros), host
     if not shutil.which("riscv64-linux-gnu-g++") or not shutil.which("g++"):
         print("not run, since there is no riscv64-linux-gnu-g++ and g++: the program in C++")
@@ -117,7 +118,7 @@ def of_library(bench):
     if not shutil.which(elf):
         print("not run, since there is no %s: the library of floating-point numbers" % elf)
         return
-    library = programs.must([elf] + MACHINE + ["-print-libgcc-file-name"]).decode().strip()
+    library = compilers.must([elf] + MACHINE + ["-print-libgcc-file-name"]).decode().strip()
     joined = bench.joined(bench.case("soft.c"), library, more=["-e", "main"])
     yield "libgcc's floating-point numbers", bench.ends(joined), "refused 10 ReservedRegister"
 
@@ -146,13 +147,13 @@ def of_size(bench):
     for branches, wanted in (2000, "refused 19 CodeTooLarge"), (1000, "stop exit 0"):
         text = ".globl main\nmain:\n.rept 65000\nsd zero, -8(sp)\n.endr\n.rept %d\nbeq zero, sp, .+8\n.endr\nli a0, 0\nret\n" % branches
         path = bench.asked.file("size%d.s" % branches, text.encode())
-        programs.must(bench.compiler.command + ["-c", path, "-o", path + ".o"])
+        compilers.must(bench.compiler.command + ["-c", path, "-o", path + ".o"])
         yield "65,000 stores and %d branches" % branches, bench.ends(path + ".o"), wanted
 
 
 def policy_of(bench, path, lines):
     """A policy of some of the lines of CHANCES; each function has one computed call."""
-    text = programs.must([programs.binutils("objdump"), "-d", path]).decode()
+    text = compilers.must([compilers.binutils("objdump"), "-d", path]).decode()
     places = {}
     for part in text.split("\n\n"):
         called = [line.split(":")[0] for line in part.splitlines() if "\tjalr\t" in line]

@@ -7,8 +7,9 @@ objects that `link` joins a row is a refusal, options that are added, and both s
 import os
 import re
 
-import programs
-from programs import machine
+from tests.shared import programs
+from tools.sysroot import compilers
+from tools.sysroot.compilers import machine
 
 PLAIN = "int main(void) { return 0; }"
 NAMES_Q = "extern int q; int main(void) { return q; }\n"
@@ -59,7 +60,7 @@ def compiled(compiler, text, without, more, path):
     options = [word for word in compiler.command + compiler.options if word not in without]
     with open(path + ".c", "w") as file:
         file.write(text + "\n")
-    programs.must(options + ["-O2"] + more + ["-c", path + ".c", "-o", path])
+    compilers.must(options + ["-O2"] + more + ["-c", path + ".c", "-o", path])
     return path
 
 
@@ -79,7 +80,7 @@ class Asked:
         return self.path(name)
 
     def answer(self, *words):
-        return programs.run([self.tool] + list(words)).stdout.decode()
+        return compilers.run([self.tool] + list(words)).stdout.decode()
 
     def rewrite(self, path, policy="none", files=("other.img", "other.graph", "other.map")):
         return self.answer("rewrite", path, "main", policy, *(self.path(name) for name in files))
@@ -110,8 +111,8 @@ def many_sections(asked, compiler, count=22000):
     """An object of so many sections of data, without the option more than a third of 65,536, and how many its header tells in all."""
     path = asked.path("many_%d.o" % count)
     asked.file("many.s", "".join(".section .data.n%d,\"aw\"\n" % number for number in range(count)).encode())
-    programs.must(compiler.command + ["-c", asked.path("many.s"), "-o", path])
-    told = programs.must([programs.binutils("readelf"), "-hW", path]).decode()
+    compilers.must(compiler.command + ["-c", asked.path("many.s"), "-o", path])
+    told = compilers.must([compilers.binutils("readelf"), "-hW", path]).decode()
     return path, int(re.search(r"Number of section headers: +(\d+)", told).group(1))
 
 
@@ -122,9 +123,9 @@ def of_files(asked, compiler):
         content = file.read()
     image, graph, map_file = asked.written
     yield "1 NotElf", asked.rewrite(plain + ".c")
-    programs.must([programs.binutils("ld"), "-e", "main", "-o", asked.path("linked"), plain])
+    compilers.must([compilers.binutils("ld"), "-e", "main", "-o", asked.path("linked"), plain])
     yield "2 NotRelocatable 2", asked.rewrite(asked.path("linked"))
-    programs.must([programs.tool("gcc", "cc", "clang"), "-c", plain + ".c", "-o", asked.path("host.o")])
+    compilers.must([compilers.tool("gcc", "cc", "clang"), "-c", plain + ".c", "-o", asked.path("host.o")])
     yield "3 NotRiscv", asked.rewrite(asked.path("host.o"))
     yield "5 Truncated", asked.rewrite(asked.file("cut.o", content[:200]))
     yield "18 Policy 2", asked.rewrite(plain, asked.file("policy", b"rvcfi-policy 1\nsite main+0 main+0\nend\n"))
@@ -133,7 +134,7 @@ def of_files(asked, compiler):
     yield "18 Policy 3", asked.rewrite(plain, asked.file("policy", b"rvcfi-policy 2\ncalls 64\ncalls 64\nend\n"))
     asked.rewrite(plain, files=("plain.img", "plain.graph", "plain.map"))
     far = compiled(compiler, NAMES_Q, [], [], asked.path("far.o"))
-    programs.must([programs.binutils("ld"), "-r", "--defsym=q=0x123456789", "-o", asked.path("range.o"), far])
+    compilers.must([compilers.binutils("ld"), "-r", "--defsym=q=0x123456789", "-o", asked.path("range.o"), far])
     yield "21 RelocRange", asked.rewrite(asked.path("range.o"))
     yield "22 Byte 16", asked.answer("verify", plain, graph)
     yield "22 Byte 160", asked.answer("verify", programs.for_qemu(image), graph)

@@ -27,25 +27,26 @@ what docs/COMPILING.md lists. Where a tool is missing, what it is for is told as
 asked, and the status is 1 where one failed.
 """
 
-import argparse
 import concurrent.futures
 import hashlib
 import os
 import signal
 import sys
 import tempfile
+from pathlib import Path
 from typing import NamedTuple
 
 sys.dont_write_bytecode = True
+sys.path.insert(0, str(Path(__file__).resolve().parents[2]))
 
-import beyond
-import harts
-import pitfalls
-import programs
-import refusals
-from attack import ATTACKS
-from program_forms import FORMS, is_apart
-from programs import LEVELS, PROGRAMS, Hardened, Linked, Missing
+from tests.real import beyond, harts, pitfalls, refusals
+from tests.real.attack import ATTACKS
+from tests.shared import programs
+from tests.shared.command import Words
+from tests.shared.forms import FORMS, is_apart
+from tests.shared.programs import LEVELS, PROGRAMS, Hardened, Linked
+from tools.sysroot import compilers
+from tools.sysroot.compilers import Missing
 
 DOOR = b"the door is open\n", 42
 HANDLERS = {"__cfi_bad_target": 0x40000000, "__cfi_bad_return": 0x40000004}
@@ -124,7 +125,7 @@ class Case:
                 *self.words(), str(row), steps, more, more / steps, *sizes, sizes[1] / sizes[0]))
 
     def hardened(self, tool, folder, plain, row):
-        policy = programs.policy_of(programs.CALLS, self.name(folder) + "_listed.policy") if row.listed else "none"
+        policy = programs.policy_file(programs.CALLS, self.name(folder) + "_listed.policy") if row.listed else "none"
         if row.join == "ld -r":
             return Hardened(tool, plain.replace(".elf", "_joined.o"), row.form, policy)
         name = self.name(folder) + ("" if row.form == "plain" else "_" + row.form)
@@ -186,7 +187,7 @@ class Case:
 
     def try_shorter(self, tool, folder, first):
         """A list without the call that writes."""
-        halted = Hardened(tool, first.object, policy=programs.policy_of((63, 93), self.name(folder) + "_silent.policy"))
+        halted = Hardened(tool, first.object, policy=programs.policy_file((63, 93), self.name(folder) + "_silent.policy"))
         self.tell("a shorter list, verify", halted.verified(), (0, b"accepted\n"))
         status, output, report = halted.run(self.program.input)
         self.tell("a shorter list", (status, output, stop_of(report)), (10, b"", ["handler", "__cfi_bad_target"]))
@@ -211,16 +212,6 @@ def stop_of(report):
     """How a run stopped; of several harts hart 0 alone has run."""
     stop = report["stop"]
     return stop[2:] if stop[:2] == ["hart", "0"] else stop
-
-
-def compilers():
-    found = []
-    for compiler in (programs.gcc, programs.clang):
-        try:
-            found += [compiler(processor) for processor in programs.PROCESSORS]
-        except Missing as what:
-            print("not run, since there is no %s: the programs of %s" % (what, compiler.__name__))
-    return found
 
 
 def cases_of(found, folder):
@@ -258,28 +249,24 @@ def try_more(found, tool, folder):
 
 
 def main():
-    words = argparse.ArgumentParser(description=__doc__, formatter_class=argparse.RawDescriptionHelpFormatter)
-    words.add_argument("--program", default=programs.PROGRAM)
+    words = Words(__doc__)
     words.add_argument("--keep", metavar="FOLDER", help="leaves all files in this new folder")
     options = words.parse_args()
     if options.keep and os.path.exists(options.keep):
         words.error("%s is there already" % options.keep)
     try:
-        programs.tool("qemu-riscv64", "qemu-riscv64-static")
-        programs.tool("gcc", "cc", "clang")
-        programs.binutils("ld")
+        compilers.tool("qemu-riscv64", "qemu-riscv64-static")
+        compilers.tool("gcc", "cc", "clang")
+        compilers.binutils("ld")
     except Missing as what:
         print("not run, since there is no %s: tests/real/run.py" % what)
         return 0
-    if not os.access(options.program, os.X_OK):
-        print("%s is not there: cd crates/rvcfi && rt run -- verify data/a.img data/a.graph" % options.program)
-        return 1
-    found = compilers()
+    found = programs.compilers_here("not run, since there is no %s: the programs of %s", programs.PROCESSORS)
     with tempfile.TemporaryDirectory() as scratch:
         folder = options.keep or scratch
         os.makedirs(folder, exist_ok=True)
-        lines, passed = try_all(found, os.path.abspath(options.program), folder) if found else ([], 0)
-        more, also = try_more(found, os.path.abspath(options.program), folder) if found else ([], 0)
+        lines, passed = try_all(found, options.program, folder) if found else ([], 0)
+        more, also = try_more(found, options.program, folder) if found else ([], 0)
     lines, passed = lines + more, passed + also
     print("\n".join(lines))
     failed = sum(line.startswith("FAILED") for line in lines)

@@ -8,10 +8,14 @@ import os
 import re
 import shlex
 
-import programs
-from programs import Hardened, Linked, Missing
+from tests.shared import programs
+from tests.shared.paths import ROOT
+from tests.shared.programs import Hardened, Linked
+from tools.sysroot import compilers
+from tools.sysroot.compilers import Missing
 
-SYMBOLS, PROFILE, POLICY = (os.path.join(programs.HERE, "..", "..", "tools", name) for name in ("symbols.py", "profile.py", "policy.py"))
+SYMBOLS, PROFILE, POLICY = (str(ROOT / "tools" / name) for name in ("symbols.py", "profile.py", "policy.py"))
+ABSENT = "not run, since there is no %s: lines and policies of objects of %s"
 VARIABLES = ["byte", "word", "zeroed", "table", "common_one", "common_two", "shared_zeroed", "shared_text"]
 WORDS = {  # the words of docs/MACHINE.md that begin what each column counts, and how many of it a run takes that goes where it may
     "masks": (0x024F9F93, 3), "calls": (0x03019F13, 6), "returns": (0xFF81BF83, 3), "checks": (0xFFCFFF93, 10),
@@ -36,11 +40,11 @@ AT = re.compile(r" at (\S+:\d+)$", re.M)
 def of_statuses(asked, made, program):
     """Behind a pipe the script ends as rvcfi did."""
     given = made.input_file(program.input)
-    listed = Hardened(asked.tool, made.object, policy=programs.policy_of((63, 93), asked.bench.new(".policy")))
+    listed = Hardened(asked.tool, made.object, policy=programs.policy_file((63, 93), asked.bench.new(".policy")))
     for wanted, of, command, words in [*refusing(asked, made), *reporting(made, listed, given)]:
         files = [of.object] if command == "refusal" else [of.object, of.graph, of.map]
         line = "%s | %s" % (shlex.join([asked.tool, *words]), shlex.join([asked.python, asked.script, command, *files]))
-        got = programs.run([asked.tool, *words]).returncode, programs.run(["sh", "-c", line]).returncode
+        got = compilers.run([asked.tool, *words]).returncode, compilers.run(["sh", "-c", line]).returncode
         asked.same("the status of " + " ".join(words), got, (wanted, wanted))
     asked.same("the status of no answer", asked.ended(asked.script, "refusal", made.object), 4)
 
@@ -73,7 +77,7 @@ def of_whole_lines(asked, made):
 
 def of_lines(asked, program):
     """Files and lines of sites, targets and trails, as addr2line has them; and the same text without them where there are none."""
-    for compiler in compilers():
+    for compiler in programs.compilers_here(ABSENT):
         plain, debugged = (linked(asked, compiler, program, more) for more in ([], ["-g"]))
         told = [graph_of(asked, made) for made in (plain, debugged)]
         asked.same("%s, no lines" % compiler.name, AT.search(told[0]), None, told[0])
@@ -97,25 +101,14 @@ def line_of(made, address):
         if number < programs.sections(path):
             break
         number -= programs.sections(path)
-    text = programs.must([programs.binutils("addr2line"), "-e", path, "-j", section_name(path, number), places[-1][1]]).decode().split()[0]
+    text = compilers.must([compilers.binutils("addr2line"), "-e", path, "-j", section_name(path, number), places[-1][1]]).decode().split()[0]
     line = os.path.basename(text)
     return "" if line.endswith(("?", ":0")) else line
 
 
 def section_name(path, number):
-    lines = programs.must([programs.binutils("readelf"), "-SW", path]).decode()
+    lines = compilers.must([compilers.binutils("readelf"), "-SW", path]).decode()
     return re.search(r"^ +\[ *%d\] (\S+)" % number, lines, re.M).group(1)
-
-
-def compilers():
-    """The compilers that are there."""
-    found = []
-    for compiler in (programs.gcc, programs.clang):
-        try:
-            found.append(compiler())
-        except Missing as what:
-            print("not run, since there is no %s: lines and policies of objects of %s" % (what, compiler.__name__))
-    return found
 
 
 def linked(asked, compiler, program, more, policy="none", level="-O2"):
@@ -134,7 +127,7 @@ def graph_of(asked, made):
 def of_sites(asked):
     """The computed calls of a function that a wrong line names, where objdump has them."""
     path = asked.bench.case("chances.c", ["-fno-inline"])
-    text = programs.must([programs.binutils("objdump"), "-d", path]).decode()
+    text = compilers.must([compilers.binutils("objdump"), "-d", path]).decode()
     for name, site in (("by_wide", "by_wide+0"), ("by_narrow", "by_narrow"), ("main", "main+0")):
         part = next(part for part in text.split("\n\n") if "<%s>:" % name in part)
         start = int(part.strip().split()[0], 16)
@@ -156,12 +149,12 @@ def of_labels(asked, made):
 
 def of_numbers(asked):
     """The number that a list refused: a constant that a function is given, and one from memory, which profile.py tells."""
-    policy = programs.policy_of((93,), asked.bench.new(".policy"))
+    policy = programs.policy_file((93,), asked.bench.new(".policy"))
     for number, value in (("221", 221), ("70000", 70000), ("kept", 1200)):
         path = asked.bench.case("numbers.c", ["-DNUMBER=" + number])
         files = [path + end for end in (".img", ".graph", ".map")]
         asked.bench.asked.answer("rewrite", path, "main", policy, *files)
-        report = programs.run([asked.tool, "run", files[0], files[1], "none", "none", programs.STEPS]).stdout
+        report = compilers.run([asked.tool, "run", files[0], files[1], "none", "none", programs.STEPS]).stdout
         text = asked.told("report", path, *files[1:], given=report)
         told = "Which number was refused is not told here: `tools/profile.py`" if number == "kept" else "refused is %d." % value
         asked.has("the number %s" % number, text, "the number of its system call is not in the list", told)
@@ -178,7 +171,7 @@ def of_symbols(asked, made):
     asked.same("functions", [name for name in names if table.get(name, ("", ""))[0] != "%016x" % made.gate(name)], [], str(table))
     asked.same("handlers", [table["__cfi_" + name][0][-8:] for name in ("bad_target", "bad_return", "deep", "opening", "closing")],
                ["40000000", "40000004", "40000008", "4000000c", "40000038"])
-    text = programs.must([programs.binutils("objdump"), "-d", out]).decode()
+    text = compilers.must([compilers.binutils("objdump"), "-d", out]).decode()
     first = re.search(r"<take_message>:\n +%s:\t\S+ +\tadd[i]?\tsp,sp,-\d+" % table["take_message"][0][-8:], text)
     asked.same("what objdump has", bool(first), True, text[:3000])
     asked.has("symbols", told, "%s: " % out)
@@ -188,7 +181,7 @@ def of_symbols(asked, made):
 
 def symbols_of(path):
     """What nm has: by the name of each symbol its address and its kind."""
-    rows = (line.split() for line in programs.must([programs.binutils("nm"), path]).decode().splitlines())
+    rows = (line.split() for line in compilers.must([compilers.binutils("nm"), path]).decode().splitlines())
     return {row[2]: (row[0], row[1]) for row in rows if len(row) == 3 and not row[2].startswith((".L", "$"))}
 
 
@@ -203,7 +196,7 @@ def of_variables(asked):
         for defined in ([], ["-DOTHER"]):
             objects.append(os.path.join(folder, "variables%d.o" % len(defined)))
             options = own.options + ["-O1", *more, *defined]
-            programs.must(own.command + options + ["-c", programs.source("cases/variables.c"), "-o", objects[-1]])
+            compilers.must(own.command + options + ["-c", programs.source("cases/variables.c"), "-o", objects[-1]])
         made = Linked(asked.tool, objects, os.path.join(folder, "variables"))
         printed = made.run(b"")[1].decode().split()
         out = made.image + ".elf"
@@ -227,7 +220,7 @@ def of_profile(asked, program, made):
     asked.same(program.name + ", sums", [name for name, row in rows.items() if sum(row[1:]) != row[0]], [], text)
     asked.has(program.name + ", its end", text, "stop %s\n" % " ".join(report["stop"]))
     try:
-        programs.tool("qemu-riscv64", "qemu-riscv64-static")
+        compilers.tool("qemu-riscv64", "qemu-riscv64-static")
     except Missing as what:
         print("not run, since there is no %s: the profile of %s beside qemu's trace" % (what, program.name))
         return
@@ -278,7 +271,7 @@ def counted(asked, made, addresses):
 
 def of_typed(asked):
     """A policy by types: each site reaches what its type or its table has, at each level."""
-    for compiler in compilers():
+    for compiler in programs.compilers_here(ABSENT):
         for level in ("-O0", "-O2", "-Os"):
             typed(asked, compiler, level, "typed.c", REACHED)
             typed(asked, compiler, level, "typed.c", REACHED, UNTOLD, ["-DUNTOLD"])
@@ -306,8 +299,8 @@ def policy_by_types(asked, compiler, level, case, more):
     own += TYPED if compiler.name == "gcc" else []
     path, memory, joined = asked.bench.new(".o"), asked.bench.new("_memory.o"), asked.bench.new("_joined.o")
     for source, made in ((os.path.join("cases", case), path), ("memory.c", memory)):
-        programs.must(compiler.command + own + ["-c", programs.source(source), "-o", made])
-    programs.must(compiler.join + ["-o", joined, path, memory])
+        compilers.must(compiler.command + own + ["-c", programs.source(source), "-o", made])
+    compilers.must(compiler.join + ["-o", joined, path, memory])
     told = asked.made(POLICY, joined, joined + ".policy", "--calls", "93")
     with open(joined + ".policy") as file:
         lines = [line.split()[1:] for line in file if line.startswith("site ")]
@@ -322,7 +315,7 @@ def class_sizes(graph):
 def of_narrowed(asked):
     """The programs of this folder under policies by types: the same outputs, no larger classes, and smaller ones in the one that has
     functions in a table and labels of a `switch`."""
-    for compiler in compilers():
+    for compiler in programs.compilers_here(ABSENT):
         for program in programs.PROGRAMS:
             plain = linked(asked, compiler, program, ["-g"] + (TYPED if compiler.name == "gcc" else []))
             policy = plain.image + ".policy"

@@ -9,20 +9,22 @@ qemu, and what tests/real/explained.py needs; where one is missing nothing is ru
 block gave. The last line counts the blocks, and the status is 1 where one failed.
 """
 
-import argparse
 import os
 import re
 import sys
 import tempfile
+from pathlib import Path
 
 sys.dont_write_bytecode = True
+sys.path.insert(0, str(Path(__file__).resolve().parents[2]))
 
-import programs
-from explained import python_with_elftools
-from programs import Missing
+from tests.real.explained import python_with_elftools
+from tests.shared.command import Words
+from tests.shared.paths import ROOT
+from tools.sysroot import compilers
+from tools.sysroot.compilers import Missing
 
-REPOSITORY = os.path.abspath(os.path.join(programs.HERE, "..", ".."))
-PAGE = os.path.join(REPOSITORY, "docs", "TUTORIAL.md")
+PAGE = ROOT / "docs" / "TUTORIAL.md"
 BLOCK = re.compile(r"^```sh\n(.*?)^```\n(?:```text\n(.*?)^```\n)?", re.M | re.S)
 VERSIONS = [("gcc", "-dumpfullversion", "12.2.0"), ("ld", "--version", "2.40")]
 
@@ -35,10 +37,10 @@ def blocks():
 
 def need():
     """Asks for the tools whose output the page has."""
-    programs.tool("qemu-riscv64")
+    compilers.tool("qemu-riscv64")
     for name, word, version in VERSIONS:
-        command = programs.tool("riscv64-linux-gnu-" + name)
-        if version not in programs.run([command, word]).stdout.decode():
+        command = compilers.tool("riscv64-linux-gnu-" + name)
+        if version not in compilers.run([command, word]).stdout.decode():
             raise Missing("%s of version %s" % (command, version))
 
 
@@ -52,21 +54,17 @@ def printed(program, python, folder):
         file.write("#!/bin/sh\nexec %s -B \"$@\"\n" % python)
     os.chmod(os.path.join(binaries, "python3"), 0o755)
     outputs = [os.path.join(folder, "output_%d" % number) for number in range(len(blocks()))]
-    parts = ["{\n%s} > %s 2> /dev/null\n" % (text.replace("REPOSITORY", REPOSITORY), out)
+    parts = ["{\n%s} > %s 2> /dev/null\n" % (text.replace("str(ROOT)", str(ROOT)), out)
              for (text, _), out in zip(blocks(), outputs)]
     given = dict(os.environ, HOME=home, PATH=binaries + ":" + os.environ["PATH"])
-    programs.run(["bash", "-s"], ("cd\n" + "".join(parts)).encode(), env=given)
+    compilers.run(["bash", "-s"], ("cd\n" + "".join(parts)).encode(), env=given)
     return [open(out, encoding="utf-8").read() if os.path.exists(out) else "not run" for out in outputs]
 
 
 def main():
-    words = argparse.ArgumentParser(description=__doc__, formatter_class=argparse.RawDescriptionHelpFormatter)
-    words.add_argument("--program", default=programs.PROGRAM)
+    words = Words(__doc__)
     words.add_argument("--print", action="store_true", dest="shown")
     options = words.parse_args()
-    if not os.access(options.program, os.X_OK):
-        print("%s is not there: cd crates/rvcfi && rt run -- verify data/a.img data/a.graph" % options.program)
-        return 1
     try:
         need()
         python = python_with_elftools()

@@ -1,19 +1,25 @@
 #!/usr/bin/env python3
-"""Prints rows of relocations as binutils applies them: each is assembled and linked, and read back from the linked file.
+"""Prints the rows of crates/test_word/src/relocation.rt that binutils give: `python3 tests/relocations/rows.py [--check]`.
 
-    code KIND BEFORE VALUE AFTER     a word, as hexadecimal numbers
-    data KIND BEFORE VALUE AFTER     bytes, as hexadecimal digits in their order
-    refused KIND VALUE               the linker refuses the value
-
-VALUE is a signed hexadecimal number: the address of a symbol, or for the PCREL kinds its distance from the AUIPC.
+Each is assembled and linked, and read back from the linked file; `None` where the linker refuses the value. A value is the address of a
+symbol, or for the PCREL kinds its distance from the AUIPC. Other rows of the file are by hand.
 """
 
 import os
 import subprocess
+import sys
 import tempfile
+from pathlib import Path
+
+sys.dont_write_bytecode = True
+sys.path.insert(0, str(Path(__file__).resolve().parents[2]))
+
+from tests.shared import tables
 
 TOOLS = "riscv64-linux-gnu-"
 TEXT, DATA = 0x40000044, 0x10000
+PATCHES = {"HI20": "Hi20", "LO12_I": "Lo12I", "LO12_S": "Lo12S", "PCREL_HI20": "PcrelHi20", "PCREL_LO12_I": "Lo12I", "PCREL_LO12_S": "Lo12S",
+           "32": "Abs32", "64": "Abs64"}
 
 CODE = [
     ("HI20", 0x000002B7, 0x10000),
@@ -83,20 +89,26 @@ def code_row(folder, kind, word, value):
     else:
         lines += ["here: .reloc here, R_RISCV_%s, value" % kind, ".word %#x" % word]
     got = link(folder, "\n".join(lines) + "\n", ".text", symbol)
-    if got is None:
-        return "refused %s %#x" % (kind, value)
-    return "code %s 0x%08x %#x 0x%08x" % (kind, word, value, int.from_bytes(got[-4:], "little"))
+    after = "None" if got is None else "Some(0x%08x)" % int.from_bytes(got[-4:], "little")
+    return "(CodePatch::%s, 0x%08x, %#x, %s)," % (PATCHES[kind], word, value, after)
 
 
 def data_row(folder, kind, before, value):
     bytes_ = ", ".join("0x" + before[at : at + 2] for at in range(0, len(before), 2))
     source = ".data\nhere: .reloc here, R_RISCV_%s, value\n.byte %s\n" % (kind, bytes_)
     got = link(folder, source, ".data", value)
-    return "data %s %s %#x %s" % (kind, before, value, got.hex())
+    return "(DataPatch::%s, 0x%s, %#x, Some(0x%s))," % (PATCHES.get(kind, kind.title()), before, value, got.hex())
 
 
-with tempfile.TemporaryDirectory() as work:
-    for row in CODE:
-        print(code_row(work, *row))
-    for row in DATA_ROWS:
-        print(data_row(work, *row))
+def rows(make, given):
+    """Rows stand by themselves, since others stand between them."""
+    with tempfile.TemporaryDirectory() as folder:
+        return "\n\n".join(make(folder, *each) for each in given)
+
+
+TABLES = {"code": ("test_word/src/relocation.rt", lambda: rows(code_row, CODE)),
+          "data": ("test_word/src/relocation.rt", lambda: rows(data_row, DATA_ROWS))}
+
+
+if __name__ == "__main__":
+    sys.exit(tables.main(__doc__, TABLES))

@@ -1,13 +1,20 @@
 #!/usr/bin/env python3
-"""Prints the two tables of crates/test_word/src/words.rt: `python3 tests/words/table.py`.
+"""Prints the two tables of crates/test_word/src/words.rt: `python3 tests/words/table.py [--check]`.
 
 The words are those that GNU binutils makes of words.s and others.s; what each word of words.s has
 to mean is read from its line of source.
 """
+
 import re
 import subprocess
+import sys
 import tempfile
 from pathlib import Path
+
+sys.dont_write_bytecode = True
+sys.path.insert(0, str(Path(__file__).resolve().parents[2]))
+
+from tests.shared import tables
 
 HERE = Path(__file__).parent
 TOOLS = "riscv64-linux-gnu-"
@@ -57,21 +64,21 @@ def row(word, line):
     return word, name, registers[0], registers[1], (number or 0) % 2**bits
 
 
-def literal(word):
-    return f"0x{word >> 16:04x}_{word % 2**16:04x}"
-
-
-def main():
+def told():
     made, source = words("words.s", "rv64im"), lines("words.s")
     assert len(made) == len(source)
-    for word, line in zip(made, source):
-        word, name, first, second, number = row(word, line)
-        print(f"    {name} {word:08x} {first:x} {second:x} {number:x}\\n\\")
-    print()
-    others = words("others.s", "rv64g_zba_zbb_zbs")
-    assert len(others) == len(lines("others.s"))
-    for word in others:
-        print(f"    {literal(word)},")
+    rows = [row(word, line) for word, line in zip(made, source)]
+    return tables.text("const WORDS", ["%s %08x %x %x %x" % (name, word, *rest) for word, name, *rest in rows])
 
 
-main()
+def others():
+    made = words("others.s", "rv64g_zba_zbb_zbs")
+    assert len(made) == len(lines("others.s"))
+    return tables.words("static OTHERS", made)
+
+
+TABLES = {"words": ("test_word/src/words.rt", told), "others": ("test_word/src/words.rt", others)}
+
+
+if __name__ == "__main__":
+    sys.exit(tables.main(__doc__, TABLES))

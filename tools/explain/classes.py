@@ -5,8 +5,8 @@ Worked out from the object alone, so that it can be compared with a graph, and t
 
 from typing import NamedTuple
 
-from explain.elf import ABS32, ABS64, ADD32, ADD64, GOT_HI20, HI20, JALR, PCREL_HI20, fields
-from explain.texts import place_words, policy_lines
+from .elf import ABS32, ABS64, ADD32, ADD64, GOT_HI20, HI20, JALR, PCREL_HI20, fields
+from .texts import place_words, policy_lines
 
 IN_DATA, IN_CODE = {ABS32, ABS64, ADD32, ADD64}, {GOT_HI20, HI20, PCREL_HI20}
 

@@ -3,8 +3,8 @@
 import struct
 from typing import NamedTuple
 
-from explain.c_types import STRUCTURES, attribute, key, signature, type_of
-from explain.dwarf import FAULTS, info_of, place_of
+from .c_types import STRUCTURES, attribute, key, signature, type_of
+from .dwarf import FAULTS, info_of, place_of
 
 ADDR, REG0, REG31, BREG0, BREG31, FBREG, PIECE, CFA, STACK_VALUE, ADDRX = 0x03, 0x50, 0x6F, 0x70, 0x8F, 0x91, 0x93, 0x9C, 0x9F, 0xA1
 NEW_BASE = 2**64 - 1

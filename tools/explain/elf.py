@@ -9,8 +9,8 @@ from elftools.elf.elffile import ELFFile
 from elftools.elf.relocation import RelocationSection
 from elftools.elf.sections import SymbolTableSection
 
-from explain.disassembly import Disassembly
-from explain.dwarf import Lines
+from .disassembly import Disassembly
+from .dwarf import Lines
 
 ALLOC, EXECINSTR = 2, 4
 ABS32, ABS64, ADD32, ADD64 = 1, 2, 35, 36

@@ -4,9 +4,9 @@ An entry is where calls go: the target of a direct call, the program's entry, a 
 graph tell; why it is no leaf, the object does.
 """
 
-from explain import units
-from explain.elf import fields
-from explain.texts import OPENING, Wrong
+from . import units
+from .elf import fields
+from .texts import OPENING, Wrong
 
 BRANCH, JAL, JALR, STORE, SYSTEM, FENCE, LABEL = 0x63, 0x6F, 0x67, 0x23, 0x73, 0x0F, 0x37
 SHOWN = 4

@@ -5,10 +5,10 @@ import sys
 
 from elftools.common.exceptions import ELFError
 
-from explain.elf import Object
-from explain.graph import Named
-from explain.joined import Joined, Part
-from explain.texts import CODE, Graph, Map, Wrong, code_length
+from .elf import Object
+from .graph import Named
+from .joined import Joined, Part
+from .texts import CODE, Graph, Map, Wrong, code_length
 
 FAULTS = (ELFError, ValueError, KeyError, IndexError, TypeError, AttributeError, OverflowError, MemoryError, RecursionError)
 

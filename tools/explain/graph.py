@@ -1,8 +1,8 @@
 """A graph in names: its classes by functions and labels, its sites by function, and what a policy changes."""
 
-from explain import classes, numbers
-from explain.elf import EBREAK, ECALL
-from explain.texts import OPENING, place_words, policy_lines
+from . import classes, numbers
+from .elf import EBREAK, ECALL
+from .texts import OPENING, place_words, policy_lines
 
 SHOWN, NAMED = 4, 8
 

@@ -1,6 +1,6 @@
 """The code of an image as units, with the object's functions, labels and instructions, and with where each unit goes."""
 
-from explain import units
+from . import units
 
 BY_WORD = {4: ", by the second word", 8: ", by the third word"}  # how far behind its destination a check reads
 

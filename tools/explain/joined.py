@@ -6,8 +6,8 @@ from itertools import accumulate
 
 from elftools.common.utils import parse_cstring_from_stream
 
-from explain.disassembly import Disassembly
-from explain.elf import Object
+from .disassembly import Disassembly
+from .elf import Object
 
 SHARED = "STB_GLOBAL", "STB_WEAK"
 GLOBAL, COMMON, WEAK = 1, 2, 3  # how a symbol defines its name, the strongest first

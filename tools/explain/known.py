@@ -16,9 +16,9 @@ Of each register, and of each slot of the stack, one of these is known, or nothi
 import bisect
 from typing import NamedTuple
 
-from explain import c_types
-from explain.debug import Debug
-from explain.elf import ABS32, ABS64, ADD32, HI20, OWN, PCREL_HI20
+from . import c_types
+from .debug import Debug
+from .elf import ABS32, ABS64, ADD32, HI20, OWN, PCREL_HI20
 
 WRITE = 1
 RELOCATED = ".data.rel.ro"  # constants with addresses, by -fpic

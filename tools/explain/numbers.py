@@ -1,7 +1,7 @@
 """Which system calls a program makes: the constant that stands in x17 before each ECALL, where it can be told."""
 
-from explain.elf import ECALL, fields
-from explain.units import BRANCH, JAL, branch_offset, jal_target
+from .elf import ECALL, fields
+from .units import BRANCH, JAL, branch_offset, jal_target
 
 STORE, JALR, ADDI, ADDIW, LUI, CALLED = 0x23, 0x67, 0x13, 0x1B, 0x37, 17  # x17 is a7
 CHANGED = [10]  # what a system call changes

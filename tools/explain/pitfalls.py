@@ -3,7 +3,7 @@ go to though its address is taken, code that is aligned, and short distances bet
 
 import bisect
 
-from explain.classes import IN_CODE, IN_DATA, Flow
+from .classes import IN_CODE, IN_DATA, Flow
 
 WORD = 4
 BITS = {33: 8, 34: 16, 37: 8, 38: 16}  # ADD8, ADD16, SUB8, SUB16

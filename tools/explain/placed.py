@@ -1,8 +1,8 @@
 """Where the data of objects stand in an image, as docs/COMMANDS.md ("link") has it: a map has the places of code alone."""
 
-from explain.elf import GOT_HI20
-from explain.joined import Joined, is_shared
-from explain.texts import Wrong
+from .elf import GOT_HI20
+from .joined import Joined, is_shared
+from .texts import Wrong
 
 DATA = 0x10000
 SLOT = 8  # bytes of the table of addresses for each symbol in it

@@ -4,14 +4,14 @@ What debugging information says of a variable in a register is used beside what 
 known. It is not trusted: a policy that is too narrow halts a program that is right, and no more.
 """
 
-from explain import c_types
-from explain.debug import CFA
-from explain.dwarf import FAULTS
-from explain.elf import AUIPC, CALL, CALL_PLT, GOT_HI20, HI20, JALR, PCREL_HI20, fields
-from explain.known import Tables, Types, added, immediate, joined, signed, summed
-from explain.numbers import ADDI, LUI, STORE
-from explain.texts import Wrong
-from explain.units import BRANCH, JAL, SYSTEM, branch_offset, jal_target
+from . import c_types
+from .debug import CFA
+from .dwarf import FAULTS
+from .elf import AUIPC, CALL, CALL_PLT, GOT_HI20, HI20, JALR, PCREL_HI20, fields
+from .known import Tables, Types, added, immediate, joined, signed, summed
+from .numbers import ADDI, LUI, STORE
+from .texts import Wrong
+from .units import BRANCH, JAL, SYSTEM, branch_offset, jal_target
 
 LOAD, REGISTERS = 0x03, 0x33
 ANCHOR = ".LANCHOR"  # from where gcc counts

@@ -2,10 +2,10 @@
 
 import re
 
-from explain import table
-from explain.classes import Flow, place_of
-from explain.elf import fields
-from explain.texts import place_words, policy_lines
+from . import table
+from .classes import Flow, place_of
+from .elf import fields
+from .texts import place_words, policy_lines
 
 TYPES = {1: "an object", 2: "a linked program", 3: "a shared or position independent program", 4: "a core dump"}
 MACHINES = {3: "x86", 40: "ARM", 62: "x86-64", 183: "AArch64", 243: "RISC-V"}

@@ -1,8 +1,8 @@
 """The report of a run, or another answer about an image, in names."""
 
-from explain import numbers
-from explain.elf import ECALL
-from explain.texts import HANDLERS, OPENING, first_line, report_of
+from . import numbers
+from .elf import ECALL
+from .texts import HANDLERS, OPENING, first_line, report_of
 
 CAUSES = {
     "__cfi_bad_target": "the address that it was to go to is no target of its class",

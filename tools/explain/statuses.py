@@ -1,6 +1,6 @@
 """The status that rvcfi ended with, by what it printed: docs/COMMANDS.md has all of them. A pipe hands on the text alone."""
 
-from explain.texts import report_of
+from .texts import report_of
 
 NO_TEXT = 4  # it may have been 5 too
 BY_WORD = {"rewritten": 0, "accepted": 0, "same": 0, "refused": 1, "rejected": 1, "differs": 1, "usage:": 2, "read": 3, "too": 6,

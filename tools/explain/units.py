@@ -2,7 +2,7 @@
 
 from typing import NamedTuple
 
-from explain.texts import CODE, HANDLERS, OPENING
+from .texts import CODE, HANDLERS, OPENING
 
 LUI, BRANCH, JAL, STORE, SYSTEM = 0x37, 0x63, 0x6F, 0x23, 0x73
 ROOM, MASK, RETURN = 0x03019F13, 0xFFCFFF93, 0xFF81BF83  # the words that tell calls (of lean images enters), checks and returns

@@ -4,16 +4,13 @@ import os
 import re
 import shlex
 import shutil
-import sys
 from concurrent.futures import ThreadPoolExecutor
 from dataclasses import dataclass
 
-HERE = os.path.dirname(os.path.abspath(__file__))
-sys.path.append(os.path.join(HERE, "..", "..", "tests", "real"))
-
-import programs
-
+from . import compilers
 from .debian import archive, asked, unpacked
+
+HERE = os.path.dirname(os.path.abspath(__file__))
 
 SUITES = {"picolibc": "trixie", "llvm-toolchain-16": "bookworm"}
 BUILTINS = "compiler-rt/lib/builtins"
@@ -61,23 +58,23 @@ class Compiler:
 
 def gcc():
     """gcc, with its own headers behind the library's."""
-    found = programs.gcc()
-    headers = [programs.must(found.command + ["-print-file-name=" + name]).decode().strip() for name in ("include", "include-fixed")]
+    found = compilers.gcc()
+    headers = [compilers.must(found.command + ["-print-file-name=" + name]).decode().strip() for name in ("include", "include-fixed")]
     options = [each for each in found.options if each not in FREESTANDING] + SMALLER + ["-fno-section-anchors"] + LINUX
     return Compiler(found.command, options + ["-nostdinc"], ["-Wl,--gc-sections,-e,_start"],
-                    [word for name in headers for word in ("-isystem", name)], programs.binutils("ar"), programs.binutils("nm"))
+                    [word for name in headers for word in ("-isystem", name)], compilers.binutils("ar"), compilers.binutils("nm"))
 
 
 def clang():
     """clang, with GNU's linker where there is one: LLVM's does not leave out what is not called."""
-    found = programs.clang()
+    found = compilers.clang()
     name = found.command[0]
     options = [each for each in found.options if each not in FREESTANDING] + SMALLER + ["-ftrap-function=abort", "-nostdlibinc"]
-    tools = [programs.tool(name.replace("clang", "llvm-" + each), "riscv64-linux-gnu-" + each) for each in ("ar", "nm")]
+    tools = [compilers.tool(name.replace("clang", "llvm-" + each), "riscv64-linux-gnu-" + each) for each in ("ar", "nm")]
     try:
-        linker, join = programs.binutils("ld"), ["-Wl,--gc-sections,-e,_start"]
-    except programs.Missing:
-        linker, join = programs.tool(name.replace("clang", "ld.lld"), "ld.lld"), []
+        linker, join = compilers.binutils("ld"), ["-Wl,--gc-sections,-e,_start"]
+    except compilers.Missing:
+        linker, join = compilers.tool(name.replace("clang", "ld.lld"), "ld.lld"), []
     # picolibc turns relaxation off for a linker below 15, and calls of static functions would have no relocation
     return Compiler(found.command + ["--ld-path=" + shutil.which(linker)], options + UNUSED, join, [], *tools)
 
@@ -102,7 +99,7 @@ def in_place_of_assembly(compiler, source, folder):
     words = compiler.words(folder) + ["-O2", "-w", "-I", os.path.join(libc, "locale")]
     for name in IN_C:
         path = os.path.abspath(os.path.join(folder, "build", name + ".o"))
-        programs.must(words + ["-c", os.path.join(libc, "string", name + ".c"), "-o", path])
+        compilers.must(words + ["-c", os.path.join(libc, "string", name + ".c"), "-o", path])
         asked([compiler.ar, "d", archived, name + ".S.o"], folder)
         asked([compiler.ar, "rs", archived, path], folder)
 
@@ -122,7 +119,7 @@ def with_builtins(compiler, source, folder):
 
     def compiled(name):
         path = os.path.join(objects, "builtin_" + name[:-2] + ".o")
-        programs.must(words + [os.path.join(source, BUILTINS, name), "-o", path])
+        compilers.must(words + [os.path.join(source, BUILTINS, name), "-o", path])
         return path
 
     with ThreadPoolExecutor(os.cpu_count()) as pool:
@@ -133,11 +130,11 @@ def with_builtins(compiler, source, folder):
 def with_start(compiler, heap, folder):
     """Adds the start and the system calls."""
     words = compiler.words(folder) + ["-O2", "-DHEAP_BYTES=%dL" % (heap << 20), "-c"]
-    programs.must(words + [os.path.join(HERE, "system.c"), "-o", os.path.join(folder, "lib", "start.o")])
+    compilers.must(words + [os.path.join(HERE, "system.c"), "-o", os.path.join(folder, "lib", "start.o")])
 
 
 def with_command(compiler, folder):
-    """Writes the compiler of hardened programs."""
+    """Writes the compiler of hardened compilers."""
     with open(os.path.join(HERE, "cc.sh")) as file:
         text = file.read()
     place = os.path.abspath(folder)

@@ -1,4 +1,4 @@
-//! What small objects become that call, jump, branch or write: tests/harts/forms.py at the top of the repository prints this.
+//! What small objects become that call, jump, branch or write: tests/model/forms.py at the top of the repository prints this.
 
 use crate::forms::{Program, Units};
 use crate::given::{Given, Source};

@@ -1,4 +1,4 @@
-//! Objects whose jumps go through pointers, as tests/objects/make_pointers.py at the top of the repository prints them.
+//! Objects whose jumps go through pointers, as tests/objects/make_samples.py at the top of the repository prints them.
 
 /// Jumps through a pointer to one of two functions; a third one, which nobody calls, has a computed call.
 pub static Q: &[u8] = b"\

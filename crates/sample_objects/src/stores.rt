@@ -1,4 +1,4 @@
-//! Objects whose stores may stand behind one mask, as tests/objects/make_stores.py at the top of the repository prints them.
+//! Objects whose stores may stand behind one mask, as tests/objects/make_samples.py at the top of the repository prints them.
 
 /// Calls through a pointer; its stores are targets of a jump, a branch and a call, of a pointer and of a symbol, or follow one of these.
 pub static LED: &[u8] = b"\

@@ -1,5 +1,5 @@
 //! The words of each program's units, as binutils make them of the sources in tests/units at the top of the
-//! repository (tests/units/words.sh prints them).
+//! repository (tests/units/words.py prints them).
 
 /// The prologue, its call of the entry at 40000040h included.
 pub const PROLOGUE: [u32; 16] = [

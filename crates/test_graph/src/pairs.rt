@@ -1,5 +1,5 @@
 //! Images of each version with graphs of each version: whether they are accepted, and if not, by which rule and where. What is right
-//! follows from what the rules say in words; a model of them, `tests/harts/rules.py` at the top of the repository, says the same.
+//! follows from what the rules say in words; a model of them, `tests/model/rules.py` at the top of the repository, says the same.
 
 use crate::answered::{Words, is_answered};
 use cfi_graph::{Graph, read_graph};

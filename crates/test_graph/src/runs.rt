@@ -1,5 +1,5 @@
 //! Runs of programs with graphs of version 2 while a script turns the pointers by which they call and jump. Those of one hart are
-//! worked out by hand; all are those of a model of the machine, `tests/harts` at the top of the repository.
+//! worked out by hand; all are those of a model of the machine, `tests/model` at the top of the repository.
 
 use crate::ended::{Ended, ends_alone, ends_in_turns, has_ended};
 use cfi_step::{Handler, Hostile, RunEnd};

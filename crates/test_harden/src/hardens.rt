@@ -1,5 +1,5 @@
 //! The command `harden`: in the form `plain` it does what `rewrite` does; in the form `harts` what it writes is accepted, runs
-//! and compares. The reports of runs are what a model of the machine, tests/harts at the top of the repository, answers.
+//! and compares. The reports of runs are what a model of the machine, tests/model at the top of the repository, answers.
 
 use crate::rewrites;
 use crate::waiting::add_waiting;

@@ -1,5 +1,5 @@
 //! The command `harden` in the forms where calls and jumps have labels of their own: what it writes is accepted, runs and compares.
-//! The reports of runs are what a model of the machine, tests/harts at the top of the repository, answers.
+//! The reports of runs are what a model of the machine, tests/model at the top of the repository, answers.
 
 use crate::waiting::add_waiting;
 use rv_word::NoMemory;

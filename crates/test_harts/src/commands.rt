@@ -1,5 +1,5 @@
 //! Command lines of runs by several harts, through the whole tool. The tables are what a model of the machine answers
-//! (tests/harts/rows.py at the top of the repository prints them).
+//! (tests/model/harts_tables.py at the top of the repository prints them).
 
 use rv_word::NoMemory;
 use sample_calls::{add_image, add_image_of_harts, add_texts, is_answered, rows};

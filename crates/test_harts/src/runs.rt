@@ -67,7 +67,7 @@ struct Row {
     walks: &'static [(u64, u64)],
 }
 
-/// The rows are those of a model of the machine, `tests/harts` at the top of the repository.
+/// The rows are those of a model of the machine, `tests/model` at the top of the repository.
 static ROWS: [Row; 15] = [
     // One hart, and two and eight of which each exits in its seventeenth step.
     Row {

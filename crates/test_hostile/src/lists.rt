@@ -1,4 +1,4 @@
-//! Images whose system calls are guarded, and their graphs: what is put of each. tests/harts/lists.py at the top of the repository
+//! Images whose system calls are guarded, and their graphs: what is put of each. tests/model/lists_tables.py at the top of the repository
 //! prints this, by its model of the rules.
 
 use crate::pairs::verifies;

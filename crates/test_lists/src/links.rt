@@ -1,5 +1,5 @@
 //! The commands `link` and `compare-link`: objects that are joined, in each form, and what is refused of them. The objects and
-//! the table of links are those of tests/harts/links.py, by models of the join, of hardening and of the machine.
+//! the table of links are those of tests/model/links_table.py, by models of the join, of hardening and of the machine.
 
 use rv_word::NoMemory;
 use sample_calls::{add_texts, answers, decoded, ends_with, first_wrong};

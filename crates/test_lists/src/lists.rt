@@ -1,5 +1,5 @@
 //! Objects that are hardened under lists of system calls, in each form: what is put, that it is accepted, its runs and what comparing
-//! tells. tests/harts/lists.py at the top of the repository prints this, by its models of the join, of hardening and of the machine.
+//! tells. tests/model/lists_tables.py at the top of the repository prints this, by its models of the join, of hardening and of the machine.
 
 use crate::links::MAIN;
 use rv_word::NoMemory;

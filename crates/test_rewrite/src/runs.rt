@@ -114,7 +114,7 @@ static RUNS: [(Form, Run); 21] = [
     )),
 ];
 
-/// The same of objects whose stores stand behind one mask; the numbers are the model's of tests/harts at the top of the repository.
+/// The same of objects whose stores stand behind one mask; the numbers are the model's of tests/model at the top of the repository.
 #[rattlefmt::skip]
 static STORES: [(Form, Run); 26] = [
     // Two stores behind one mask.

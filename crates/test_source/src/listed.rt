@@ -1,5 +1,5 @@
 //! Maps of objects that are hardened under lists of system calls, each ECALL with the size of its unit or with another one; and how
-//! their runs end, where each map is one of its program's. tests/harts/lists.py at the top of the repository prints this.
+//! their runs end, where each map is one of its program's. tests/model/lists_tables.py at the top of the repository prints this.
 
 use crate::placed::first_wrong;
 use sample_hardened::listed_programs;

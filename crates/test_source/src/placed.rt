@@ -1,5 +1,5 @@
 //! Maps of the objects of `sample_hardened` that store behind one mask: with as many stores behind each mask as hardening puts there,
-//! with fewer, and such as are not legal. tests/harts/placed.py at the top of the repository prints the tables.
+//! with fewer, and such as are not legal. tests/model/placed_tables.py at the top of the repository prints the tables.
 
 use sample_hardened::{Given, Program, file, storing_programs};
 use sample_source::{Asked, is_file, map};

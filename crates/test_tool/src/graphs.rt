@@ -1,5 +1,5 @@
 //! Graphs of version 2 through the tool, under images of either version. The counts of steps and the walks are worked out by hand,
-//! and are those of a model of the machine, tests/harts at the top of the repository.
+//! and are those of a model of the machine, tests/model at the top of the repository.
 
 use crate::calls::check;
 

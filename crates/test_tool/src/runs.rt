@@ -60,7 +60,7 @@ fn runs(rt: HostRuntime) {
     check(&rt, rt.alloc(), RUNS, 49);
 }
 
-/// The same of scripts for several harts, and of an image for several: what a model of the machine, tests/harts at the top of the
+/// The same of scripts for several harts, and of an image for several: what a model of the machine, tests/model at the top of the
 /// repository, answers. Of refusals the first stands, and each goes before a reject.
 const HARTS: &[u8] = b"\
     rvcfi,run,a.img,a.graph,alone,none,100 = 0: output 0\n\nstop exit 7\nsteps 13\nwalk 4\ntrail 4000000c 40000040 40000044 40000048\n;\

@@ -2,7 +2,7 @@
 use cfi_gen::object_of;
 use std::alloc::Global;
 
-/// A number, and of the object's bytes how many they are and their hash, as `tests/demo/object_of.py --sums` prints them.
+/// A number, and of the object's bytes how many they are and their hash, as `tests/demo/object_of.py` prints them.
 static SUMS: [(u32, usize, u64); 4] = [
     (0, 229_600, 0x903d_d2e3_589b_1104),
     (1, 228_872, 0xcdd2_2e7d_d582_544c),
