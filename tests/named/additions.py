@@ -31,8 +31,8 @@ ROWS = [
     ("a line of a graph without an address", ["calls_in", "is_head"], "`cfi_graph` `specs/Text`, `Reading`, `read.rt`, `write.rt`; "
      "`cfi_rules` `specs/Lines`; where a policy tells it, `Policy` of `cfi_policy`, `Raw` of `cfi_flow`, `Closed` of `cfi_closed`"),
     ("a rule", ["Astray", "ASTRAY"], "`cfi_verify` `all_hold.rt`; `rejection.rs` of the Rust crate; [FORMATS](FORMATS.md)"),
-    ("a command", ["Demo", "DEMO"], "its row in `COMMANDS` of `tool_words`; a file of `src` and one of `specs` in `cfi_pairs` or "
-     "`tool_commands`; `refusals` where a file that it reads is refused"),
+    ("a command", ["Demo", "DEMO"], "its row in `COMMANDS` of `tool_words`; a file of `src` and one of `specs` in `tool_images` or "
+     "`tool_objects`; `refusals` where a file that it reads is refused"),
     ("a refusal", ["CodeTooLarge"], "the table of [COMPILING](COMPILING.md), which `tools/explain` reads"),
     ("a relocation", ["R_RISCV_PCREL_HI20", "RelativeHigh"], "`rv_reloc` `code.rt` or `data.rt` with `specs/Word` or `Data`; "
      "`tests/relocations/rows.py`"),

@@ -3,8 +3,8 @@ use Rattle.std.proofs.Common.{◌≡◌, ℕ, List, [], ◌∷◌, Some, Ok, sub
 use Rattle.tool_common.specs.Reads.{Content, IsLong, IsReached, IsUnread}
 use Rattle.tool_common.specs.declared.read.Unread.TheVariants.{Fault, TooLong}
 use Rattle.tool_common.proofs.Held.{none_long}
-use Rattle.tool_commands.proofs.Complete.{all_held, compare_complete, rewrite_complete}
-use Rattle.cfi_pairs.proofs.Complete.{run_complete, verify_complete}
+use Rattle.tool_objects.proofs.Complete.{all_held, compare_complete, rewrite_complete}
+use Rattle.tool_images.proofs.Complete.{run_complete, verify_complete}
 use Rattle.cfi_tool.specs.Complete.{IsComplete}
 use Rattle.cfi_tool.specs.Explains.{Explains, ExplainsRequest, IsReadFault}
 use Rattle.cfi_tool.specs.Outcomes.{outcome_status}

@@ -1,14 +1,14 @@
 -- The files of an outcome that is explained.
 use Rattle.std.proofs.Common.{◌≡◌, ◌∙◌, [], ap, refl, sym}
-use Rattle.tool_commands.specs.Rewrite.{IsSpelledOut, RewriteWords, AreNamedApart, outputs_of}
+use Rattle.tool_objects.specs.Rewrite.{IsSpelledOut, RewriteWords, AreNamedApart, outputs_of}
 use Rattle.cfi_tool.specs.Explains.{ExplainsRequest}
 use Rattle.cfi_tool.specs.Outcomes.{outcome_outputs}
 use Rattle.tool_common.specs.Reads.{Content}
 use Rattle.cfi_tool.specs.Request.{Request, WritesNone, asks, compare as compares, demo as demos, rewrite as rewrites, run as runs, verify as verifies}
 use Rattle.tool_common.specs.Writes.{AreApart, OutputParts}
 use Rattle.cfi_writer.specs.Hardened.{HardenedParts}
-use Rattle.tool_commands.specs.declared.rewrite.Rewritten.{Rewritten}
-use Rattle.tool_commands.specs.declared.rewrite.RewriteOutcome.TheVariants as outcome
+use Rattle.tool_objects.specs.declared.rewrite.Rewritten.{Rewritten}
+use Rattle.tool_objects.specs.declared.rewrite.RewriteOutcome.TheVariants as outcome
 use Rattle.cfi_tool.specs.declared.outcome.Outcome.{Outcome}
 use Rattle.cfi_tool.specs.declared.outcome.Outcome.TheVariants.{Rewrite, Verify, Run, Compare, Demo}
 

@@ -9,16 +9,16 @@ use Rattle.tool_common.specs.Reads.{Content, IsUnread, unread_status}
 use Rattle.tool_common.specs.Writes.{Wrote}
 use Rattle.tool_common.specs.declared.read.Unread.{Unread as UnreadFile}
 use Rattle.tool_common.specs.declared.read.Unread.TheVariants.{Fault, TooLong}
-use Rattle.tool_commands.specs.Compare.{CompareWords, IsTold, answer_status}
-use Rattle.tool_commands.specs.Demo.{ExplainsDemo, IsDemonstrated, IsExit, IsUnsettled, demo_status}
-use Rattle.cfi_report.specs.ReportText.{end_status}
-use Rattle.tool_commands.specs.Rewrite.{IsRewritten, RewriteWords}
-use Rattle.cfi_pairs.specs.Run.{IsRan, RunWords}
-use Rattle.tool_commands.specs.declared.compare.CompareOutcome.TheVariants as told
-use Rattle.tool_commands.specs.declared.demo.DemoOutcome.{DemoOutcome}
-use Rattle.tool_commands.specs.declared.demo.DemoOutcome.TheVariants as shown
-use Rattle.tool_commands.specs.declared.rewrite.RewriteOutcome.TheVariants as rewritten
-use Rattle.cfi_pairs.specs.declared.run.RunOutcome.TheVariants as ran
+use Rattle.tool_objects.specs.Compare.{CompareWords, IsTold, answer_status}
+use Rattle.tool_objects.specs.Demo.{ExplainsDemo, IsDemonstrated, IsExit, IsUnsettled, demo_status}
+use Rattle.tool_report.specs.ReportText.{end_status}
+use Rattle.tool_objects.specs.Rewrite.{IsRewritten, RewriteWords}
+use Rattle.tool_images.specs.Run.{IsRan, RunWords}
+use Rattle.tool_objects.specs.declared.compare.CompareOutcome.TheVariants as told
+use Rattle.tool_objects.specs.declared.demo.DemoOutcome.{DemoOutcome}
+use Rattle.tool_objects.specs.declared.demo.DemoOutcome.TheVariants as shown
+use Rattle.tool_objects.specs.declared.rewrite.RewriteOutcome.TheVariants as rewritten
+use Rattle.tool_images.specs.declared.run.RunOutcome.TheVariants as ran
 use Rattle.cfi_tool.specs.Explains.{Explains, ExplainsRequest}
 use Rattle.cfi_tool.specs.Outcomes.{outcome_outputs, outcome_status, outcome_text}
 use Rattle.cfi_tool.specs.Request.{Request, compare as compares, demo as demos, asks, names_of, taken, rewrite as rewrites, run as runs}

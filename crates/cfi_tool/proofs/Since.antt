@@ -6,7 +6,7 @@ use Rattle.tool_io.specs.declared.files.Files.{Ghosts}
 use Rattle.cfi_tool.specs.Finishing.{IsShort, IsStopped}
 use Rattle.cfi_tool.specs.Outcomes.{outcome_outputs, outcome_status}
 use Rattle.tool_common.specs.Writes.{AreWhole, IsTorn, OutputParts, Wrote}
-use Rattle.tool_commands.specs.declared.rewrite.RewriteOutcome.TheVariants as outcome
+use Rattle.tool_objects.specs.declared.rewrite.RewriteOutcome.TheVariants as outcome
 use Rattle.cfi_tool.specs.declared.outcome.Outcome.{Outcome}
 use Rattle.cfi_tool.specs.declared.outcome.Outcome.TheVariants.{Usage, Help, Version, Unread, Rewrite, Verify, Run, Compare, Demo}
 

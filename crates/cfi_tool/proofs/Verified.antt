@@ -9,8 +9,8 @@ use Rattle.tool_words.specs.Reading.{Reading, clap_reading, if_alone, reading}
 use Rattle.tool_words.proofs.Top.{asks_as_read}
 use Rattle.tool_common.specs.Reads.{Content}
 use Rattle.tool_common.specs.declared.read.Unread.TheVariants.{Fault, TooLong}
-use Rattle.cfi_pairs.specs.Verify.{IsAccepted, VerifyWords}
-use Rattle.cfi_pairs.specs.declared.verify.Verdict.TheVariants as verdict
+use Rattle.tool_images.specs.Verify.{IsAccepted, VerifyWords}
+use Rattle.tool_images.specs.declared.verify.Verdict.TheVariants as verdict
 use Rattle.cfi_tool.specs.Explains.{Explains, ExplainsRequest}
 use Rattle.cfi_tool.specs.Outcomes.{outcome_status, outcome_text}
 use Rattle.cfi_tool.specs.Request.{Request, Taken, Verifies, asks, helps, if_request, request_of, taken, taken_by, tells_version, verify as verifies}

@@ -2,8 +2,8 @@
 -- a cause in the files.
 use Rattle.std.specs.Prelude.{◌≡◌, ◌⊎◌, ◌≤◌, ℕ}
 use Rattle.tool_common.specs.Reads.{Content}
-use Rattle.tool_commands.specs.Complete.{CompareIsComplete, RewriteIsComplete}
-use Rattle.cfi_pairs.specs.Complete.{RunIsComplete, VerifyIsComplete}
+use Rattle.tool_objects.specs.Complete.{CompareIsComplete, RewriteIsComplete}
+use Rattle.tool_images.specs.Complete.{RunIsComplete, VerifyIsComplete}
 use Rattle.cfi_tool.specs.Request.{Request, compare, demo, rewrite, run, verify}
 
 abbrev pub IsComplete : Content → Request → ℕ → Type 0

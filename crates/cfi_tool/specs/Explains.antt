@@ -2,11 +2,11 @@
 use Rattle.std.specs.Prelude.{◌≡◌, ℕ, List, take, ⊤, Option, Result, Ok, Err}
 use Rattle.std.specs.Io.KnownBytes.{Appends}
 use Rattle.rv_word.specs.declared.no_memory.NoMemory.{NoMemory}
-use Rattle.tool_commands.specs.Compare.{ExplainsCompare}
-use Rattle.tool_commands.specs.Demo.{ExplainsDemo}
-use Rattle.tool_commands.specs.Rewrite.{ExplainsRewrite}
-use Rattle.cfi_pairs.specs.Run.{ExplainsRun}
-use Rattle.cfi_pairs.specs.Verify.{ExplainsVerdict}
+use Rattle.tool_objects.specs.Compare.{ExplainsCompare}
+use Rattle.tool_objects.specs.Demo.{ExplainsDemo}
+use Rattle.tool_objects.specs.Rewrite.{ExplainsRewrite}
+use Rattle.tool_images.specs.Run.{ExplainsRun}
+use Rattle.tool_images.specs.Verify.{ExplainsVerdict}
 use Rattle.tool_common.specs.Reads.{Content, IsUnread}
 use Rattle.cfi_tool.specs.Request.{Request, compare as compares, demo as demos, names_of, helps, asks, taken, tells_version, untaken, rewrite as rewrites, run as runs, verify as verifies}
 use Rattle.cfi_tool.specs.declared.outcome.Outcome.{Outcome}

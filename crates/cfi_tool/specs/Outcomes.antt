@@ -1,10 +1,10 @@
 -- The text and the status of what a command comes to.
 use Rattle.std.specs.Prelude.{ℕ, List, [], string_bytes}
-use Rattle.tool_commands.specs.Compare.{compare_line, compare_status}
-use Rattle.tool_commands.specs.Demo.{demo_status, demo_text}
-use Rattle.tool_commands.specs.Rewrite.{rewrite_line, rewrite_outputs, rewrite_status}
-use Rattle.cfi_pairs.specs.Run.{run_status, run_text}
-use Rattle.cfi_pairs.specs.Verify.{verdict_line, verdict_status}
+use Rattle.tool_objects.specs.Compare.{compare_line, compare_status}
+use Rattle.tool_objects.specs.Demo.{demo_status, demo_text}
+use Rattle.tool_objects.specs.Rewrite.{rewrite_line, rewrite_outputs, rewrite_status}
+use Rattle.tool_images.specs.Run.{run_status, run_text}
+use Rattle.tool_images.specs.Verify.{verdict_line, verdict_status}
 use Rattle.tool_common.specs.Lines.{with_newline}
 use Rattle.tool_common.specs.Writes.{OutputParts}
 use Rattle.tool_common.specs.Reads.{unread_line, unread_status}

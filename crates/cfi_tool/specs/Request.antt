@@ -9,12 +9,12 @@ use Rattle.tool_words.specs.CommandLine.{COMPARE, COMPARE_LINK, DEMO, HARDEN, LI
 use Rattle.tool_words.specs.Plain.{IsAmong, IsPlainRequest, is_plain}
 use Rattle.tool_words.specs.declared.end.WordsEnd.{WordsEnd}
 use Rattle.tool_words.specs.declared.end.WordsEnd.TheVariants as ends
-use Rattle.tool_commands.specs.Compare.{CompareWords, compare_asked, compare_link_words, compare_names, compare_words}
-use Rattle.tool_commands.specs.Demo.{demo_asked, demo_words}
-use Rattle.tool_commands.specs.Rewrite.{AreNamedApart, RewriteWords, harden_words, link_words, rewrite_asked, rewrite_names, rewrite_words}
+use Rattle.tool_objects.specs.Compare.{CompareWords, compare_asked, compare_link_words, compare_names, compare_words}
+use Rattle.tool_objects.specs.Demo.{demo_asked, demo_words}
+use Rattle.tool_objects.specs.Rewrite.{AreNamedApart, RewriteWords, harden_words, link_words, rewrite_asked, rewrite_names, rewrite_words}
 use Rattle.tool_common.specs.Reads.{file_names}
-use Rattle.cfi_pairs.specs.Run.{RunWords, run_asked, run_names, run_words}
-use Rattle.cfi_pairs.specs.Verify.{VerifyWords, verify_asked, verify_names, verify_words}
+use Rattle.tool_images.specs.Run.{RunWords, run_asked, run_names, run_words}
+use Rattle.tool_images.specs.Verify.{VerifyWords, verify_asked, verify_names, verify_words}
 use Rattle.cfi_tool.specs.declared.request.Request as R
 use Rattle.cfi_tool.specs.declared.request.Request.TheVariants.{Rewrite, Verify, Run, Compare, Demo}
 

@@ -5,11 +5,11 @@ ghost use Rattle.std.specs.Io.KnownBytes.{Appends, Keeps};
 ghost use Rattle.tool_io.specs.Faults.{Counts, Rose};
 ghost use Rattle.tool_io.specs.Names.{AreRead};
 ghost use Rattle.tool_io.specs.Reading.{CountsReads, IsOnlyRead};
-ghost use Rattle.tool_commands.specs.Compare.{CompareWords, IsTold};
-ghost use Rattle.tool_commands.specs.Demo.{IsDemonstrated};
-ghost use Rattle.tool_commands.specs.Rewrite.{IsRewritten, RewriteWords};
-ghost use Rattle.cfi_pairs.specs.Run.{IsRan, RunWords};
-ghost use Rattle.cfi_pairs.specs.Verify.{IsAccepted, VerifyWords};
+ghost use Rattle.tool_objects.specs.Compare.{CompareWords, IsTold};
+ghost use Rattle.tool_objects.specs.Demo.{IsDemonstrated};
+ghost use Rattle.tool_objects.specs.Rewrite.{IsRewritten, RewriteWords};
+ghost use Rattle.tool_images.specs.Run.{IsRan, RunWords};
+ghost use Rattle.tool_images.specs.Verify.{IsAccepted, VerifyWords};
 ghost use Rattle.cfi_tool.specs.Complete.{IsComplete};
 ghost use Rattle.cfi_tool.specs.Explains.{Explains, IsPart, IsRead, IsReadFault, IsTooLongFile};
 ghost use Rattle.cfi_tool.specs.Finishing.{IsShort, IsStopped};
@@ -123,7 +123,7 @@ pub fn rvcfi<F: Files, K: Sink>(alloc: Global, words: &[String], files: &mut F, 
     // To understand this contract read first, in this order: `Files` and `Sink` of tool_io, what is told of files and of an output; in specs/
     // `taken` of Request, what the words ask for, and `names_of`, the files that are read for it; `Outcome` of outcome.rt, what a command line
     // comes to, and of Outcomes its `outcome_status`, `outcome_text` and `outcome_outputs`; `Explains`, an outcome's cause, which for a command's
-    // own is `ExplainsVerdict` or `ExplainsRun` of cfi_pairs, `ExplainsRewrite`, `ExplainsCompare` or `ExplainsDemo` of tool_commands; `Wrote` of
+    // own is `ExplainsVerdict` or `ExplainsRun` of tool_images, `ExplainsRewrite`, `ExplainsCompare` or `ExplainsDemo` of tool_objects; `Wrote` of
     // tool_common and `Appends` of std, what is written and put. Then the next clause says it all, but for 4 and 5; those after it say what
     // follows of single statuses, and when each may come.
 

@@ -2,10 +2,10 @@
 //! Its call is `rvcfi`; another is the same over files that never fail.
 #![tactic(auto)]
 
-pub use cfi_pairs::Verdict;
 pub use command::rvcfi;
 pub use sure::rvcfi_over_sure_files;
 pub use tool_common::status::NO_MEMORY;
+pub use tool_images::Verdict;
 
 mod command;
 mod outcome;

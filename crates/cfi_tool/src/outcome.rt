@@ -5,12 +5,12 @@ ghost use Rattle.tool_io.specs.declared.ends.OutEnd.TheVariants as OutEnd;
 ghost use Rattle.cfi_tool.specs.Outcomes.{outcome_outputs, outcome_status, outcome_text};
 ghost use Rattle.tool_common.specs.Writes.{AreApart, IsCut, IsTorn, KeepsReads, Wrote};
 
-use cfi_pairs::{RunOutcome, Verdict};
 use rv_word::NoMemory;
 use std::alloc::Global;
-use tool_commands::{CompareOutcome, DemoOutcome, RewriteOutcome};
 use tool_common::{Unread, line, status};
+use tool_images::{RunOutcome, Verdict};
 use tool_io::{Files, OutEnd};
+use tool_objects::{CompareOutcome, DemoOutcome, RewriteOutcome};
 use tool_words::usage;
 
 /// What a command line comes to.

@@ -7,13 +7,13 @@ ghost use Rattle.cfi_tool.specs.Request.{IsKept, IsRight, IsWordsEnd, TakenMarke
 ghost use Rattle.tool_words.specs.Reading.{request_of as words_of, spelled};
 
 use crate::outcome::Outcome;
-use cfi_pairs::{RunRequest, run_files, verify_files};
 use std::alloc::Global;
-use tool_commands::{
+use tool_common::Stop;
+use tool_images::{RunRequest, run_files, verify_files};
+use tool_io::Files;
+use tool_objects::{
     CompareRequest, DemoRequest, RewriteRequest, compare_files, demonstrate, rewrite_files,
 };
-use tool_common::Stop;
-use tool_io::Files;
 use tool_words::{Asked, VerifyWords, WordsEnd, read_words};
 
 /// What the words of a command line ask for.

@@ -1,8 +1,8 @@
 use Rattle.std.proofs.Common.{◌≡◌, ◌⊎◌, ℕ, arith, inl, inr, rules, subst, sym}
 use Rattle.tool_words.specs.Reading.{spelled}
-use Rattle.tool_commands.specs.Compare.{IsTold}
-use Rattle.tool_commands.specs.Demo.{IsDemonstrated}
-use Rattle.cfi_pairs.specs.Run.{IsRan}
+use Rattle.tool_objects.specs.Compare.{IsTold}
+use Rattle.tool_objects.specs.Demo.{IsDemonstrated}
+use Rattle.tool_images.specs.Run.{IsRan}
 use Rattle.cfi_tool.specs.Outcomes.{outcome_outputs, outcome_text}
 use Rattle.cfi_tool.specs.Request.{compare, demo, rewrite, run, taken}
 use Rattle.cfi_tool.specs.Complete.{IsComplete}

@@ -1,4 +1,0 @@
-use Rattle.cfi_pairs.proofs.verify.verdict_of.Goals as goal
-
-pub returns-in-Err : goal.returns-in-Err
-returns-in-Err c = c.unread.ensures c.args.image.now c.args.graph.items c.in-Err.ensures.refused

@@ -1,0 +1,38 @@
+-- What `rewrite` and `harden` write is read back.
+use Rattle.std.proofs.Common.{◌∙◌, ap, refl, subst}
+use Rattle.rv_word.specs.Form.{image_version}
+use Rattle.cfi_graph.specs.Graph.{GraphParts}
+use Rattle.cfi_map_text.specs.MapText.{map_of}
+use Rattle.cfi_map_text.proofs.MapLaws.{map_of-map_text}
+use Rattle.cfi_map.specs.GraphAtMap.{ProgramAtMap}
+use Rattle.cfi_map.specs.LegalMap.{IsLegalMap}
+use Rattle.tool_common.specs.Writes.{OutputParts}
+use Rattle.tool_objects.specs.Compare.{form_told}
+use Rattle.tool_objects.specs.Laws.{WrittenIsRead}
+use Rattle.tool_objects.proofs.FormProfile.{pair_formed}
+
+pub written_is_read : WrittenIsRead
+written_is_read words request hardened written made is =
+    let (object, (p, prepared, (s, labels, code, init, placed, room, in_range, w))) = made.is_hardened in
+    let read = ap (λ (o : OutputParts). map_of o.bytes) is.map ∙ map_of-map_text hardened.map is.map_right in
+    record {
+      hardened = hardened;
+      image = record { version = image_version p.form; code = code; init = init };
+      program = p;
+      spelled = record {
+        image_is = ap (λ (o : OutputParts). o.bytes) is.image ∙ w.image;
+        size = w.bytes.size;
+        graph_is = ap (λ (o : OutputParts). o.bytes) is.graph;
+        parts = is.graph_right;
+      };
+      well_formed =
+          pair_formed p.form (record { version = image_version p.form; code = code; init = init }) hardened.graph refl
+          (ap (λ (g : GraphParts). g.version) w.graph) w.well_formed;
+      version = ap image_version prepared.form;
+      prepared = (object, prepared);
+      form = ap form_told read ∙ w.map_form ∙ prepared.form;
+      map_is = record {
+        read = read;
+        legal = subst (λ (l : ProgramAtMap). IsLegalMap l.program l.closed l.entry hardened.map) placed.of w.map;
+      };
+    }
