@@ -40,7 +40,7 @@ def reach(sites, wanted):
 
 def checked(made):
     if made.told[0] or made.verified() != (0, b"accepted\n"):
-        sys.exit("%s, %s: %s" % (made.object, made.form, made.told[1].decode()))
+        sys.exit("%s, %s: %s" % (made.image, made.form, made.told[1].decode()))
     return made
 
 
@@ -48,7 +48,7 @@ def steps(made, given):
     """The steps of a run to its exit, and what it puts."""
     status, output, report = made.run(given)
     if status:
-        sys.exit("%s, %s: the run ended with status %d" % (made.object, made.form, status))
+        sys.exit("%s, %s: the run ended with status %d" % (made.image, made.form, status))
     return int(report["steps"][0]), output
 
 

@@ -4,7 +4,6 @@ import collections
 import os
 import random
 
-from tests.fuzz import samples
 from tests.fuzz.answers import wrong
 
 KIB = 1 << 10
@@ -90,6 +89,11 @@ class Figures:
         print("most memory beyond the usual: %.1f times what was read, printed and written (%s)" % self.largest)
 
 
+def read(path):
+    with open(path, "rb") as file:
+        return file.read()
+
+
 class Case:
     """A case: its random numbers, its files, and the calls that it made."""
 
@@ -132,7 +136,7 @@ class Case:
 
     def changed(self, words, call):
         """Which files a call changed that it may not, or None; what stands then are the case's files."""
-        now = {name: samples.read(self.path(name)) for name in self.names()}
+        now = {name: read(self.path(name)) for name in self.names()}
         others = set(now) | set(self.files)
         others -= written_by(words, call)
         names = [name for name in sorted(others) if now.get(name) != self.files.get(name)]

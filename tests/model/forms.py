@@ -604,7 +604,6 @@ LATER, DIGITS, WIDTH, PER_LINE = 16, "0123456789abcdefghijklmnopqrstuvwxyz", 120
 OBJECTS = {"programs": ("hardened_programs", ROWS + VARIED, "that call, jump, branch or write"),
           "stores": ("storing_programs", STORING, "that store behind one mask"),
           "calls": ("listed_programs", LISTING, "that may make the system calls of a list")}
-CRATE = CRATES / "sample_hardened" / "src"
 
 
 class Units(NamedTuple):
@@ -699,7 +698,6 @@ class Module:
     def __init__(self, name, tables):
         self.name, self.tables, self.used = name, tables, set()
         self.call, _, self.heading = OBJECTS[name]
-        self.path = CRATE / (name + ".rt")
         self.rows = [self.row(*each) for each in tables.rows[name]]
 
     def words(self, words):

@@ -54,7 +54,7 @@ def printed(program, python, folder):
         file.write("#!/bin/sh\nexec %s -B \"$@\"\n" % python)
     os.chmod(os.path.join(binaries, "python3"), 0o755)
     outputs = [os.path.join(folder, "output_%d" % number) for number in range(len(blocks()))]
-    parts = ["{\n%s} > %s 2> /dev/null\n" % (text.replace("str(ROOT)", str(ROOT)), out)
+    parts = ["{\n%s} > %s 2> /dev/null\n" % (text.replace("REPOSITORY", str(ROOT)), out)
              for (text, _), out in zip(blocks(), outputs)]
     given = dict(os.environ, HOME=home, PATH=binaries + ":" + os.environ["PATH"])
     compilers.run(["bash", "-s"], ("cd\n" + "".join(parts)).encode(), env=given)
