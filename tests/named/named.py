@@ -29,7 +29,7 @@ PATH = "sys.path.insert(0, str(Path(__file__).resolve().parents[%d]))"  # the on
 VARIANT = re.compile(r"\b(?:V\.|Unit::)(\w+)")
 NEARLY_ALL = 10
 # The definitions of refusals with numbers of their own, and those of images, which have one number.
-NUMBERED = "refusals/specs/Refusals.antt", "elf_object/specs/FaultText.antt", "obj_rules/specs/FaultText.antt"
+NUMBERED = "refusals/specs/Refusals.antt", "elf_object/specs/FaultText.antt", "obj_check/specs/FaultText.antt"
 OF_IMAGES = "elf_image/specs/RefusalText.antt"
 NUMBER = re.compile(r"^\w+_number \(?(\w+).* = (\d+)$", re.M)
 TEXT = re.compile(r"^\w+_text \(?(\w+).* = codes \"(\w+)", re.M)

@@ -19,10 +19,6 @@ few_sides version sides sorts = omega (arith, few_sorts version, ap length sorts
 pub classes_more : (sides : List Side) (i : ℕ) (d : Side) → i < length sides → classes_of (drop i sides) ≡ (get_or sides i d).classes ++ classes_of (drop (i + 1) sides)
 classes_more sides i d below = at_drop_more classes_of sides i d below
 
-pub count_more : (sides : List Side) (i : ℕ) (d : Side) → i < length sides →
-    length (classes_of (drop i sides)) ≡ length (get_or sides i d).classes + length (classes_of (drop (i + 1) sides))
-count_more sides i d below = ap length (classes_more sides i d below) ∙ length-append (get_or sides i d).classes (classes_of (drop (i + 1) sides))
-
 behind : (before n : ℕ) (o : Option ℕ) → option_map (λ k. before + k) (option_map (λ k. n + k) o) ≡ option_map (λ k. (before + n) + k) o
 behind before n None = refl
 behind before n (Some k) = ap (λ (m : ℕ). Some m) (omega arith)
@@ -32,10 +28,6 @@ among_more : (sides : List Side) (i place : ℕ) (d : Side) → i < length sides
     class_among (drop i sides) place ≡ option_or (class_of (get_or sides i d) place) (option_map (λ k. length (get_or sides i d).classes + k) (class_among (drop (i + 1) sides) place))
 unfolding class_among
 among_more sides i place d below = at_drop_more (λ (xs : List Side). class_among xs place) sides i d below
-
-pub among_first : (o : Option ℕ) → option_map (λ k. 0 + k) o ≡ o
-among_first None = refl
-among_first (Some k) = ap (λ (m : ℕ). Some m) (omega arith)
 
 pub among_found : (sides : List Side) (i place before k : ℕ) (d : Side) (whole : Option ℕ) → i < length sides →
     option_map (λ k. before + k) (class_among (drop i sides) place) ≡ whole → class_of (get_or sides i d) place ≡ Some k → Some (before + k) ≡ whole

@@ -1,4 +1,4 @@
-//! The bytes of hardened code: the prologue, the units and the closing.
+//! The bytes of hardened code: the prologue, with the closing, and then the units.
 
 ghost use Rattle.std.specs.Prelude.{◌≡◌, ◌+◌, ◌*◌, ◌%◌, ◌≤◌, ◌++◌, ◌∷◌, [], IfOk, OnOk, length, map};
 ghost use Rattle.rv_word.specs.MemoryMap.{CODE_SIZE, CODE_START, profile_with};
@@ -10,7 +10,8 @@ ghost use Rattle.cfi_rules.specs.Placed.{AllFit, placed_code};
 ghost use Rattle.cfi_rules.specs.Split.{code_words};
 ghost use Rattle.cfi_code.specs.Prologue.{before_call, begins_with, call_with, set_up_with};
 
-use cfi_unit::{Unit, emit};
+use cfi_emit::emit;
+use cfi_unit::Unit;
 use rv_code::encode;
 use rv_instr::{Immediate, ImmediateOp, Instr, Reg, RegisterOp, ShiftOp, UpperOp};
 use rv_word::memory_map::CODE_START;

@@ -12,7 +12,7 @@ pub enum Compared {
     Same(u64),
     /// At this index the lists differ, with the program's item and then the image's.
     Differs(u64, SideItem, SideItem),
-    /// Why the program's step at this place was not taken: a section and an offset in it.
+    /// Why the program's step at this place was not taken: a section's number and an offset in it, in bytes.
     Untame(Reason, u32, u64),
     /// The limit was reached, and up to there nothing differs.
     Limit,

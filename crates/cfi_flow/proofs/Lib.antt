@@ -10,4 +10,3 @@ mod Keeping
 mod Reaching
 mod Judged
 mod Stepping
-mod Rows

@@ -2,4 +2,3 @@ pub mod Every
 pub mod Writing
 pub mod Bounds
 pub mod Right
-pub mod Rows

@@ -5,10 +5,10 @@ use Rattle.rv_word.proofs.Cases.{cases_Option, mapped}
 use Rattle.elf_tables.specs.Header.{e_shnum}
 use Rattle.elf_object.specs.Fault.{fault_of as object_fault}
 use Rattle.obj_join.specs.Duplicate.{duplicate}
-use Rattle.obj_rules.specs.Fault.{fault_of}
-use Rattle.obj_rules.specs.declared.fault.ItemFault.{ItemFault}
-use Rattle.obj_rules.specs.declared.fault.ItemFault.TheVariants as items
-use Rattle.obj_said.specs.SaidOf.{said_by}
+use Rattle.obj_check.specs.Fault.{fault_of}
+use Rattle.obj_check.specs.declared.fault.ItemFault.{ItemFault}
+use Rattle.obj_check.specs.declared.fault.ItemFault.TheVariants as items
+use Rattle.obj_link.specs.SaidOf.{said_by}
 use Rattle.obj_items.specs.Added.{unread}
 use Rattle.obj_items.specs.Finished.{input_by, refusal_in, unfinished}
 use Rattle.refusals.specs.declared.refusal.Refusal.{Refusal}

@@ -5,4 +5,3 @@ pub mod Giving
 pub mod Preparing
 pub mod Joining
 pub mod Ready
-mod GivenRows

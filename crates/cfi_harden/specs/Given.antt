@@ -6,7 +6,7 @@ use Rattle.std.specs.Option.{option_or}
 use Rattle.elf_tables.specs.Header.{e_shnum}
 use Rattle.elf_object.specs.Fault.{fault_of as object_fault}
 use Rattle.obj_input.specs.Input.{InputParts}
-use Rattle.obj_rules.specs.Fault.{fault_of}
+use Rattle.obj_check.specs.Fault.{fault_of}
 use Rattle.obj_program.specs.Program.{Program}
 use Rattle.obj_items.specs.Added.{unread}
 use Rattle.obj_items.specs.Finished.{input_by, unfinished}

@@ -5,5 +5,4 @@ pub mod Lengthening
 pub mod Loops
 pub mod Widening
 pub mod Passing
-pub mod Rows
 pub mod Exits

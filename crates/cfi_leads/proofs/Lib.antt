@@ -1,4 +1,3 @@
-mod Rows
 pub mod Tables
 pub mod Called
 mod Spoiling

@@ -12,10 +12,6 @@ pub mod LaterPlaces
 pub mod LaterRuns
 mod Shortened
 mod Placements
-mod PlacingRows
-mod GroupRows
 mod LeanRows
 mod LeanLines
-mod LeanWindow
 mod SourceRows
-pub mod Ecalls

@@ -222,7 +222,7 @@ impl<'a, 'b> Mapped<'a, 'b> {
         }
     }
 
-    /// Where calls arrive at a place: where callees save sites, at what does so, or at a leaf's unit.
+    /// Where calls arrive at a place: at its gate; where callees save sites, at what does so, or else at its unit.
     pub fn arrival(&self, k: u64) -> u64
         requires place { k < count self.now.program }
         ensures value { result ≡ arrival self.now k }

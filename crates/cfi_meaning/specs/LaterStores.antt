@@ -12,7 +12,7 @@ abbrev pub is_at_store : ProgramAtMap → Option ℕ → Bool
 is_at_store layout None = false
 is_at_store layout (Some k) = is_store (item_of layout.program k).kind
 
--- a later store has one word, and the unit of a first one four at least
+-- a later store has one word, and the unit of a first one two at least
 abbrev pub is_at_later : ProgramAtMap → Option ℕ → Bool
 is_at_later layout None = false
 is_at_later layout (Some k) = is_store (item_of layout.program k).kind && gate layout (k + 1) == word layout k + 4

@@ -4,6 +4,5 @@ pub mod Law
 pub mod LinkKept
 pub mod StartSteps
 pub mod Begins
-pub mod Worked
 pub mod KindSteps
 pub mod OpeningSteps

@@ -61,9 +61,3 @@ module _ (unit_at : ℕ → Option U.Unit) (full : (a : ℕ) (u : U.Unit) → un
         behind = λ on. or_right (is_gate u && is_enter (unit_at (a + 4))) (not (is_fresh unit_at [] (after_unit u a))) (ap not (never_fresh (after_unit u a)));
         target = full_target a u (full a u e);
       })
-
--- and no leaf is anywhere
-pub no_leaf_of : (leaves : List Leaf) (k : ℕ) (leaf : Leaf) → leaves ≡ [] → slice_get leaves k ≡ Some leaf → ⊥
-no_leaf_of leaves k leaf none get =
-    let wrong : None ≡ Some leaf = sym (ap (λ (ls : List Leaf). slice_get ls k) none) ∙ get in
-    absurd (cc)

@@ -31,7 +31,6 @@ pub mod PlacedCode
 pub mod PlacedGraph
 pub mod PlacedRows
 pub mod ApartRows
-pub mod CallRows
 pub mod LeanRows
 pub mod LeanPlaced
 pub mod Walks

@@ -9,7 +9,7 @@ use text_lines::Address;
 pub enum Rule {
     /// The code does not begin with the prologue.
     Prologue,
-    /// No unit fits at a place where one must begin, or one does that the graph does not admit.
+    /// No unit fits at a place where one must begin, or one does that the graph does not admit, or not inside or outside of a leaf.
     Unit,
     /// A leaf does not begin or end at a unit's start, or a unit goes on to one of another kind.
     Leaf,
@@ -21,9 +21,9 @@ pub enum Rule {
     Unused,
     /// A computed transfer and the graph's site lines do not agree.
     Site,
-    /// A class's target is no gate of the class.
+    /// Of a class's target the word that the checks read is no gate of the class, or does not stand as it has to.
     Gate,
-    /// A gate of a class is not among the class's targets.
+    /// A gate with a class's label is at no such word of its targets.
     Astray,
     /// The last unit is not a stop.
     End,

@@ -14,6 +14,4 @@ pub mod GroupPlaces
 pub mod GroupStores
 pub mod Distances
 pub mod GroupMembers
-pub mod WorkedGroup
 pub mod WorkedLean
-pub mod WorkedLeanGroup

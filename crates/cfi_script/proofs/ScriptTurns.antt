@@ -74,10 +74,6 @@ is_allowed false turn given e = absurd cc
 abbrev pub with_turns : Turns → Result TurnsRead (End LineFault) → Result TurnsRead (End LineFault)
 with_turns front later = if_right later (λ read. Ok (record read { turns = front ++ read.turns }))
 
-pub no_turns : (later : Result TurnsRead (End LineFault)) → with_turns [] later ≡ later
-no_turns (Ok read) = refl
-no_turns (Err end) = refl
-
 one_more : (front : Turns) (turn : ℕ × ℕ) (later : Result TurnsRead (End LineFault))
     → with_turns (front ++ turn ∷ []) later ≡ with_turns front (if_right later (λ read. Ok (record read { turns = turn ∷ read.turns })))
 one_more front turn (Ok read) =

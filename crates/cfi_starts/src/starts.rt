@@ -73,7 +73,7 @@ impl<'a> Starts<'a> {
         self.listing.versions()
     }
 
-    /// Whether callees save the sites of calls: then the graph has leaves.
+    /// Whether callees save the sites of calls: then the graph may have leaves.
     pub fn has_leaves(&self) -> bool
         ensures by_graph { result ≡ has_leaves self.now.graph.version }
         ensures by_profile { result ≡ (profile_in self.now).callee_saves }
@@ -134,6 +134,7 @@ impl<'a> Starts<'a> {
         &self.listing
     }
 
+    /// The graph.
     pub fn graph(&self) -> &'a Graph
         ensures value { result.now ≡ self.now.graph }
         ensures graph_is { IsGraph result.now }

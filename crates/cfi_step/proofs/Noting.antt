@@ -41,16 +41,6 @@ set_elsewhere items hart k new t other at =
     slice_get-get_or items k t within
     ∙ ap Some (sym (get_or-set_other items hart k new t (λ e. other (sym e))) ∙ get_or_from_slice_get (set items hart new) k t t at)
 
--- all trails are of walks without addresses, where the one that is put among them is
-pub none_walked : (items : List TrailParts) (k : ℕ) (own : TrailParts) → All (IsTrailOf []) items → IsTrailOf [] own → All (IsTrailOf []) (set items k own)
-none_walked items k own empty is j d below =
-    let within : j < length items = omega (arith, below, length-set items k own) in
-    elim (cases_eq j k) [
-      | inl same ↦
-          subst (λ (t : TrailParts). IsTrailOf [] t) (sym (ap (λ i. get_or (set items k own) i d) same ∙ get_or-set_same items k own d (omega arith))) is
-      | inr other ↦ subst (λ (t : TrailParts). IsTrailOf [] t) (sym (get_or-set_other items k j own d other)) (empty j d within)
-    ]
-
 -- the trail in front goes to its place, and another comes to the front
 comes : (items : List TrailParts) (hart : ℕ) (stale own d : TrailParts) → own ≡ get_or items hart d → set (set items hart stale) hart own ≡ items
 comes items hart stale own d is = set-set items hart stale own ∙ ap (λ (t : TrailParts). set items hart t) is ∙ set-get_or items hart d

@@ -13,11 +13,11 @@ use rv_word::{Bytes, Places};
 /// A handler of the prologue.
 #[derive(Clone, Copy, PartialEq, Eq)]
 pub enum Handler {
-    /// `__cfi_bad_target`: a computed transfer to no target of its class, or a stop unit.
+    /// `__cfi_bad_target`: a computed transfer to no target of its class, a system call that is not listed, or a stop unit.
     BadTarget,
     /// `__cfi_bad_return`: a return to another place than its call's site.
     BadReturn,
-    /// `__cfi_deep`: a call where the shadow stack is full.
+    /// `__cfi_deep`: a call, or in lean images an enter, where the shadow stack is full.
     Deep,
 }
 

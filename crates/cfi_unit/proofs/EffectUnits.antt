@@ -33,10 +33,6 @@ pub set_other : (regs : Registers) (rd v k : ℕ) → (rd ≡ k → ⊥) → set
 set_other regs zero v k apart = refl
 set_other regs (suc rd) v k apart = rw (ne_eqb k (suc rd) (λ e. apart (sym e))) refl
 
-get_other : (regs regs' : Registers) (reg : ℕ) → regs' reg ≡ regs reg → get_reg regs' reg ≡ get_reg regs reg
-get_other regs regs' zero same = refl
-get_other regs regs' (suc reg) same = same
-
 -- a plain instruction writes no reserved register
 spared : (rd k : ℕ) → not (is_reserved rd) ≡ true → is_reserved k ≡ true → Some rd ≡ Some k → ⊥
 spared rd k free reserved same =

@@ -65,12 +65,6 @@ single_word (V.Plain instr) single = refl
 single_word (V.System op) single = refl
 single_word other single = absurd (cc)
 
--- what puts a site on top has more words than there are handlers
-pub pushing_words : (unit : U.Unit) → (flow_of unit).sites ≡ F.pushes → 3 < word_count unit
-pushing_words (V.Call target) pushes = omega arith
-pushing_words (V.Icall rs1 imm label) pushes = omega arith
-pushing_words other pushes = absurd (cc)
-
 -- a label that is tested has twenty bits, and an instruction of a unit's own is plain
 abbrev pub TestFits : Test → Type 0
 TestFits (F.borne which rs1 imm label) = label < 2 ^ 20
@@ -104,13 +98,6 @@ left_by_caller other = true
 
 abbrev pub by_caller : Flow → Bool
 by_caller f = saved_by_caller f.sites && left_by_caller f.exit
-
-pub full_by_caller : (unit : U.Unit) → is_full unit ≡ true → by_caller (flow_of unit) ≡ true
-full_by_caller (V.LinkCall target) full = absurd (cc)
-full_by_caller V.Enter full = absurd (cc)
-full_by_caller (V.LeanIcall rs1 imm label) full = absurd (cc)
-full_by_caller V.LeafReturn full = absurd (cc)
-full_by_caller other full = refl
 
 -- and they ask nothing of x1 and x4
 pub full_asks : (unit : U.Unit) (r : Registers) → is_full unit ≡ true → Asks unit r

@@ -1,7 +1,6 @@
 pub mod MemberWords
 pub mod GuardedWords
 pub mod Counts
-mod ReadEach
 pub mod Flows
 pub mod UnitInList
 pub mod Further
@@ -9,7 +8,6 @@ pub mod Apart
 pub mod FieldsRead
 pub mod Found
 pub mod Told
-pub mod KindsTried
 pub mod Splits
 pub mod LedBack
 pub mod Near
@@ -36,7 +34,6 @@ pub mod Others
 pub mod Sought
 pub mod Gates
 pub mod Events
-pub mod Vectors
 pub mod Worked
 pub mod EffectSteps
 pub mod EffectUnits
@@ -44,11 +41,9 @@ pub mod EffectStores
 pub mod EffectGuarded
 pub mod EffectTransfers
 pub mod EffectLean
-pub mod EffectMask
 pub mod EffectRows
 pub mod PrologueEffect
 pub mod EffectWorked
-pub mod EffectLeanWorked
 pub mod RegisterLaw
 pub mod MaskKept
 pub mod Holes
@@ -59,5 +54,4 @@ pub mod ShapedUnits
 pub mod MadeUnits
 mod ShapesApart
 mod ShapesUsed
-mod ShapesWorked
 pub mod FoundShapes

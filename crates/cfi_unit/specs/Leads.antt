@@ -16,7 +16,7 @@ use Rattle.cfi_unit.specs.Flow.{Exit, Flow, Sites, Test, flow_of}
 use Rattle.cfi_unit.specs.Place.{Place, handler, opening, closing, body}
 use Rattle.cfi_unit.specs.Shadow.{MOST_PENDING}
 
--- an address lies in code, and the word there, or the one behind it, is `lui x0,label`
+-- an address lies in code, and this word of it is `lui x0,label`
 pub record HasLabel (image : Memory) (which : TargetWord) (label v : ℕ) : Type 0 where
   pub round : v % 4 ≡ 0
   pub low : CODE_START ≤ v

@@ -94,7 +94,7 @@ past Second = 4
 past Third = 8
 
 -- the check of a computed transfer: clear the low two bits of the destination, halt unless it lies
--- in code, halt unless the word there, or the one behind it, is `lui x0, label`
+-- in code, halt unless this word of it is `lui x0, label`
 abbrev pub check : ℕ → ℕ → ℕ → ℕ → TargetWord → List Instr
 check at rs1 imm label which =
     Immediate Addi 31 rs1 imm

@@ -20,8 +20,8 @@ pub fn unit_keeps_registers()
     ensures { UnitKeepsRegisters }
 {}
 
-/// What the opening does: it is left to the entry, with the closing's address in x1 and on the shadow
-/// stack.
+/// What the opening does that saves its own call's site: it is left to the entry, with the closing's address in x1 and on the
+/// shadow stack. (Of lean images: cfi_runs.)
 pub fn opening_effect()
     ensures { OpeningEffect }
 {}

@@ -17,7 +17,7 @@ pub fn led(at: u64, field: Immediate<20>) -> u64
 
 /// The offset field of a jump from one address to another.
 #[inline(always)]
-pub(crate) fn field_between(from: u64, to: u64) -> Immediate<20>
+pub fn field_between(from: u64, to: u64) -> Immediate<20>
     ensures { result ≡ jump_offset from to }
 {
     Immediate::of((to.wrapping_sub(from) / 2 % 0x10_0000) as u32)
@@ -32,14 +32,14 @@ pub fn led_near(at: u64, field: Immediate<12>) -> u64
 }
 
 /// The offset field of a branch from one address to another.
-pub(crate) fn near_between(from: u64, to: u64) -> Immediate<12>
+pub fn near_between(from: u64, to: u64) -> Immediate<12>
     ensures { result ≡ near_offset from to }
 {
     Immediate::of((to.wrapping_sub(from) / 2 % 0x1000) as u32)
 }
 
 /// Whether a branch from one address can reach another.
-pub(crate) fn is_close(from: u64, to: u64) -> bool
+pub fn is_close(from: u64, to: u64) -> bool
     ensures { IsTrue result ↔ IsNear from to }
 {
     led_near(from, near_between(from, to)) == to
@@ -54,7 +54,7 @@ pub fn jump_between(from: u64, to: u64) -> Instr
 }
 
 /// Whether a jump from one address can reach another.
-pub(crate) fn is_reached(from: u64, to: u64) -> bool
+pub fn is_reached(from: u64, to: u64) -> bool
     ensures { IsTrue result ↔ Reaches from to }
 {
     led(from, field_between(from, to)) == to

@@ -3,8 +3,8 @@ ghost use Rattle.cfi_unit.specs.MaskLaw.{MaskStays};
 ghost use Rattle.cfi_unit.specs.Results.{RegistersStay};
 ghost use Rattle.cfi_unit.specs.UnitLaw.{UnitLaw};
 
-/// The unit law, as the contract of a function that computes nothing: a step from a word of a unit
-/// stays in the unit, or leaves it where the unit leads, or ends as the unit may end.
+/// The unit law, as the contract of a function that computes nothing: a step from a word of a unit, a handler, the closing or an
+/// opening that saves its own call's site stays in it, or leaves it where that leads, or ends as it may end.
 pub fn unit_law()
     ensures { UnitLaw }
 {}

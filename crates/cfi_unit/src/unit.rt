@@ -9,7 +9,7 @@ use rv_word::Numbers;
 pub enum Unit {
     /// `lui x0,label`: where a computed jump or call of a class may arrive.
     Gate(Immediate<20>),
-    /// One instruction that neither transfers nor stores nor writes a reserved register.
+    /// One instruction that is no transfer, store, ECALL, EBREAK or gate, and writes no reserved register.
     Plain(Instr),
     /// A branch over the jump that follows it; the jump's target.
     Branch(BranchOp, Reg, Reg, u64),

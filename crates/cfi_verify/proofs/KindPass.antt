@@ -22,7 +22,7 @@ use Rattle.cfi_starts.specs.Entries.{IsBefore, call_at, call_in, count_of, edge_
 use Rattle.cfi_starts.proofs.Behind.{Ends, ends}
 use Rattle.cfi_starts.proofs.LeafLines.{leaf_there}
 use Rattle.cfi_starts.proofs.Started.{started}
-use Rattle.cfi_verify.specs.Fails.{is_barred}
+use Rattle.cfi_fails.specs.Fails.{is_barred}
 use Rattle.cfi_verify.specs.Pass.{AreShut, AreWhole, IsEntered, IsShut, IsShutAt, KindHoldsAt, WordHolds, ends_in_stop}
 use Rattle.cfi_verify.proofs.Told.{entry_is, started_place}
 

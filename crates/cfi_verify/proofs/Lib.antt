@@ -12,4 +12,3 @@ pub mod Fed
 pub mod Ended
 pub mod OnePass
 pub mod KindPass
-pub mod AnyCall

@@ -20,7 +20,7 @@ use Rattle.cfi_scan.specs.Pieces.{Listed, prologue_count}
 use Rattle.cfi_pending.specs.Kinds as kinds
 use Rattle.cfi_pending.specs.Kinds.{leaf_of}
 use Rattle.cfi_starts.specs.Entries.{call_at, call_in, count_of, edge_at, edge_in, enters_at, entry_at, fails_target_at, fresh_at, gate_at, gate_in, goes_on, goes_wrong_at, is_enter, is_right_behind_at, lacks_end_at, may_call_at, may_go_at, may_stand, next_at, or_inside, signs_at, site_in, stands_outside, stands_wrong_at, starts_at}
-use Rattle.cfi_verify.specs.Fails.{fails_at, fails_end_at, fails_gate_at, fails_unit_at, is_barred, is_barred_at, is_lone_at, is_stop_entry, is_unused_at, misses_start, misses_start_at}
+use Rattle.cfi_fails.specs.Fails.{fails_at, fails_end_at, fails_gate_at, fails_unit_at, is_barred, is_barred_at, is_lone_at, is_stop_entry, is_unused_at, misses_start, misses_start_at}
 use Rattle.cfi_verify.specs.Scan.{Tells, numbers_in}
 use Rattle.cfi_rules.specs.Lines.{holds_of, is_outside, leaves_in, line_at, targets_for}
 use Rattle.cfi_verify.specs.Pass.{HasPassed, HoldsAt, HoldsEarly, KindHoldsAt, NoneStands, ends_in_stop}

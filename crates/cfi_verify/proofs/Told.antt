@@ -35,7 +35,7 @@ use Rattle.cfi_scan.specs.Stream.{IsSplitUp, last_of, spelled, width}
 use Rattle.cfi_reader.specs.Entries.{entries_of, inside, is_unit}
 use Rattle.cfi_starts.specs.Entries as entries
 use Rattle.cfi_starts.specs.Entries.{call_at, call_in, count_of, edge_at, edge_in, end_of, enters_at, entry_at, fresh_at, gate_at, gate_in, goes_wrong_at, is_right_behind_at, is_whole, lacks_end_at, may_be_called_at, may_be_reached_at, may_call_at, may_go_at, may_stand, next_at, or_inside, signs_at, site_at, site_in, stands_outside, stands_within, starts_at}
-use Rattle.cfi_verify.specs.Fails.{fails_at, is_bad_end_at, is_barred, is_barred_at, is_lone_at, is_of_others, is_stop_entry, is_unused_at, may_not_call}
+use Rattle.cfi_fails.specs.Fails.{fails_at, is_bad_end_at, is_barred, is_barred_at, is_lone_at, is_of_others, is_stop_entry, is_unused_at, may_not_call}
 use Rattle.cfi_verify.specs.Scan.{Tells, numbers_in}
 use Rattle.cfi_rules.specs.Lines.{is_outside, holds_of, leaves_in, line_at, targets_for, is_among, read_of}
 use Rattle.cfi_rules.specs.Rules.{admits, admitted_in, call_of, edge_of, fails, fails_prologue, gate_of, goes_wrong, is_astray, is_bad_end, is_borne, is_call_to, is_edge_to, is_label, is_lone_site, is_of_version, is_site_with, is_stop, is_unused, lacks_end, lacks_gate, may_call, may_call_to, may_go, may_stand_at, prologue_word_fits, signs_in, site_of}

@@ -1,4 +1,3 @@
 pub mod Scan
 pub mod Answer
-pub mod Fails
 pub mod Pass

@@ -8,7 +8,7 @@ use Rattle.cfi_graph.specs.declared.line.Key.TheVariants.{Address}
 use Rattle.cfi_graph.specs.Graph.{GraphParts, key_below, key_of}
 use Rattle.cfi_scan.specs.Pieces.{Listed, prologue_count}
 use Rattle.cfi_starts.specs.Entries.{count_of, end_of, enters_at, entry_at, fails_leaf_at, fails_target_at, gate_at, goes_on, lacks_end_at, next_in, signs_at, stands_wrong_at}
-use Rattle.cfi_verify.specs.Fails.{is_barred_at, is_barred_busy_at, is_stop_entry, fails_at, misses_start_at, fails_unlisted_at, fails_unused_at, fails_site_at, fails_astray_at}
+use Rattle.cfi_fails.specs.Fails.{is_barred_at, is_barred_busy_at, is_stop_entry, fails_at, misses_start_at, fails_unlisted_at, fails_unused_at, fails_site_at, fails_astray_at}
 use Rattle.cfi_rules.specs.Lines.{leaves_in, line_at}
 use Rattle.cfi_rules.specs.Rules.{lacks_gate}
 use Rattle.cfi_rules.specs.declared.reject.Rule.{Rule}

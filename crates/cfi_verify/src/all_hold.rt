@@ -3,7 +3,7 @@
 ghost use Rattle.std.specs.Prelude.{◌≡◌, ◌+◌, ◌*◌, ◌<◌, ◌≤◌, ◌^◌, ℕ, IfSome, List, None, Some, false, length, true};
 ghost use Rattle.cfi_reader.specs.Entries.{is_quiet};
 ghost use Rattle.cfi_starts.specs.Entries.{count_of, entry_at, signs_at};
-ghost use Rattle.cfi_verify.specs.Fails.{fails_gate_at};
+ghost use Rattle.cfi_fails.specs.Fails.{fails_gate_at};
 ghost use Rattle.cfi_verify.specs.Scan.{Tells, numbers_in};
 ghost use Rattle.cfi_rules.specs.Lines.{leaves_in, line_at};
 ghost use Rattle.cfi_verify.specs.Pass.{HasPassed, HoldsAt, HoldsEarly, NoneStands, ends_in_stop};
@@ -14,7 +14,7 @@ ghost use Rattle.cfi_rules.specs.declared.reject.Rule.{Rule};
 use crate::first::{RULES, first_index};
 use crate::gates::target_without_gate;
 use crate::kinds_hold::kinds_hold;
-use crate::rules::{fails_site_with, has_list, is_barred_at, is_outside, is_stop};
+use cfi_fails::{fails_site_with, has_list, is_barred_at, is_outside, is_stop};
 use cfi_graph::{GraphLine, Key};
 use cfi_rules::Rule;
 use cfi_scan::Entry;

@@ -5,7 +5,8 @@ ghost use Rattle.rv_word.specs.MemoryMap.{CODE_SIZE, CODE_START};
 ghost use Rattle.cfi_unit.specs.Recognise.{recognised};
 ghost use Rattle.cfi_rules.specs.Split.{code_words};
 
-use cfi_unit::{Unit, WordList, recognise};
+use cfi_emit::{WordList, recognise};
+use cfi_unit::Unit;
 use rv_word::memory_map::CODE_START;
 
 /// The first words of some: as many as the longest unit has, and one more.

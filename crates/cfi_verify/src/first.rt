@@ -3,7 +3,7 @@
 ghost use Rattle.std.specs.Prelude.{◌≡◌, ◌≢◌, ◌+◌, ◌*◌, ◌^◌, ◌<◌, ◌≤◌, ℕ, List, IfSome, MatchOption};
 ghost use Rattle.least.specs.First.{first_below};
 ghost use Rattle.least.specs.Least.{IsLeast};
-ghost use Rattle.cfi_verify.specs.Fails.{fails_at};
+ghost use Rattle.cfi_fails.specs.Fails.{fails_at};
 ghost use Rattle.cfi_verify.specs.Scan.{Tells, numbers_in};
 ghost use Rattle.cfi_rules.specs.Rules.{Holds, IsFirst, fails};
 ghost use Rattle.cfi_starts.specs.Starts.{profile_in};
@@ -12,7 +12,7 @@ ghost use Rattle.cfi_rules.specs.declared.reject.Rule.TheVariants as R;
 
 use crate::all_hold::all_hold;
 use crate::gates::first_without_gate;
-use crate::rules::fails;
+use cfi_fails::fails;
 use cfi_rules::Rule;
 use cfi_starts::Starts;
 use least::first_below_u64;

@@ -4,7 +4,7 @@ ghost use Rattle.std.specs.Prelude.{◌≡◌, ◌&&◌, not};
 ghost use Rattle.least.specs.Least.{IsLeast};
 ghost use Rattle.cfi_rules.specs.Lines.{is_among, leaves_in};
 ghost use Rattle.cfi_starts.specs.Entries.{signs_at};
-ghost use Rattle.cfi_verify.specs.Fails.{fails_gate_at};
+ghost use Rattle.cfi_fails.specs.Fails.{fails_gate_at};
 ghost use Rattle.cfi_rules.specs.Rules.{is_borne, is_label, lacks_gate};
 ghost use Rattle.cfi_starts.specs.Starts.{profile_in};
 

@@ -19,13 +19,13 @@ ghost use Rattle.cfi_verify.specs.Pass.{
   ends_in_stop,
 };
 
-use crate::rules::is_barred;
+use cfi_fails::is_barred;
 use cfi_graph::GraphLine;
 use cfi_scan::Entry;
 use cfi_starts::{Spot, Starts, gate_in, goes_on};
 
 /// Whether at each word after the prologue holds what the rules ask by kinds of starts, where units cover the code.
-/// Where callers save the sites of calls, all starts are of one kind.
+/// Where callers save the sites of calls, all starts are of one kind. `false` leaves it open.
 pub(crate) fn kinds_hold(starts: &Starts<'_>) -> bool
     requires { ends_in_stop (profile_in starts.now) starts.now.listing ≡ true }
     ensures { result ≡ true → has_leaves starts.now.graph.version ≡ true → (k : ℕ) → k < count_of (profile_in starts.now) starts.now.listing → KindHoldsAt (profile_in starts.now) starts.now.listing starts.now.graph ((profile_in starts.now).units_from + 4 * k) }

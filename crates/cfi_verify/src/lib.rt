@@ -16,7 +16,5 @@ mod first;
 mod gates;
 mod kinds_hold;
 mod pieces;
-mod prologue;
-mod rules;
 mod scan;
 mod verifier;

@@ -1,4 +1,3 @@
-pub mod Pending
 pub mod Reach
 pub mod Sites
 pub mod Unique

@@ -20,9 +20,10 @@ ghost use Rattle.cfi_walk.specs.Moves.{IsAnswer};
 
 use crate::class::{has_target, is_in_class};
 use crate::walk::{Move, Walk};
+use cfi_emit::size;
 use cfi_graph::SiteKind;
 use cfi_unit::handlers::{self, BAD_RETURN, BAD_TARGET, DEEP};
-use cfi_unit::{Place, SystemOp, TargetWord, Unit, size};
+use cfi_unit::{Place, SystemOp, TargetWord, Unit};
 use cfi_verify::{Asks, Checked};
 use rv_word::GraphVersion;
 

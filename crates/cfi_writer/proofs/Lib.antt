@@ -44,8 +44,6 @@ pub mod LineList
 pub mod PlaceLines
 pub mod Plain
 pub mod Entering
-pub mod WriteRows
 mod WrittenRows
 mod AcceptedRow
-mod GroupedRow
 mod LeanRows

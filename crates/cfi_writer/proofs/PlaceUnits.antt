@@ -71,11 +71,6 @@ end_unit m k none =
     stop_by m.layout.closed.version m.layout.closed.calls (in_leaf (entered_in m.layout) k) (item_of m.layout.program k).kind (instr_of m k)
     (whole_at m.whole k) _ _ (group_at m k) (no_instr (is_end (item_of m.layout.program k).kind) (instr_of m k) none)
 
--- what is the unit of a store's group is the unit of its place
-kind_store : (kind : ItemKind) → is_store kind ≡ true → kind ≡ is.Store
-kind_store is.Store store = refl
-kind_store other store = absurd (cc)
-
 stores_by : (version : GraphVersion) (calls : Option (List ℕ)) (inside : Bool) (kind : ItemKind) (i : Instr) (whole : Bool) (target label : ℕ) (group : Group) →
     is_store kind ≡ true →
     unit_of calls is.Store i whole target (jump_word version) label group ≡ unit_by version calls inside kind i whole target label group

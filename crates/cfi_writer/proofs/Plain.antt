@@ -23,10 +23,6 @@ size_plain OneLabel calls inside item whole plain = refl
 size_plain TwoLabels calls inside item whole plain = refl
 size_plain CalleeSaves calls inside item whole plain = absurd (cc)
 
-pub plain_size : (of : Entered) (k : ℕ) (item : Item) (whole : Bool) → has_leaves of.closed.version ≡ false →
-    size_of of k item whole ≡ kind_size of.closed.calls item.kind (is_ecall item) whole
-plain_size of k item whole plain = size_plain of.closed.version of.closed.calls (in_leaf of k) item whole plain
-
 -- in each version a target has a word before its unit
 sides_some : (sides : List Side) (k : ℕ) → is_target sides k ≡ true → 1 ≤ length sides
 sides_some [] k target = absurd (cc)

@@ -15,7 +15,7 @@ use Rattle.cfi_rules.specs.Split.{code_words, entry_of, unit_at}
 use Rattle.cfi_writer.specs.Accepted.{IsAccepted}
 use Rattle.cfi_writer.specs.Units.{Choice, behind, entry_arrival, is_later_at, lead, mask_at, unit_here, units}
 
--- the words of the whole code, and the lines of its classes, before which stands that of its system calls
+-- the words of the whole code, the lines of its classes, and with these all heads: the lines of system calls and leaves before them
 abbrev pub written_code : Choice → List ℕ
 written_code m = placed_code m.layout.profile (entry_arrival m) (units m)
 

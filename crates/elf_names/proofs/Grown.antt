@@ -207,11 +207,3 @@ missing texts index tail block are fits none i x there has =
     let at : closed.0 ≡ tail = are.apart closed.0 tail x closed.1 there in
     let no : None ≡ Some i = sym none ∙ ap (λ (t : ℕ). looked_up t block index) (sym at) ∙ closed.2 in
     absurd (cc)
-
--- what the index finds is the block in front of the text
-pub there_already : (texts : List (List ℕ)) (index : Index) (tail : ℕ) (block : List ℕ) (n : ℕ) → AreTexts texts index
-    → looked_up tail block index ≡ Some n → (x : List ℕ) → Has texts tail x → Has texts n (block ++ x)
-there_already texts index tail block n are e x there =
-    let found = are.found tail block n e in
-    let same : found.0 ≡ x = sym found.1.1 ∙ there.1 in
-    subst (λ (y : List ℕ). Has texts n (block ++ y)) same found.2

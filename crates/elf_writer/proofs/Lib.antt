@@ -11,4 +11,3 @@ pub mod Entries
 pub mod Faultless
 pub mod Holding
 pub mod Sizes
-pub mod Rows

@@ -13,7 +13,7 @@ use Rattle.obj_input.specs.declared.reloc_kind.RelocKind.TheVariants.{High, Rela
 use Rattle.obj_input.specs.Kinds.{kind_of}
 use Rattle.obj_input.specs.Relocation.{is_acting}
 use Rattle.obj_input.specs.Input.{InputParts, SectionParts, acting_at, is_code, is_code_sort, section_count, section_of}
-use Rattle.obj_rules.specs.Fault.{fault_of}
+use Rattle.obj_check.specs.Fault.{fault_of}
 use Rattle.obj_program.specs.declared.item.DataReloc.{DataReloc}
 use Rattle.obj_program.specs.declared.item.Item.{Item}
 use Rattle.obj_program.specs.declared.item.Patch.TheVariants as put

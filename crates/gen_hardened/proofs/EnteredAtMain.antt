@@ -11,7 +11,7 @@ use Rattle.obj_input.specs.declared.item_kind.ItemKind.{ItemKind}
 use Rattle.obj_input.specs.Input.{InputParts, Named, SectionParts, acting_at, is_code, section_count, section_of}
 use Rattle.obj_input.specs.Code.{instr, is_pair, word_count}
 use Rattle.obj_input.specs.Names.{find_spot}
-use Rattle.obj_rules.specs.Kind.{kind_at, pair_kind, word_kind}
+use Rattle.obj_check.specs.Kind.{kind_at, pair_kind, word_kind}
 use Rattle.obj_program.specs.declared.item.Item.{Item}
 use Rattle.obj_program.specs.Program.{Program, is_end, is_spot, item_of, no_item, place_of}
 use Rattle.obj_items.specs.Links.{item_with, linked}

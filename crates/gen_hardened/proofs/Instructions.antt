@@ -7,9 +7,9 @@ use Rattle.obj_input.specs.declared.parts.Definition.{Definition}
 use Rattle.obj_input.specs.Kinds.{kind_of}
 use Rattle.obj_input.specs.Input.{SectionParts, is_code}
 use Rattle.obj_input.specs.Code.{is_auipc, is_inside, word_count}
-use Rattle.obj_rules.specs.Undecodable.{is_undecodable, undecodable_word}
-use Rattle.obj_rules.specs.Reserved.{is_reserved_at, reserved_word, some_reserved}
-use Rattle.obj_rules.specs.BadPair.{is_wrong_auipc, wrong_auipc}
+use Rattle.obj_check.specs.Undecodable.{is_undecodable, undecodable_word}
+use Rattle.obj_check.specs.Reserved.{is_reserved_at, reserved_word, some_reserved}
+use Rattle.obj_check.specs.BadPair.{is_wrong_auipc, wrong_auipc}
 use Rattle.cfi_gen.specs.Code.{high, low}
 use Rattle.cfi_gen.specs.Assembly.{jalr, lui}
 use Rattle.cfi_gen.specs.Lines.{Line, marked, plain}

@@ -6,17 +6,17 @@ use Rattle.least.specs.Nearest.{nearest}
 use Rattle.obj_input.specs.declared.parts.Relocation.{Relocation}
 use Rattle.obj_input.specs.declared.parts.Sort.TheVariants.{Data}
 use Rattle.obj_input.specs.Input.{InputParts, SectionParts, is_code, is_code_sort, section_count, section_of}
-use Rattle.obj_rules.specs.declared.fault.ItemFault.{ItemFault}
-use Rattle.obj_rules.specs.Finding.{place_of}
-use Rattle.obj_rules.specs.Undecodable.{undecodable, undecodable_in}
-use Rattle.obj_rules.specs.Reserved.{reserved, reserved_in}
-use Rattle.obj_rules.specs.BadTransfer.{bad_transfer, bad_transfer_in}
-use Rattle.obj_rules.specs.BadPair.{auipc_in, bad_pair, bad_pair_in, low_at, low_in}
-use Rattle.obj_rules.specs.WrongKind.{kind_found, kind_in, wrong_kind}
-use Rattle.obj_rules.specs.WrongPlace.{place_found, place_in, wrong_place}
-use Rattle.obj_rules.specs.Undefined.{missing_among, missing_in, missing_symbol, undefined}
-use Rattle.obj_rules.specs.CodePointer.{pointer_found, pointer_in, wrong_pointer}
-use Rattle.obj_rules.specs.Fault.{fault_of}
+use Rattle.obj_check.specs.declared.fault.ItemFault.{ItemFault}
+use Rattle.obj_check.specs.Finding.{place_of}
+use Rattle.obj_check.specs.Undecodable.{undecodable, undecodable_in}
+use Rattle.obj_check.specs.Reserved.{reserved, reserved_in}
+use Rattle.obj_check.specs.BadTransfer.{bad_transfer, bad_transfer_in}
+use Rattle.obj_check.specs.BadPair.{auipc_in, bad_pair, bad_pair_in, low_at, low_in}
+use Rattle.obj_check.specs.WrongKind.{kind_found, kind_in, wrong_kind}
+use Rattle.obj_check.specs.WrongPlace.{place_found, place_in, wrong_place}
+use Rattle.obj_check.specs.Undefined.{missing_among, missing_in, missing_symbol, undefined}
+use Rattle.obj_check.specs.CodePointer.{pointer_found, pointer_in, wrong_pointer}
+use Rattle.obj_check.specs.Fault.{fault_of}
 use Rattle.cfi_gen.specs.declared.function.Function.{Function}
 use Rattle.cfi_gen.specs.Code.{program_lines}
 use Rattle.cfi_gen.specs.Demo.{table_relocs}

@@ -8,7 +8,7 @@ use Rattle.elf_writer.specs.Holds.{Holds}
 use Rattle.rv_word.specs.declared.form.Form.{Form}
 use Rattle.rv_word.specs.declared.form.Form.TheVariants.{Plain}
 use Rattle.obj_input.specs.Input.{InputParts}
-use Rattle.obj_rules.specs.Fault.{fault_of}
+use Rattle.obj_check.specs.Fault.{fault_of}
 use Rattle.obj_program.specs.Program.{Program}
 use Rattle.obj_program.specs.Range.{out_of_range}
 use Rattle.obj_items.specs.FromObject.{input_of}

@@ -6,10 +6,10 @@ use Rattle.obj_input.specs.declared.parts.Sort.TheVariants.{Data}
 use Rattle.obj_input.specs.Kinds.{kind_of}
 use Rattle.obj_input.specs.Input.{InputParts, SectionParts, section_of}
 use Rattle.obj_input.specs.Code.{is_start}
-use Rattle.obj_rules.specs.BadPair.{low_at}
-use Rattle.obj_rules.specs.WrongKind.{kind_found}
-use Rattle.obj_rules.specs.WrongPlace.{place_found}
-use Rattle.obj_rules.specs.CodePointer.{pointer_found, points_right}
+use Rattle.obj_check.specs.BadPair.{low_at}
+use Rattle.obj_check.specs.WrongKind.{kind_found}
+use Rattle.obj_check.specs.WrongPlace.{place_found}
+use Rattle.obj_check.specs.CodePointer.{pointer_found, points_right}
 use Rattle.cfi_gen.specs.Code.{function_symbol}
 use Rattle.cfi_gen.specs.Demo.{table_relocs}
 use Rattle.cfi_gen.specs.Lines.{Line}

@@ -16,7 +16,7 @@ use Rattle.obj_input.specs.Kinds.{is_table_high, kind_of}
 use Rattle.obj_join.specs.Joined.{own_input}
 use Rattle.obj_join.specs.SaidInput.{input_by}
 use Rattle.obj_join.specs.Stands.{definition}
-use Rattle.obj_said.specs.Sections.{sort_of}
+use Rattle.obj_link.specs.Sections.{sort_of}
 use Rattle.obj_items.specs.FromObject.{input_of}
 use Rattle.obj_items.proofs.Behind.{numbers, own_section, section_is as read_section, section_number, table}
 use Rattle.obj_items.proofs.Plain.{none_behind, reloc_at, reloc_count}

@@ -7,11 +7,11 @@ use Rattle.obj_input.specs.declared.parts.Definition.{Definition}
 use Rattle.obj_input.specs.declared.parts.Definition.TheVariants.{Within}
 use Rattle.obj_input.specs.Kinds.{kind_of}
 use Rattle.obj_input.specs.Input.{InputParts, SectionParts, is_code, section_of}
-use Rattle.obj_rules.specs.Kind.{single_kind}
-use Rattle.obj_rules.specs.BadPair.{low_at}
-use Rattle.obj_rules.specs.WrongKind.{kind_found}
-use Rattle.obj_rules.specs.WrongPlace.{is_i_form, place_found}
-use Rattle.obj_rules.specs.CodePointer.{pointer_found}
+use Rattle.obj_check.specs.Kind.{single_kind}
+use Rattle.obj_check.specs.BadPair.{low_at}
+use Rattle.obj_check.specs.WrongKind.{kind_found}
+use Rattle.obj_check.specs.WrongPlace.{is_i_form, place_found}
+use Rattle.obj_check.specs.CodePointer.{pointer_found}
 use Rattle.cfi_gen.specs.declared.mark.Mark.{Mark}
 use Rattle.cfi_gen.specs.Code.{called, function_symbol, high, low, mark, table_symbol}
 use Rattle.cfi_gen.specs.Assembly.{auipc, jalr, lui}

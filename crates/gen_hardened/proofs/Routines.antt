@@ -2,7 +2,7 @@
 use Rattle.std.proofs.Common.{◌≡◌, ℕ, pos, zero, suc, ◌+◌, ◌*◌, ◌^◌, ◌<◌, List, [], ◌∷◌, ◌++◌, length, refl, sym, ap, subst, ◌∙◌, arith, lit<, append_assoc, length-append}
 use Rattle.std.specs.List.{flat_map}
 use Rattle.least.specs.First.{first_below}
-use Rattle.obj_rules.specs.Reserved.{some_reserved}
+use Rattle.obj_check.specs.Reserved.{some_reserved}
 use Rattle.cfi_gen.specs.declared.function.Function.{Function}
 use Rattle.cfi_gen.specs.declared.function.Shape.{Shape}
 use Rattle.cfi_gen.specs.declared.function.Shape.TheVariants.{Leaf, Call, Table, Skip}

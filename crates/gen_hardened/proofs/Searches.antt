@@ -8,9 +8,9 @@ use Rattle.least.specs.Nearest.{nearest, nearest_below}
 use Rattle.obj_input.specs.declared.parts.Definition.{Definition}
 use Rattle.obj_input.specs.Relocation.{is_acting}
 use Rattle.obj_input.specs.Input.{InputParts, section_count}
-use Rattle.obj_rules.specs.declared.fault.ItemFault.{ItemFault}
-use Rattle.obj_rules.specs.Finding.{nearest_in, place_of}
-use Rattle.obj_rules.specs.Undefined.{missing_among, missing_at, missing_symbol}
+use Rattle.obj_check.specs.declared.fault.ItemFault.{ItemFault}
+use Rattle.obj_check.specs.Finding.{nearest_in, place_of}
+use Rattle.obj_check.specs.Undefined.{missing_among, missing_at, missing_symbol}
 use Rattle.gen_hardened.proofs.Bridge.{use_by}
 
 none_nearest : {A : Type 0} (place : A → Place) (given : ℕ → Option A) (n : ℕ) → ((k : ℕ) → given k ≡ None)

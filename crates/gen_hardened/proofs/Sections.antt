@@ -19,8 +19,8 @@ use Rattle.obj_input.specs.Input.{SectionParts}
 use Rattle.obj_input.specs.Listed.{listed}
 use Rattle.obj_input.specs.Kinds.{is_table_high, kind_of}
 use Rattle.obj_join.specs.SaidInput as joined
-use Rattle.obj_said.specs.SaidOf.{said_of}
-use Rattle.obj_said.specs.Sections.{sort_of, use_said, use_said_at, uses_said}
+use Rattle.obj_link.specs.SaidOf.{said_of}
+use Rattle.obj_link.specs.Sections.{sort_of, use_said, use_said_at, uses_said}
 use Rattle.obj_items.proofs.Behind.{numbers}
 use Rattle.gen_hardened.proofs.Listings.{listed_map, map_listed}
 use Rattle.gen_hardened.proofs.Untabled.{is_plain, plain_in}

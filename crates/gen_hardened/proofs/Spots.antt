@@ -6,12 +6,12 @@ use Rattle.rv_instr.specs.InRange.{IsInstr}
 use Rattle.rv_instr.specs.declared.instr.Instr.{Instr}
 use Rattle.rv_instr.specs.declared.instr.Instr.TheVariants.{Jalr}
 use Rattle.obj_input.specs.Code.{is_auipc}
-use Rattle.obj_rules.specs.declared.target.Direct.{Direct}
-use Rattle.obj_rules.specs.declared.target.Direct.TheVariants.{ByBranch}
-use Rattle.obj_rules.specs.Kind.{single_kind}
-use Rattle.obj_rules.specs.Reserved.{some_reserved}
-use Rattle.obj_rules.specs.Target.{direct_word}
-use Rattle.obj_rules.specs.WrongPlace.{is_i_form}
+use Rattle.obj_check.specs.declared.target.Direct.{Direct}
+use Rattle.obj_check.specs.declared.target.Direct.TheVariants.{ByBranch}
+use Rattle.obj_check.specs.Kind.{single_kind}
+use Rattle.obj_check.specs.Reserved.{some_reserved}
+use Rattle.obj_check.specs.Target.{direct_word}
+use Rattle.obj_check.specs.WrongPlace.{is_i_form}
 use Rattle.cfi_gen.specs.Assembly.{auipc, jalr, lui}
 use Rattle.cfi_gen.specs.Code.{called, high, low}
 use Rattle.cfi_gen.specs.Lines.{Line, marked, plain}

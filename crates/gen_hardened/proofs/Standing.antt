@@ -12,8 +12,8 @@ use Rattle.obj_input.specs.declared.parts.Sort.TheVariants.{Code}
 use Rattle.obj_input.specs.Kinds.{kind_of}
 use Rattle.obj_input.specs.Input.{SectionParts, acting_among, acting_at}
 use Rattle.obj_input.specs.Code.{auipc_register, instr, is_auipc, is_inside, is_pair, is_start, word_count}
-use Rattle.obj_rules.specs.Kind.{single_kind}
-use Rattle.obj_rules.specs.Reserved.{some_reserved}
+use Rattle.obj_check.specs.Kind.{single_kind}
+use Rattle.obj_check.specs.Reserved.{some_reserved}
 use Rattle.cfi_gen.specs.Assembly.{auipc, jalr}
 use Rattle.cfi_gen.specs.Code.{called}
 use Rattle.cfi_gen.specs.Lines.{Line, code_bytes, marked, plain, relocs_from}

@@ -15,8 +15,8 @@ use Rattle.obj_join.specs.Symbols.{number_if}
 use Rattle.obj_join.specs.Blocks.{block_of, blocks_below, has_block}
 use Rattle.obj_join.specs.Stands.{definition, definition_of, standing_for}
 use Rattle.obj_join.specs.SaidInput.{is_named, named, names_by}
-use Rattle.obj_said.specs.SaidOf.{said_of}
-use Rattle.obj_said.specs.Symbols.{is_kept_section, standing_of, symbol_said, symbol_said_in}
+use Rattle.obj_link.specs.SaidOf.{said_of}
+use Rattle.obj_link.specs.Symbols.{is_kept_section, standing_of, symbol_said, symbol_said_in}
 use Rattle.obj_items.proofs.Behind.{numbers}
 use Rattle.gen_hardened.specs.Generated.{named_of}
 use Rattle.gen_hardened.proofs.Listings.{joined_listed, joined_none, length-listed, listed_at, listed_map, map_listed}

@@ -8,12 +8,12 @@ use Rattle.obj_input.specs.declared.parts.Definition.TheVariants.{Within}
 use Rattle.obj_input.specs.Kinds.{kind_of}
 use Rattle.obj_input.specs.Input.{InputParts, acting_at, section_of}
 use Rattle.obj_input.specs.Code.{at_whole, is_inside, is_start}
-use Rattle.obj_rules.specs.declared.target.Direct.{Direct}
-use Rattle.obj_rules.specs.declared.target.Direct.TheVariants.{ByBranch, ByJal, ByPair}
-use Rattle.obj_rules.specs.Kind.{kind_at, single_kind}
-use Rattle.obj_rules.specs.Target.{aim_at, aim_of, direct_at, direct_word, goes_right, may_aim}
-use Rattle.obj_rules.specs.BadTransfer.{is_wrong_transfer, wrong_transfer}
-use Rattle.obj_rules.specs.WrongPlace.{is_i_form}
+use Rattle.obj_check.specs.declared.target.Direct.{Direct}
+use Rattle.obj_check.specs.declared.target.Direct.TheVariants.{ByBranch, ByJal, ByPair}
+use Rattle.obj_check.specs.Kind.{kind_at, single_kind}
+use Rattle.obj_check.specs.Target.{aim_at, aim_of, direct_at, direct_word, goes_right, may_aim}
+use Rattle.obj_check.specs.BadTransfer.{is_wrong_transfer, wrong_transfer}
+use Rattle.obj_check.specs.WrongPlace.{is_i_form}
 use Rattle.cfi_gen.specs.Code.{called, function_symbol, high, low}
 use Rattle.cfi_gen.specs.Assembly.{auipc, lui}
 use Rattle.cfi_gen.specs.Lines.{Line, marked, plain}

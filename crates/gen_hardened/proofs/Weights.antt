@@ -8,7 +8,7 @@ use Rattle.obj_input.specs.declared.item_kind.ItemKind.{ItemKind}
 use Rattle.obj_input.specs.declared.item_kind.ItemKind.TheVariants as is
 use Rattle.obj_input.specs.Input.{SectionParts, acting_at}
 use Rattle.obj_input.specs.Code.{are_pair, has_pair_target, instr, is_pair}
-use Rattle.obj_rules.specs.Kind.{by_link, kind_at, pair_kind, single_kind, word_kind}
+use Rattle.obj_check.specs.Kind.{by_link, kind_at, pair_kind, single_kind, word_kind}
 
 -- what a place of a kind weighs
 abbrev pub kind_weight : ItemKind → ℕ

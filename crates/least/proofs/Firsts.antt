@@ -69,9 +69,6 @@ found_parts test (suc n) k found = elim (cases_Option (first_below test n)) [
 pub first_bound : (test : ℕ → Bool) (n k : ℕ) → first_below test n ≡ Some k → k < n
 first_bound test n k found = (found_parts test n k found).0
 
-pub first_holds : (test : ℕ → Bool) (n k : ℕ) → first_below test n ≡ Some k → test k ≡ true
-first_holds test n k found = (found_parts test n k found).1
-
 -- what is found below a bound is found below a greater one
 pub first_stays : (test : ℕ → Bool) (k m j : ℕ) → first_below test k ≡ Some j → k ≤ m → first_below test m ≡ Some j
 first_stays test k m j e most =

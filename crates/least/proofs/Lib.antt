@@ -1,4 +1,3 @@
 pub mod Firsts
 pub mod Leasts
 pub mod Nearests
-pub mod Rows

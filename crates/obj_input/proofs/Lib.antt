@@ -4,6 +4,5 @@ mod Found
 mod Wholes
 mod Acting
 mod Reach
-mod Rows
 mod Front
 mod Called

@@ -9,9 +9,9 @@ use Rattle.obj_join.specs.Said.{Said, nothing_said, said_together, section_behin
 use Rattle.obj_join.specs.Definer.{resolved}
 use Rattle.obj_join.specs.Found.{is_found}
 use Rattle.obj_join.specs.Joined.{joined_input, shared_input}
-use Rattle.obj_said.specs.SaidOf.{said_by, said_of}
-use Rattle.obj_said.specs.Sections.{sections_said}
-use Rattle.obj_said.proofs.Together.{counted}
+use Rattle.obj_link.specs.SaidOf.{said_by, said_of}
+use Rattle.obj_link.specs.Sections.{sections_said}
+use Rattle.obj_link.proofs.Together.{counted}
 use Rattle.obj_items.specs.FitCode.{HasFitCode}
 use Rattle.obj_items.proofs.ObjectFits.{object_whole}
 use Rattle.obj_items.proofs.SaidFits.{IsWhole, said_fits}

@@ -3,12 +3,12 @@ use Rattle.std.proofs.Common.{◌≡◌, ℕ, List, [], ◌∷◌, None, option_
 use Rattle.rv_word.proofs.Cases.{unmapped}
 use Rattle.obj_input.specs.Input.{InputParts}
 use Rattle.obj_program.specs.Program.{Program}
-use Rattle.obj_rules.specs.Fault.{fault_of}
+use Rattle.obj_check.specs.Fault.{fault_of}
 use Rattle.obj_join.specs.Duplicate.{duplicate}
 use Rattle.obj_join.specs.Joined.{joined_input}
 use Rattle.obj_join.specs.Laws.{HasOwnNames}
 use Rattle.obj_join.proofs.OneObject.{one_object}
-use Rattle.obj_said.specs.SaidOf.{said_by, said_of}
+use Rattle.obj_link.specs.SaidOf.{said_by, said_of}
 use Rattle.obj_items.specs.FromObject.{input_of}
 use Rattle.rv_word.specs.declared.end.End.{End}
 use Rattle.rv_word.specs.declared.end.End.TheVariants.{Fault, NoMemory}

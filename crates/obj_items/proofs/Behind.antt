@@ -8,8 +8,8 @@ use Rattle.obj_join.specs.Joined.{own_input}
 use Rattle.obj_join.specs.SaidInput as joined
 use Rattle.obj_join.specs.Table.{slots, table_of}
 use Rattle.obj_join.proofs.Listing.{length-listed, listed_at}
-use Rattle.obj_said.specs.SaidOf.{said_of}
-use Rattle.obj_said.specs.Sections.{section_said_in, sections_said}
+use Rattle.obj_link.specs.SaidOf.{said_of}
+use Rattle.obj_link.specs.Sections.{section_said_in, sections_said}
 use Rattle.obj_items.specs.FromObject.{input_of}
 
 module _ (bytes : List ℕ) where

@@ -16,7 +16,7 @@ use Rattle.obj_input.specs.Kinds.{is_idle, kind_of}
 use Rattle.obj_input.specs.Relocation.{is_acting}
 use Rattle.obj_input.specs.Input.{InputParts, has_bytes, is_code_sort, is_data_sort, is_zeros_sort, section_count, section_of}
 use Rattle.obj_input.specs.DataLayout.{section_address}
-use Rattle.obj_rules.specs.WrongPlace.{has_right_addend, stands, stands_in_data, width}
+use Rattle.obj_check.specs.WrongPlace.{has_right_addend, stands, stands_in_data, width}
 use Rattle.obj_program.specs.declared.item.DataReloc.{DataReloc}
 use Rattle.obj_program.specs.Program.{count}
 use Rattle.obj_program.specs.Sound.{lies}

@@ -28,4 +28,3 @@ pub mod ObjectFits
 mod AllFit
 mod Among
 mod Alone
-mod Rows

@@ -13,10 +13,10 @@ use Rattle.obj_input.specs.declared.reloc_kind.RelocKind.TheVariants.{Nothing, M
 use Rattle.obj_input.specs.Kinds.{kind_of}
 use Rattle.obj_input.specs.Input.{InputParts, acting_at, is_code, section_of}
 use Rattle.obj_input.specs.Code.{natural}
-use Rattle.obj_rules.specs.declared.target.Direct.{Direct}
-use Rattle.obj_rules.specs.declared.target.Aim.{Aim}
-use Rattle.obj_rules.specs.declared.target.Aim.TheVariants as aim
-use Rattle.obj_rules.specs.Target.{aim_at, direct_at}
+use Rattle.obj_check.specs.declared.target.Direct.{Direct}
+use Rattle.obj_check.specs.declared.target.Aim.{Aim}
+use Rattle.obj_check.specs.declared.target.Aim.TheVariants as aim
+use Rattle.obj_check.specs.Target.{aim_at, direct_at}
 use Rattle.obj_program.specs.declared.item.Item.{Item}
 use Rattle.obj_program.specs.declared.item.Patch.TheVariants as put
 use Rattle.obj_program.specs.Program.{AreInOrder, is_end, is_spot, no_item, place_of}

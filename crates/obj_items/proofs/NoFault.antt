@@ -19,18 +19,18 @@ use Rattle.obj_input.specs.declared.parts.Definition.TheVariants.{Zero}
 use Rattle.obj_input.specs.Relocation.{is_acting}
 use Rattle.obj_input.specs.Input.{InputParts, SectionParts, acting_at, is_code, no_section, section_count, section_of}
 use Rattle.obj_input.specs.Code.{word_count}
-use Rattle.obj_rules.specs.declared.fault.ItemFault.{ItemFault}
-use Rattle.obj_rules.specs.declared.fault.ItemFault.TheVariants as fault
-use Rattle.obj_rules.specs.Finding.{nearest_in, place_of}
-use Rattle.obj_rules.specs.Undecodable.{is_undecodable, undecodable, undecodable_in}
-use Rattle.obj_rules.specs.Reserved.{is_reserved_at, reserved, reserved_in}
-use Rattle.obj_rules.specs.BadTransfer.{bad_transfer, bad_transfer_in, is_wrong_transfer}
-use Rattle.obj_rules.specs.BadPair.{auipc_in, bad_pair, bad_pair_in, is_wrong_low, low_at, low_in}
-use Rattle.obj_rules.specs.WrongKind.{wrong_kind}
-use Rattle.obj_rules.specs.WrongPlace.{is_wrong_place, place_found, place_in, wrong_place}
-use Rattle.obj_rules.specs.Undefined.{missing_at, missing_in, missing_in_use, undefined}
-use Rattle.obj_rules.specs.CodePointer.{wrong_pointer}
-use Rattle.obj_rules.specs.Fault.{fault_of, instruction_fault, relocation_fault}
+use Rattle.obj_check.specs.declared.fault.ItemFault.{ItemFault}
+use Rattle.obj_check.specs.declared.fault.ItemFault.TheVariants as fault
+use Rattle.obj_check.specs.Finding.{nearest_in, place_of}
+use Rattle.obj_check.specs.Undecodable.{is_undecodable, undecodable, undecodable_in}
+use Rattle.obj_check.specs.Reserved.{is_reserved_at, reserved, reserved_in}
+use Rattle.obj_check.specs.BadTransfer.{bad_transfer, bad_transfer_in, is_wrong_transfer}
+use Rattle.obj_check.specs.BadPair.{auipc_in, bad_pair, bad_pair_in, is_wrong_low, low_at, low_in}
+use Rattle.obj_check.specs.WrongKind.{wrong_kind}
+use Rattle.obj_check.specs.WrongPlace.{is_wrong_place, place_found, place_in, wrong_place}
+use Rattle.obj_check.specs.Undefined.{missing_at, missing_in, missing_in_use, undefined}
+use Rattle.obj_check.specs.CodePointer.{wrong_pointer}
+use Rattle.obj_check.specs.Fault.{fault_of, instruction_fault, relocation_fault}
 
 -- a relocation of an input without a fault
 pub record IsRightUse (input : InputParts) (k : ℕ) (u : Relocation) : Type 0 where

@@ -13,10 +13,10 @@ use Rattle.obj_input.specs.Input.{is_code_sort}
 use Rattle.obj_join.specs.Definer.{own}
 use Rattle.obj_join.specs.Joined.{own_input}
 use Rattle.obj_join.proofs.Listing.{length-listed, listed_at}
-use Rattle.obj_said.specs.SaidOf.{said_of}
-use Rattle.obj_said.specs.Sections.{kept_sort, section_said_in, sections_said, sort_of}
-use Rattle.obj_said.specs.Symbols.{symbols_said}
-use Rattle.obj_said.proofs.Whole.{few_sections}
+use Rattle.obj_link.specs.SaidOf.{said_of}
+use Rattle.obj_link.specs.Sections.{kept_sort, section_said_in, sections_said, sort_of}
+use Rattle.obj_link.specs.Symbols.{symbols_said}
+use Rattle.obj_link.proofs.Whole.{few_sections}
 use Rattle.obj_items.specs.FitCode.{HasFitCode}
 use Rattle.obj_items.specs.FromObject.{input_of}
 use Rattle.obj_items.proofs.SaidFits.{IsWhole, said_fits}

@@ -14,8 +14,8 @@ use Rattle.obj_input.specs.Kinds.{is_relative_high, is_relative_low, kind_of}
 use Rattle.obj_input.specs.Relocation.{is_acting}
 use Rattle.obj_input.specs.Input.{InputParts, acting_at, is_code, section_of}
 use Rattle.obj_input.specs.Code.{has_high_part, instr, is_auipc, is_start}
-use Rattle.obj_rules.specs.BadPair.{has_relative_high, is_auipc_at, names_high}
-use Rattle.obj_rules.specs.Undefined.{missing_symbol}
+use Rattle.obj_check.specs.BadPair.{has_relative_high, is_auipc_at, names_high}
+use Rattle.obj_check.specs.Undefined.{missing_symbol}
 use Rattle.obj_program.specs.declared.item.Item.{Item}
 use Rattle.obj_program.specs.declared.item.Patch.TheVariants as put
 use Rattle.obj_program.specs.Program.{count, item_of, place_of}

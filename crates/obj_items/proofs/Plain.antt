@@ -15,8 +15,8 @@ use Rattle.obj_input.specs.Listed.{listed}
 use Rattle.obj_join.specs.Said.{SectionSaid, UseSaid}
 use Rattle.obj_join.specs.Table.{is_table_use, slots, table_of, table_symbols_at, table_symbols_in, with_symbol}
 use Rattle.obj_join.proofs.Listing.{length-listed, listed_at}
-use Rattle.obj_said.specs.SaidOf.{said_of}
-use Rattle.obj_said.specs.Sections.{section_said_in, sections_said, sort_of, use_said_at}
+use Rattle.obj_link.specs.SaidOf.{said_of}
+use Rattle.obj_link.specs.Sections.{section_said_in, sections_said, sort_of, use_said_at}
 use Rattle.obj_items.proofs.Behind.{numbers, table}
 
 -- the relocations of a section by their index

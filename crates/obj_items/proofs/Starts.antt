@@ -16,11 +16,11 @@ use Rattle.obj_input.specs.Kinds.{is_pair_target, kind_of}
 use Rattle.obj_input.specs.Relocation.{is_acting}
 use Rattle.obj_input.specs.Input.{InputParts, SectionParts, acting_at, is_code, section_of}
 use Rattle.obj_input.specs.Code.{are_pair, are_same, auipc_register, has_pair_target, instr, is_inside, is_pair, is_start, starts_at, word, word_count}
-use Rattle.obj_rules.specs.Kind.{kind_at, pair_kind, single_kind, word_kind}
-use Rattle.obj_rules.specs.Target.{direct_at, goes_right}
-use Rattle.obj_rules.specs.Reserved.{some_reserved}
-use Rattle.obj_rules.specs.Reserved as rule
-use Rattle.obj_rules.specs.WrongPlace.{fits_on, has_form, has_right_addend, stands, stands_in_code}
+use Rattle.obj_check.specs.Kind.{kind_at, pair_kind, single_kind, word_kind}
+use Rattle.obj_check.specs.Target.{direct_at, goes_right}
+use Rattle.obj_check.specs.Reserved.{some_reserved}
+use Rattle.obj_check.specs.Reserved as rule
+use Rattle.obj_check.specs.WrongPlace.{fits_on, has_form, has_right_addend, stands, stands_in_code}
 use Rattle.obj_program.specs.declared.item.Item.{Item}
 use Rattle.obj_program.specs.declared.item.Patch.{Patch}
 use Rattle.obj_program.specs.declared.item.Patch.TheVariants as put

@@ -13,10 +13,10 @@ use Rattle.std.specs.Prelude.{is_some}
 use Rattle.obj_input.specs.declared.item_kind.ItemKind.{ItemKind}
 use Rattle.obj_input.specs.declared.item_kind.ItemKind.TheVariants as is
 use Rattle.obj_input.specs.Code.{is_auipc}
-use Rattle.obj_rules.specs.Kind.{by_link, computed_kind, single_kind}
-use Rattle.obj_rules.specs.WrongPlace.{is_i_form, is_upper_form}
-use Rattle.obj_rules.specs.WrongPlace as place
-use Rattle.obj_rules.specs.Reserved.{is_reserved_name, some_reserved}
+use Rattle.obj_check.specs.Kind.{by_link, computed_kind, single_kind}
+use Rattle.obj_check.specs.WrongPlace.{is_i_form, is_upper_form}
+use Rattle.obj_check.specs.WrongPlace as place
+use Rattle.obj_check.specs.Reserved.{is_reserved_name, some_reserved}
 use Rattle.obj_program.specs.Suits.{has_lower, is_upper, may_be_patched, names_reserved, suits}
 use Rattle.obj_program.specs.Program.{is_end}
 

@@ -19,14 +19,14 @@ use Rattle.obj_input.specs.Kinds.{kind_of}
 use Rattle.obj_input.specs.Relocation.{is_acting}
 use Rattle.obj_input.specs.Input.{InputParts, SectionParts, acting_at, is_code, section_of}
 use Rattle.obj_input.specs.Code.{instr, is_pair, is_start, starts_at}
-use Rattle.obj_rules.specs.declared.target.Direct.{Direct}
-use Rattle.obj_rules.specs.declared.target.Direct.TheVariants.{ByBranch, ByJal, ByPair}
-use Rattle.obj_rules.specs.declared.target.Aim.{Aim}
-use Rattle.obj_rules.specs.declared.target.Aim.TheVariants.{At, Astray}
-use Rattle.obj_rules.specs.declared.target.Aim.TheVariants as aim
-use Rattle.obj_rules.specs.Kind.{by_link, computed_kind, kind_at, pair_kind, single_kind, word_kind}
-use Rattle.obj_rules.specs.Target.{aim_at, aim_of, direct_at, direct_word, goes_right, guide_at, guides, may_aim, own_aim}
-use Rattle.obj_rules.specs.Undefined.{missing_in_use}
+use Rattle.obj_check.specs.declared.target.Direct.{Direct}
+use Rattle.obj_check.specs.declared.target.Direct.TheVariants.{ByBranch, ByJal, ByPair}
+use Rattle.obj_check.specs.declared.target.Aim.{Aim}
+use Rattle.obj_check.specs.declared.target.Aim.TheVariants.{At, Astray}
+use Rattle.obj_check.specs.declared.target.Aim.TheVariants as aim
+use Rattle.obj_check.specs.Kind.{by_link, computed_kind, kind_at, pair_kind, single_kind, word_kind}
+use Rattle.obj_check.specs.Target.{aim_at, aim_of, direct_at, direct_word, goes_right, guide_at, guides, may_aim, own_aim}
+use Rattle.obj_check.specs.Undefined.{missing_in_use}
 use Rattle.obj_program.specs.declared.item.Item.{Item}
 use Rattle.obj_program.specs.Program.{Program, count, is_end, item_of, no_item, place_of}
 use Rattle.obj_program.specs.Sound.{aims, is_direct}

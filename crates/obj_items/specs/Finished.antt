@@ -4,11 +4,11 @@ use Rattle.std.specs.Option.{option_or}
 use Rattle.obj_input.specs.Input.{InputParts}
 use Rattle.obj_join.specs.Duplicate.{duplicate}
 use Rattle.obj_join.specs.Joined.{among, joined_input}
-use Rattle.obj_rules.specs.Fault.{fault_of}
-use Rattle.obj_rules.specs.declared.fault.ItemFault.{ItemFault}
-use Rattle.obj_rules.specs.declared.fault.ItemFault.TheVariants as fault
+use Rattle.obj_check.specs.Fault.{fault_of}
+use Rattle.obj_check.specs.declared.fault.ItemFault.{ItemFault}
+use Rattle.obj_check.specs.declared.fault.ItemFault.TheVariants as fault
 use Rattle.obj_program.specs.Program.{Program}
-use Rattle.obj_said.specs.SaidOf.{said_by, said_of}
+use Rattle.obj_link.specs.SaidOf.{said_by, said_of}
 use Rattle.obj_items.specs.ProgramOf.{program_of}
 use Rattle.rv_word.specs.declared.end.End.{End}
 use Rattle.rv_word.specs.declared.end.End.TheVariants.{Fault, NoMemory}

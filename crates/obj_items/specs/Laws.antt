@@ -3,7 +3,7 @@ use Rattle.std.specs.Prelude.{◌≡◌, ◌+◌, ◌<◌, ◌^◌, None, length
 use Rattle.rv_word.specs.MemoryMap.{DATA_START}
 use Rattle.obj_input.specs.Input.{InputParts}
 use Rattle.obj_input.specs.DataLayout.{init_end}
-use Rattle.obj_rules.specs.Fault.{fault_of}
+use Rattle.obj_check.specs.Fault.{fault_of}
 use Rattle.obj_program.specs.MapFit.{FitsMaps}
 use Rattle.obj_program.specs.Sound.{IsSound}
 use Rattle.obj_items.specs.FitCode.{HasFitCode}

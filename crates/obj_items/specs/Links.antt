@@ -10,10 +10,10 @@ use Rattle.obj_input.specs.declared.reloc_kind.RelocKind.TheVariants.{High, LowI
 use Rattle.obj_input.specs.Kinds.{kind_of, takes_address}
 use Rattle.obj_input.specs.Input.{InputParts, acting_at, section_count, section_of}
 use Rattle.obj_input.specs.Code.{natural}
-use Rattle.obj_rules.specs.declared.target.Direct.{Direct}
-use Rattle.obj_rules.specs.declared.target.Aim.{Aim}
-use Rattle.obj_rules.specs.declared.target.Aim.TheVariants.{At}
-use Rattle.obj_rules.specs.Target.{aim_at, direct_at}
+use Rattle.obj_check.specs.declared.target.Direct.{Direct}
+use Rattle.obj_check.specs.declared.target.Aim.{Aim}
+use Rattle.obj_check.specs.declared.target.Aim.TheVariants.{At}
+use Rattle.obj_check.specs.Target.{aim_at, direct_at}
 use Rattle.obj_program.specs.declared.item.Item.{Item}
 use Rattle.obj_program.specs.declared.item.Patch.{Patch}
 use Rattle.obj_program.specs.declared.item.Patch.TheVariants as put

@@ -4,7 +4,7 @@ use Rattle.least.specs.Nearest.{joined}
 use Rattle.obj_input.specs.declared.item_kind.ItemKind.TheVariants as is
 use Rattle.obj_input.specs.Input.{InputParts, SectionParts, is_code, section_count, section_of}
 use Rattle.obj_input.specs.Code.{is_pair, starts_at, word, word_count}
-use Rattle.obj_rules.specs.Kind.{kind_at}
+use Rattle.obj_check.specs.Kind.{kind_at}
 use Rattle.obj_program.specs.declared.item.Item.{Item}
 use Rattle.obj_program.specs.declared.item.Patch.TheVariants as put
 

@@ -2,11 +2,11 @@
 -- says nothing.
 use Rattle.std.specs.Prelude.{◌≡◌, Some, None, Result, Ok, Err}
 use Rattle.obj_input.specs.Input.{InputParts}
-use Rattle.obj_rules.specs.Fault.{fault_of}
+use Rattle.obj_check.specs.Fault.{fault_of}
 use Rattle.obj_program.specs.Program.{Program}
 use Rattle.rv_word.specs.declared.end.End.{End}
 use Rattle.rv_word.specs.declared.end.End.TheVariants.{Fault, NoMemory}
-use Rattle.obj_rules.specs.declared.fault.ItemFault.{ItemFault}
+use Rattle.obj_check.specs.declared.fault.ItemFault.{ItemFault}
 use Rattle.obj_items.specs.ProgramOf.{program_of}
 
 abbrev pub IsTold : InputParts → Result Program (End ItemFault) → Type 0

@@ -1,10 +1,10 @@
 ghost use Rattle.std.specs.Prelude.{◌≡◌, IfOk};
-ghost use Rattle.obj_rules.specs.Fault.{fault_of};
+ghost use Rattle.obj_check.specs.Fault.{fault_of};
 ghost use Rattle.obj_items.specs.FromObject.{input_of};
 
 use crate::from_object::input_of;
 use elf_object::Object;
-use obj_rules::{ItemFault, fault_of};
+use obj_check::{ItemFault, fault_of};
 use rv_word::NoMemory;
 use std::alloc::Global;
 

@@ -6,15 +6,15 @@ ghost use Rattle.elf_tables.specs.Header.{e_shnum};
 ghost use Rattle.obj_join.specs.Joined.{among, joined_input};
 ghost use Rattle.refusals.specs.declared.refusal.Refusal.TheVariants.{Duplicate};
 ghost use Rattle.obj_items.specs.FitCode.{HasFitCode};
-ghost use Rattle.obj_said.specs.SaidOf.{said_by, said_of};
+ghost use Rattle.obj_link.specs.SaidOf.{said_by, said_of};
 ghost use Rattle.obj_items.specs.Finished.{IsFinished, Tells, refusal_in};
 
 use crate::program::items_of;
 use elf_object::Object;
+use obj_check::ItemFault;
 use obj_join::Definers;
+use obj_link::{joined_input, name_numbers, symbols_of};
 use obj_program::Items;
-use obj_rules::ItemFault;
-use obj_said::{joined_input, name_numbers, symbols_of};
 use refusals::Refusal;
 use rv_word::{Bytes, End, NoMemory};
 use std::alloc::Global;

@@ -4,7 +4,7 @@ ghost use Rattle.obj_items.specs.FromObject.{input_of};
 
 use elf_object::Object;
 use obj_input::Input;
-use obj_said::own_input;
+use obj_link::own_input;
 use rv_word::NoMemory;
 use std::alloc::Global;
 

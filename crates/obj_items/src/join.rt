@@ -1,7 +1,7 @@
 ghost use Rattle.std.specs.Prelude.{◌≡◌, ◌∷◌, [], ℕ, List};
 ghost use Rattle.obj_items.specs.FromObject.{input_of};
 ghost use Rattle.obj_join.specs.Laws.{HasOwnNames};
-ghost use Rattle.obj_said.specs.SaidOf.{said_of};
+ghost use Rattle.obj_link.specs.SaidOf.{said_of};
 ghost use Rattle.obj_items.specs.Added.{IsAdded};
 ghost use Rattle.obj_items.specs.Finished.{IsFinished, Tells};
 

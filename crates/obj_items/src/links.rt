@@ -14,9 +14,9 @@ ghost use Rattle.obj_items.specs.ProgramOf.{program_of};
 ghost use Rattle.obj_items.specs.Standing.{IsInstruction};
 
 use crate::values::{place_at, use_value};
+use obj_check::{Aim, aim_at, direct_at};
 use obj_input::{DataLayout, Definition, Input, ItemKind, RelocKind, Relocation};
 use obj_program::{Item, PackedItem, Patch, place_in};
-use obj_rules::{Aim, aim_at, direct_at};
 
 /// The place of the AUIPC that a low part names.
 fn named_place(places: &[PackedItem], definition: Definition) -> u64

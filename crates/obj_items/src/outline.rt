@@ -7,9 +7,9 @@ ghost use Rattle.obj_input.specs.Code.{word_count};
 ghost use Rattle.obj_program.specs.Program.{AreInOrder};
 ghost use Rattle.obj_items.specs.Outline.{end_at, outline, own_word, section_items, start_at, start_item};
 
+use obj_check::kind_at;
 use obj_input::{Input, ItemKind, Section};
 use obj_program::{Item, PackedItem, Patch};
-use obj_rules::kind_at;
 use rv_word::NoMemory;
 use std::alloc::Global;
 

@@ -1,6 +1,6 @@
 ghost use Rattle.std.specs.Prelude.{◌≡◌, ℕ, None, IfOk, [], map};
 ghost use Rattle.obj_input.specs.DataLayout.{data_layout_of};
-ghost use Rattle.obj_rules.specs.Fault.{fault_of};
+ghost use Rattle.obj_check.specs.Fault.{fault_of};
 ghost use Rattle.obj_program.specs.MapFit.{FitsMaps};
 ghost use Rattle.obj_program.specs.Program.{AreInOrder, place_of};
 ghost use Rattle.obj_program.specs.Sound.{IsSound};
@@ -21,9 +21,9 @@ use crate::ranges::program_is_sound;
 use crate::relocs::relocs;
 use crate::taken::taken;
 use elf_object::Object;
+use obj_check::{ItemFault, fault_of};
 use obj_input::{DataLayout, Input};
 use obj_program::{InitialData, Items, PackedItem};
-use obj_rules::{ItemFault, fault_of};
 use rv_word::{End, NoMemory};
 use std::alloc::Global;
 

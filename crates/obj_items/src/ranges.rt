@@ -1,7 +1,7 @@
 //! That numbers of relocations have 64 bits, as the prover needs it.
 
 ghost use Rattle.std.specs.Prelude.{◌≡◌, ◌<◌, ◌^◌, All, None, length};
-ghost use Rattle.obj_rules.specs.Fault.{fault_of};
+ghost use Rattle.obj_check.specs.Fault.{fault_of};
 ghost use Rattle.obj_program.specs.MapFit.{FitsMaps};
 ghost use Rattle.obj_program.specs.Sound.{IsSound};
 ghost use Rattle.obj_items.specs.FitCode.{HasFitCode};

@@ -40,10 +40,6 @@ added rank s n its found name ranked none = elim (cases_Bool (its == name)) [
   | inr other ↦ rw (is_at_number its name, other, ranked) (passed (found name))
 ]
 
--- a symbol of another rank, or one whose name is there, changes nothing
-pub other_rank : (rank : Rank) (s : SymbolSaid) (n its : ℕ) (found : Option ℕ) (name : ℕ) → has_rank rank s ≡ false → found ≡ noted rank s its n found name
-other_rank rank s n its found name not = rw not (passed found)
-
 pub there : (rank : Rank) (s : SymbolSaid) (n its : ℕ) (found : ℕ → Option ℕ) (name : ℕ) → is_some (found its) ≡ true → found name ≡ noted rank s its n (found name) name
 there rank s n its found name is = elim (cases_Bool (its == name)) [
   | inl same ↦

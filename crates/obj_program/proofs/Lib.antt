@@ -6,4 +6,3 @@ pub mod Kept
 pub mod Linked
 pub mod Ranges
 pub mod Exact
-mod Rows

@@ -2,7 +2,7 @@
 use Rattle.std.specs.Prelude.{ℕ, List, [], ◌++◌, codes}
 use Rattle.std.specs.Fmt.{decimal}
 use Rattle.elf_object.specs.FaultText.{fault_number as object_number, fault_text as object_text}
-use Rattle.obj_rules.specs.FaultText.{fault_number as item_number, fault_text as item_text}
+use Rattle.obj_check.specs.FaultText.{fault_number as item_number, fault_text as item_text}
 use Rattle.elf_image.specs.RefusalText.{refusal_text as image_text}
 use Rattle.text_lines.specs.Reasons.{reason_name}
 use Rattle.refusals.specs.declared.map_reason.MapReason.{MapReason}

@@ -4,7 +4,7 @@ ghost use Rattle.refusals.specs.Refusals.{name_told, refusal_line, refusal_numbe
 use crate::map_reason::MapReason;
 use elf_image::ImageRefusal;
 use elf_object::ObjectFault;
-use obj_rules::ItemFault;
+use obj_check::ItemFault;
 use rv_word::{Bytes, NoMemory};
 use std::alloc::Global;
 use std::fmt;

@@ -1,6 +1,5 @@
 //! Words of the machine: exact bit numbers, their products and quotients, the regions of memory, an
-//! image's bytes, versions of images and graphs, the numbers of system calls, and the answer for want of memory. All crates but
-//! `rv_instr`, `elf_bytes` and `tool_io` stand on this one.
+//! image's bytes, versions of images and graphs, forms, the numbers of system calls, and the answer for want of memory.
 #![tactic(auto)]
 
 pub use bits::{add64, field, low32, sext};

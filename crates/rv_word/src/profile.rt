@@ -1,5 +1,5 @@
-//! Where the parts of an image stand: of version 1, which is for one hart, and of version 2, which is for several;
-//! and of each under a graph of version 3.
+//! Where the parts of an image stand: of version 1, which is for one hart, and of version 2, which is for several; under graphs of
+//! versions 1 and 2, and, where the name begins with LEAN, of version 3.
 //! Definitions have these addresses and sizes from here, by `specs/MemoryMap.antt`.
 
 /// Where a run starts, in all versions: at the prologue's opening.

@@ -3,7 +3,7 @@
 
 /// A branch that leads over a jump.
 pub const BRANCH_WORDS: u32 = 2;
-/// A store behind its mask.
+/// A store behind a mask by shifts.
 pub const STORE_WORDS: u32 = 4;
 /// A return behind its comparison with the shadow stack.
 pub const RETURN_WORDS: u32 = 5;

@@ -6,8 +6,8 @@ ghost use Rattle.rv_word.specs.Version.{image_number};
 
 use crate::memory_map::SHADOW_SIZE;
 use crate::profile::{
-    CLOSING, CLOSING_OF_HARTS, LEAN_UNITS_START, LEAN_UNITS_START_OF_HARTS, SHADOW_SIZE_OF_HARTS,
-    UNITS_START, UNITS_START_OF_HARTS,
+    LEAN_UNITS_START, LEAN_UNITS_START_OF_HARTS, SHADOW_SIZE_OF_HARTS, UNITS_START,
+    UNITS_START_OF_HARTS,
 };
 
 /// The version of an image, by how many harts may run it.
@@ -62,7 +62,7 @@ impl ImageVersion {
         }
     }
 
-    /// The address of the first unit in images of the version.
+    /// The address of the first unit in images of the version, under a graph of version 1 or 2.
     pub fn units_from(self) -> u64
         ensures value { result ≡ (profile_of self).units_from }
         ensures low { CODE_START + 64 ≤ result }
@@ -71,16 +71,6 @@ impl ImageVersion {
         match self {
             ImageVersion::OneHart => UNITS_START,
             ImageVersion::EightHarts => UNITS_START_OF_HARTS,
-        }
-    }
-
-    /// The address to which a program returns, the prologue's closing, in images of the version.
-    pub fn closing(self) -> u64
-        ensures { result ≡ (profile_of self).closing }
-    {
-        match self {
-            ImageVersion::OneHart => CLOSING,
-            ImageVersion::EightHarts => CLOSING_OF_HARTS,
         }
     }
 }

@@ -3,7 +3,8 @@
 
 ghost use Rattle.std.specs.Prelude.{◌<◌};
 
-use cfi_unit::{Unit, emit, fits, recognise, size};
+use cfi_emit::{emit, fits, recognise, size};
+use cfi_unit::Unit;
 use rv_word::Numbers;
 use std::alloc::Global;
 

@@ -1,8 +1,8 @@
 //! Units of images whose callees save the sites of calls: what they are, and that no graph of today admits one.
 
 use crate::stores::wrong_in;
+use cfi_emit::recognise;
 use cfi_graph::read_graph;
-use cfi_unit::recognise;
 use sample_programs::code;
 use std::alloc::Global;
 

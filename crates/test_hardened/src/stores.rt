@@ -1,7 +1,8 @@
 //! Stores behind one mask: which words are one unit, and codes in which a store stands behind sixteen or too far off.
 
+use cfi_emit::recognise;
 use cfi_graph::{Graph, read_graph};
-use cfi_unit::{Unit, recognise};
+use cfi_unit::Unit;
 use cfi_verify::{Reject, Rule, verify};
 use rv_word::{End, Image};
 use sample_programs::{STORES, code};

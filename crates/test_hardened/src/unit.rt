@@ -1,6 +1,7 @@
 ghost use Rattle.std.specs.Prelude.{◌<◌, ◌^◌};
 
-use cfi_unit::{Mask, Member, Members, SystemOp, TargetWord, Unit, emit, fits, recognise, size};
+use cfi_emit::{emit, fits, recognise, size};
+use cfi_unit::{Mask, Member, Members, SystemOp, TargetWord, Unit};
 use rv_instr::{BranchOp, FenceWord, Immediate, ImmediateOp, Instr, LoadOp, Reg, StoreOp, UpperOp};
 use sample_programs::{A, B, H, OTHER, P, SECOND};
 use std::alloc::{AllocError, Global};

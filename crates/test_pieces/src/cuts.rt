@@ -2,8 +2,9 @@
 ghost use Rattle.std.specs.Prelude.{◌≡◌, ◌<◌, ◌≤◌, ◌^◌};
 
 use crate::near::{FIRST, NEAR, SKIPS};
+use cfi_emit::recognise;
 use cfi_scan::{Entry, Feeder, Listing, Steps};
-use cfi_unit::{Mask, SystemOp, TargetWord, Unit, recognise};
+use cfi_unit::{Mask, SystemOp, TargetWord, Unit};
 use rv_word::{GraphVersion, ImageVersion, Numbers, Versions};
 use sample_programs::{
     A, A_OF_HARTS, AIMED, B, BREAK, DEEP, ECHO, EDGE, H, JOBS, JUMP, LOAD, LOOP, NOWHERE, OTHER, P,

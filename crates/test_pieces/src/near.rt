@@ -1,9 +1,10 @@
 ghost use Rattle.std.specs.Prelude.{◌<◌};
 
+use cfi_emit::{emit, fits, recognise};
 use cfi_graph::{Graph, read_graph};
 use cfi_script::Script;
 use cfi_step::{RunEnd, RunReport};
-use cfi_unit::{Unit, emit, fits, recognise};
+use cfi_unit::Unit;
 use cfi_verify::{Checked, Reject, Rule, verify};
 use cfi_walk::{Followed, Walk, follow};
 use rv_instr::{BranchOp, Reg};

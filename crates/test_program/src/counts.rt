@@ -1,10 +1,10 @@
 use crate::by_hand::add_extent;
 use crate::kinds::KINDS;
 use elf_object::{Object, Relocs};
+use obj_check::ItemFault;
 use obj_input::ItemKind;
 use obj_items::items;
 use obj_program::Items;
-use obj_rules::ItemFault;
 use rv_word::End;
 use std::alloc::Global;
 use std::fmt::Write;

@@ -21,10 +21,6 @@ pub ends_whole : {A I : Type 0} (reading : Reading I) (next : List I → Result 
 ends_whole reading next (Fault fault) e = rw e refl
 ends_whole reading next NoMemory e = tt
 
-pub ends_items : {I : Type 0} (reading : Reading I) (end : End LineFault) → Answers {A = Unit {0}} (Err end) reading.end → Answers {A = List I} (Err end) (whole reading)
-ends_items reading (Fault fault) e = rw e refl
-ends_items reading NoMemory e = tt
-
 pub goes_on : {A C : Type 0} (step : Result A (End LineFault)) (x : A) (next : A → Result C (End LineFault)) (answer : Result C (End LineFault)) → step ≡ Ok x → Answers answer (next x) → Answers answer (if_right step next)
 goes_on step x next answer e a = rw e a
 

@@ -22,13 +22,14 @@ pub const NO_MEMORY: u8 = 5;
 /// A file has too many bytes.
 pub const TOO_LONG: u8 = 6;
 
-/// The run came to a handler: a transfer was not the graph's, the shadow stack was full, or a stop was reached.
+/// The run came to a handler: a transfer was not the graph's, a system call not in its list, the shadow stack full, or a stop reached.
 pub const HANDLER: u8 = 10;
 
 /// The run came to the program's own EBREAK, or loaded from outside memory.
 pub const BROKEN: u8 = 11;
 
-/// The program, before it was hardened, takes no such step: it leaves its graph, its window of data or its depth of calls.
+/// The program, before it was hardened, takes no such step: it leaves its graph, its list, its window of data, its depth of calls or a
+/// section's end.
 pub const UNTAME: u8 = 13;
 
 /// The run, or the program's own, took as many steps as it may.

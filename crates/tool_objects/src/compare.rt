@@ -1,10 +1,10 @@
-ghost use Rattle.std.specs.Prelude.{◌≡◌, ◌≤◌, ℕ, List, Ok, Some, Err, IfOk, IfErr, IfSome, IsOk, option_copied, option_map, map, ◌∷◌, []};
+ghost use Rattle.std.specs.Prelude.{◌≡◌, ◌≤◌, ℕ, List, Ok, Some, Err, IfOk, IfErr, IfSome, IsOk, length, option_copied, option_map, map, ◌∷◌, []};
 ghost use Rattle.tool_common.specs.Lines.{with_newline};
 ghost use Rattle.text_lines.specs.Decimal.{MAX_STEP};
 ghost use Rattle.text_lines.specs.Answers.{line_fault};
 ghost use Rattle.tool_io.specs.Names.{AreRead};
 ghost use Rattle.tool_io.specs.Reading.{CountsReads, IsOnlyRead};
-ghost use Rattle.tool_common.specs.Reads.{IsFault, IsStop, IsTooLong, file_names};
+ghost use Rattle.tool_common.specs.Reads.{Content, GaveAll, IsFault, IsStop, IsTooLong, file_names};
 ghost use Rattle.cfi_map_text.specs.Map.{MapParts};
 ghost use Rattle.cfi_map_text.specs.MapText.{map_of};
 ghost use Rattle.rv_word.specs.Form.{graph_version};
@@ -295,6 +295,24 @@ fn compare_bytes(
     }
 }
 
+/// Compares, where the files of a comparison gave these bytes.
+fn compare_read(
+    alloc: Global,
+    request: &CompareRequest<'_>,
+    bytes: &[Vec<u8>],
+) -> Result<CompareOutcome, NoMemory>
+    requires few { request.now.limit ≤ MAX_STEP }
+    requires number { length bytes.now ≡ length (compare_names (compare_asked request.now)) }
+    ensures { (content : Content) → GaveAll content (compare_names (compare_asked request.now)) (map (λ b. b.items) bytes.now)
+        → IfOk result (ExplainsCompare content (compare_asked request.now)) }
+{
+    let (given, others) = request.objects.split(bytes, 4);
+    let policy = text_named(request.policy, &others[0]);
+    compare_bytes(
+        alloc, request, given, policy, &others[1], &others[2], &others[3],
+    )
+}
+
 /// Reads the files of a comparison and compares.
 pub fn compare_files<'a, F: Files>(
     alloc: Global,
@@ -317,9 +335,5 @@ pub fn compare_files<'a, F: Files>(
     ];
     let names = request.objects.names_with(alloc, &others)?;
     let bytes = read_all(alloc, &names, files)?;
-    let (given, others) = request.objects.split(&bytes, 4);
-    let policy = text_named(request.policy, &others[0]);
-    Ok(compare_bytes(
-        alloc, request, given, policy, &others[1], &others[2], &others[3],
-    )?)
+    Ok(compare_read(alloc, request, &bytes)?)
 }

@@ -1,9 +1,11 @@
-ghost use Rattle.std.specs.Prelude.{◌≡◌, ℕ, IfOk, option_map, ◌∷◌, []};
+ghost use Rattle.std.specs.Prelude.{◌≡◌, ℕ, IfOk, Ok, option_map, ◌∷◌, []};
 ghost use Rattle.elf_writer.specs.Object.{object_bytes};
 ghost use Rattle.cfi_gen.specs.Demo.{demo_parts};
 ghost use Rattle.cfi_step.specs.declared.report.RunEnd.TheVariants as ends;
 ghost use Rattle.gen_hardened.specs.Laws.{entered};
+ghost use Rattle.cfi_harden.specs.Given.{alone};
 ghost use Rattle.cfi_harden.specs.Hardened.{IsWrittenOf};
+ghost use Rattle.cfi_harden.specs.Preparing.{Reads};
 ghost use Rattle.cfi_meaning.specs.Hardened.{NeverDiffersOf};
 ghost use Rattle.tool_objects.specs.Demonstration.{IsComparable, IsDemoPrepared, IsDifference, IsDrawn};
 ghost use Rattle.tool_objects.specs.Rewrite.{IsMade};
@@ -16,6 +18,7 @@ use cfi_gen::object_of;
 use cfi_harden::Prepared;
 use cfi_rewrite::Hardened;
 use cfi_step::{RunEnd, RunReport};
+use obj_program::Items;
 use rv_word::{Image, ImageVersion, NoMemory};
 use std::alloc::Global;
 use std::fmt;
@@ -263,14 +266,23 @@ fn of_prepared(
     of_hardened(alloc, object, prepared, &hardened)
 }
 
+/// Prepares the program of a generated object, hardens it, verifies its image, runs it, and compares the program's run with it.
+fn of_program(alloc: Global, object: &[u8], items: &Items<'_>) -> Result<DemoOutcome, NoMemory>
+    requires drawn { IsDrawn object.now }
+    requires read { Reads (alone object.now) (Ok items.now) }
+    ensures { (number : ℕ) → object.now ≡ object_bytes (demo_parts number) → IfOk result (ExplainsDemo number) }
+{
+    let prepared = prepared(alloc, items)?;
+    of_prepared(alloc, object, &prepared)
+}
+
 /// Prepares a generated object, hardens it, verifies its image, runs it, and compares the program's run with it.
 fn of_object(alloc: Global, object: &[u8]) -> Result<DemoOutcome, NoMemory>
     requires { IsDrawn object.now }
     ensures { (number : ℕ) → object.now ≡ object_bytes (demo_parts number) → IfOk result (ExplainsDemo number) }
 {
     let items = program(alloc, object)?;
-    let prepared = prepared(alloc, &items)?;
-    of_prepared(alloc, object, &prepared)
+    of_program(alloc, object, &items)
 }
 
 /// Hardens the object of a number, verifies its image, runs it, and compares the program's run with it.

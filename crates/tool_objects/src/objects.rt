@@ -35,9 +35,7 @@ fn push_others<'a>(
 ) -> Result<(), NoMemory>
     ensures { OnOk result (map (option_map (λ n. n.now)) all.new.items ≡ map (option_map (λ n. n.now)) all.old.items ++ map (option_map (λ n. n.now)) others.now) }
 {
-    for name in others {
-        all.push(*name)?;
-    }
+    all.extend_from_slice(others)?;
     Ok(())
 }
 
@@ -81,7 +79,8 @@ impl<'a> Objects<'a> {
         others: usize,
     ) -> (ObjectBytes<'b>, &'b [Vec<u8>])
         requires { length bytes.now ≡ length (names_with (objects_asked self.now) []) + others }
-        ensures { (content : Content) (names : List (Option (List ℕ))) → length names ≡ others
+        ensures count { length result.1.now ≡ others }
+        ensures gave { (content : Content) (names : List (Option (List ℕ))) → length names ≡ others
             → GaveAll content (names_with (objects_asked self.now) names) (map (λ b. b.items) bytes.now)
             → GaveObjects content (objects_asked self.now) (given_by result.0) × GaveAll content names (map (λ b. b.items) result.1.now) }
     {

@@ -1,4 +1,4 @@
-ghost use Rattle.std.specs.Prelude.{◌≡◌, ◌≤◌, ◌^◌, [], None, Ok, Err, IfOk, IfErr, IfSome, IsOk, OnOk, option_copied, option_map, map, ◌∷◌};
+ghost use Rattle.std.specs.Prelude.{◌≡◌, ◌≤◌, ◌^◌, [], None, Ok, Err, IfOk, IfErr, IfSome, IsOk, OnOk, length, option_copied, option_map, map, ◌∷◌};
 ghost use Rattle.tool_io.specs.Faults.{Counts};
 ghost use Rattle.tool_io.specs.Names.{AreRead};
 ghost use Rattle.tool_io.specs.Reading.{CountsReads, IsOnlyRead};
@@ -7,7 +7,7 @@ ghost use Rattle.elf_image.specs.Header.{data_start};
 ghost use Rattle.cfi_harden.specs.Given.{Given};
 ghost use Rattle.cfi_harden.specs.Preparing.{Reads};
 ghost use Rattle.tool_common.specs.Lines.{with_newline};
-ghost use Rattle.tool_common.specs.Reads.{IsFault, IsStop, IsTooLong, file_names};
+ghost use Rattle.tool_common.specs.Reads.{Content, GaveAll, IsFault, IsStop, IsTooLong, file_names};
 ghost use Rattle.tool_common.specs.Words.{text_named};
 ghost use Rattle.tool_common.specs.Writes.{AreApart, IsCut, IsTorn, KeepsReads, Wrote};
 ghost use Rattle.tool_objects.specs.Objects.{given_by, objects_asked};
@@ -345,6 +345,22 @@ fn rewrite_given<'a>(
     }
 }
 
+/// Hardens the program of the objects, where the files that are asked for gave these bytes.
+fn rewrite_read<'a>(
+    alloc: Global,
+    request: &RewriteRequest<'a>,
+    bytes: &[Vec<u8>],
+) -> Result<RewriteOutcome<'a>, NoMemory>
+    requires apart { AreNamedApart (rewrite_asked request.now) }
+    requires number { length bytes.now ≡ length (rewrite_names (rewrite_asked request.now)) }
+    ensures { (content : Content) → GaveAll content (rewrite_names (rewrite_asked request.now)) (map (λ b. b.items) bytes.now)
+        → IfOk result (ExplainsRewrite content (rewrite_asked request.now)) }
+{
+    let (given, others) = request.objects.split(bytes, 1);
+    let policy = text_named(request.policy, &others[0]);
+    rewrite_given(alloc, request, given, policy)
+}
+
 /// Reads the objects and the policy and hardens the program of the objects.
 pub fn rewrite_files<'a, F: Files>(
     alloc: Global,
@@ -361,7 +377,5 @@ pub fn rewrite_files<'a, F: Files>(
 {
     let names = request.objects.names_with(alloc, &[request.policy])?;
     let bytes = read_all(alloc, &names, files)?;
-    let (given, others) = request.objects.split(&bytes, 1);
-    let policy = text_named(request.policy, &others[0]);
-    Ok(rewrite_given(alloc, request, given, policy)?)
+    Ok(rewrite_read(alloc, request, &bytes)?)
 }

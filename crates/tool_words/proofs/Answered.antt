@@ -29,12 +29,6 @@ not_help e = absurd (cc)
 not_version : DisplayVersion ≡ OutOfMemory → ⊥
 not_version e = absurd (cc)
 
--- what was asked, or that the words are not taken
-pub gives_asked : (asked : Option Asked) (request : Option (List Text)) (result : Result Asked WordsEnd) → option_map request_of asked ≡ request
-    → result ≡ ok_or asked Refused → Gives (asked_or_refused request) result
-gives_asked (Some asked) request result same is = subst (λ r. Gives (asked_or_refused r) result) same (subst (Gives (asks (request_of asked))) (sym is) refl)
-gives_asked None request result same is = subst (λ r. Gives (asked_or_refused r) result) same (subst (Gives refused) (sym is) refl)
-
 alone_asked : (words : List Text) (request : Option (List Text)) → if_alone words (asked_or_refused request) ≡ asked_or_refused request
 alone_asked words (Some request) = refl
 alone_asked words None = refl

@@ -45,7 +45,7 @@ pub struct RunWords<'a> {
     pub image: &'a str,
     /// The graph.
     pub graph: &'a str,
-    /// The script of changes.
+    /// The script of turns and changes.
     pub script: &'a str,
     /// The program's input.
     pub input: &'a str,

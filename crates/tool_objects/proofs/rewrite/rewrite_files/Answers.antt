@@ -1,34 +1,19 @@
-use Rattle.std.proofs.Common.{◌≡◌, true, rules, [], ◌∷◌, arith, map, refl}
+use Rattle.std.proofs.Common.{◌≡◌, true, rules, [], ◌∷◌, refl}
 use Rattle.tool_io.specs.Names.{AreRead}
-use Rattle.tool_common.specs.Reads.{Content, GaveAll, file_names}
-use Rattle.tool_common.proofs.Gave.{gave_at}
+use Rattle.tool_common.specs.Reads.{file_names}
 use Rattle.tool_common.proofs.InOrder.{none_yet, read_less}
 use Rattle.tool_objects.specs.Objects.{names_with}
 use Rattle.tool_objects.specs.Rewrite.{rewrite_asked}
 use Rattle.tool_objects.proofs.rewrite.rewrite_files.Goals as goal
 
 pub returns-clause-explained : goal.returns-clause-explained
-returns-clause-explained g c =
-    let content : Content = g.F.Files.content c.args.files.now in
-    let words = rewrite_asked c.args.request.now in
-    let names = words.policy ∷ [] in
-    let read : GaveAll content (names_with words.objects names) (map (λ b. b.items) c.deref-2.result.now) = search rules in
-    let (objects_gave, others_gave) = c.split.ensures content names refl read in
-    let gave = gave_at (λ b. b.items) content names c.split.result.1.now others_gave in
-    record {
-      given = _;
-      policy_bytes = c.deref-3.result.now;
-      objects_gave = objects_gave;
-      policy_gave = gave 0 c.index-others-0.result c.deref-3.result.now (omega arith) c.index-others-0.is c.deref-3.ensures.value;
-      apart = c.requires.apart;
-      rewrite_is = rw c.text_named-policy.ensures at c.in_ok-rewrite_given.ensures;
-    }
+returns-clause-explained g c = c.in_ok-rewrite_read.ensures (g.F.Files.content c.args.files.now) (search rules)
 
 pub returns-in_err-names-clause-in_order : goal.returns-in_err-names-clause-in_order
 returns-in_err-names-clause-in_order g c = none_yet _ _ _ (search rules)
 
-pub returns-in_err-rewrite_given-clause-in_order : goal.returns-in_err-rewrite_given-clause-in_order
-returns-in_err-rewrite_given-clause-in_order g c =
+pub returns-in_err-rewrite_read-clause-in_order : goal.returns-in_err-rewrite_read-clause-in_order
+returns-in_err-rewrite_read-clause-in_order g c =
     let words = rewrite_asked c.args.request.now in
     let read : AreRead (g.F.Files.reads c.args.files.now) (g.F.Files.reads c.read_all.new.files) (file_names (names_with words.objects (words.policy ∷ []))) (true ≡ true) = search rules in
     read_less _ _ _ _ _ read (λ _. refl)

@@ -1,0 +1,2 @@
+mod ReadEach
+mod KindsTried

@@ -1,0 +1,11 @@
+use Rattle.std.proofs.Common.{subst, sym}
+use Rattle.elf_names.specs.Numbers.{AreApart, AreNumbers}
+use Rattle.obj_join.specs.Symbols.{names_of}
+use Rattle.obj_link.specs.SaidOf.{said_by}
+use Rattle.obj_link.proofs.names.name_numbers.Goals as goal
+
+pub returns : goal.returns
+returns c =
+    let names = names_of (said_by c.args.objects.now).symbols in
+    subst (λ ns. AreApart names ns) c.deref.ensures.value
+    (c.tells_apart.ensures names (subst (λ ns. AreNumbers c.numbers_of.new.texts ns names) (sym c.deref.ensures.value) c.in_ok-numbers.ensures))

@@ -1,0 +1,8 @@
+use Rattle.std.proofs.Common.{take}
+use Rattle.elf_names.specs.Numbers.{AreNumbers}
+use Rattle.obj_join.specs.Symbols.{names_of}
+use Rattle.obj_link.specs.SaidOf.{said_by}
+use Rattle.obj_link.proofs.names.numbers_of.Given as goal
+
+abbrev pub invariant-loop-object : goal.invariant-loop-object
+invariant-loop-object l = AreNumbers l.texts l.numbers.items (names_of (said_by (take l.object-index l.objects)).symbols)

@@ -1,6 +1,0 @@
-use Rattle.std.proofs.Common.{◌∙◌}
-use Rattle.obj_rules.proofs.Named.{one_of_four}
-use Rattle.obj_rules.proofs.reserved.some_reserved.Goals as goal
-
-pub returns : goal.returns
-returns c = c.names_one_of_four.ensures ∙ one_of_four c.args.instr.now

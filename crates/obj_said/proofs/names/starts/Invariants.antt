@@ -1,7 +1,0 @@
-use Rattle.std.proofs.Common.{◌≡◌}
-use Rattle.obj_input.specs.Listed.{listed}
-use Rattle.obj_said.specs.Names.{start_in}
-use Rattle.obj_said.proofs.names.starts.Given as goal
-
-abbrev pub invariant-loop-number : goal.invariant-loop-number
-invariant-loop-number l = l.starts.items ≡ listed (start_in l.object) l.number

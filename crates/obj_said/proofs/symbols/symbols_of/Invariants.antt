@@ -1,9 +1,0 @@
-use Rattle.std.proofs.Common.{◌≡◌, take}
-use Rattle.std.specs.List.{sum_by}
-use Rattle.elf_tables.specs.Header.{e_shnum}
-use Rattle.obj_said.specs.SaidOf.{said_by}
-use Rattle.obj_said.proofs.symbols.symbols_of.Given as goal
-
-abbrev pub invariant-loop-object : goal.invariant-loop-object
-invariant-loop-object l =
-    (l.symbols.items ≡ (said_by (take l.object-index l.objects)).symbols) × (l.sections ≡ sum_by e_shnum (take l.object-index l.objects))
