@@ -38,7 +38,7 @@ PROBE = """//! Executes one instruction for each line of standard input: a word 
 
 use rv_instr::Reg;
 use rv_machine::{Machine, Turn};
-use rv_word::Image;
+use rv_image::Image;
 use std::alloc::{AllocError, Global};
 use std::io;
 
@@ -209,10 +209,10 @@ def by_machine(folder, cases):
 def repository(folder):
     """The crates below the machine, and the program over it."""
     os.makedirs(f"{folder}/crates/probe/src")
-    lines = ["probe: rv_machine rv_word rv_instr\n"]
+    lines = ["probe: rv_machine rv_word rv_image rv_instr\n"]
     for line in (CRATES.parent / "crates.txt").read_text().splitlines():
         name = line.split(":")[0].strip()
-        if name in ("rv_word", "rv_instr", "rv_code", "rv_mem", "rv_sys", "rv_machine"):
+        if name in ("rv_word", "rv_image", "rv_instr", "rv_code", "rv_mem", "rv_sys", "rv_machine"):
             shutil.copytree(CRATES / name, f"{folder}/crates/{name}", ignore=shutil.ignore_patterns("out"))
             lines.append(line + "\n")
     Path(f"{folder}/crates.txt").write_text("".join(lines))

@@ -18,7 +18,7 @@ TURNS = {"exit": "Exit", "break": "Break", "load": "LoadFault", "store": "StoreF
 
 
 class Profile(NamedTuple):
-    """`Profile` of rv_word's MemoryMap.antt, without the size of the shadow stack, which the machine knows."""
+    """`Profile` of rv_image's MemoryMap.antt, without the size of the shadow stack, which the machine knows."""
     harts: int
     opening_call: int
     closing: int

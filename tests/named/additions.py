@@ -23,7 +23,7 @@ ROWS = [
      "`tools/simulator/machine.py`; `library/examples/emulator.c`"),
     ("a unit", ["Guarded"], "all files of `tests/named/units.txt`, in their order; a constructor a word in `InPlace`; a proof file for what "
      "its steps do; a source in `tests/units`"),
-    ("a version of images", ["EightHarts", "version_2"], "`rv_word` `profile.rt`, `version.rt`; `cfi_unit` `specs/Prologue`, "
+    ("a version of images", ["EightHarts", "version_2"], "`rv_image` `profile.rt`, `version.rt`; `cfi_unit` `specs/Prologue`, "
      "`proofs/Parts`; `cfi_verify` `prologue.rt`"),
     ("a form of hardening, a version of graphs", ["HartsSplit", "TwoLabels"], "`tests/shared/forms.py`"),
     ("a sort of class", ["Jumps", "is_sort_of", "read_of", "sorts_of"], "where its checks read another word, `cfi_unit` `target_word.rt`; "

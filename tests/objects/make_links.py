@@ -232,7 +232,7 @@ def worked_module():
     return "\n".join([
         "//! Objects as one program in each form of hardening: the words of their units, their data, their graphs and their maps,",
         "//! as tests/objects/make_links.py at the top of the repository prints them.", "",
-        "use crate::given::Objects;", "use rv_word::Form;", "",
+        "use crate::given::Objects;", "use rv_image::Form;", "",
         "/// How a run by one hart ends: its steps, the length of its walk and its exit.",
         "#[derive(Clone, Copy)]", "pub struct Run(pub u64, pub u64, pub u8);", "",
         "/// What objects become: the form, the objects, the words of the units, the call of the entry in the prologue, the data,",
@@ -297,7 +297,7 @@ def samples_module():
         "//! Three objects of gcc 12.2, the first two of them with a table of addresses, and three of clang 16.0, of the sources",
         "//! in tests/objects/links at the top of the repository, in hexadecimal, and what each three become in each form of",
         "//! hardening, as tests/objects/make_links.py prints it: image and graph are those of what `ld -r` makes of them.", "",
-        "use crate::given::Objects;", "use crate::worked::Run;", "use rv_word::Form;", "", *objects,
+        "use crate::given::Objects;", "use crate::worked::Run;", "use rv_image::Form;", "", *objects,
         "/// How many bytes a file has, and their hash.", "#[derive(Clone, Copy)]", "pub struct Sum(pub usize, pub u64);", "",
         "/// What objects become: the form, the objects, the image, the graph, the map and a run.", 
         "pub struct Sums(pub Form, pub Objects, pub Sum, pub Sum, pub Sum, pub Run);", "",

@@ -3,8 +3,8 @@ use Rattle.std.proofs.Common.{get_or, drop, ◌≡◌, ℕ, ◌+◌, ◌<◌, �
 use Rattle.std.specs.Prelude.{Option, Some, None, option_map}
 use Rattle.std.specs.Option.{option_or}
 use Rattle.std.proofs.lemmas.List.{at_drop_all, at_drop_more, length-append, length-map}
-use Rattle.rv_word.specs.declared.version.GraphVersion.{GraphVersion}
-use Rattle.rv_word.specs.declared.version.GraphVersion.TheVariants.{OneLabel, TwoLabels, CalleeSaves}
+use Rattle.rv_image.specs.declared.version.GraphVersion.{GraphVersion}
+use Rattle.rv_image.specs.declared.version.GraphVersion.TheVariants.{OneLabel, TwoLabels, CalleeSaves}
 use Rattle.cfi_closed.specs.Closed.{Side, class_among, class_of, classes_of, sorts_of}
 
 pub few_sorts : (version : GraphVersion) → length (sorts_of version) ≤ 2

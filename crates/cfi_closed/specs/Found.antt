@@ -1,7 +1,7 @@
 -- The tables by which the classes and the sites of a side are found at a place, and what the sides of a closed graph are.
 use Rattle.std.specs.Prelude.{◌≡◌, ℕ, ◌<◌, ◌==◌, Option, IfSome, List, length, map}
 use Rattle.std.specs.List.{All, position}
-use Rattle.rv_word.specs.declared.version.GraphVersion.{GraphVersion}
+use Rattle.rv_image.specs.declared.version.GraphVersion.{GraphVersion}
 use Rattle.cfi_class.specs.Classes.{class_with}
 use Rattle.cfi_class.specs.Tables.{IsTable}
 use Rattle.cfi_closed.specs.declared.side.Site.{Site}

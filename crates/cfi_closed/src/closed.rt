@@ -6,7 +6,8 @@ ghost use Rattle.cfi_closed.specs.Closed as closed;
 ghost use Rattle.cfi_closed.specs.Found.{AreSides};
 
 use crate::side::Side;
-use rv_word::{GraphVersion, Numbers, Places};
+use rv_image::GraphVersion;
+use rv_word::{Numbers, Places};
 use std::marker::Model;
 
 /// The closed graph of a program, for a version of graphs: one side with all computed transfers, or one with the calls

@@ -4,7 +4,7 @@ ghost use Rattle.std.specs.Prelude.{◌≡◌};
 ghost use Rattle.cfi_closed.specs.Closed.{is_of, sorts_of};
 
 use cfi_graph::{SiteKind, Sort};
-use rv_word::GraphVersion;
+use rv_image::GraphVersion;
 
 const ONE: [Sort; 1] = [Sort::Both];
 

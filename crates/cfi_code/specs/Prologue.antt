@@ -1,7 +1,7 @@
 -- The part of the prologue before its call of the entry, and that call, by versions. Only private contracts cite this.
 use Rattle.std.specs.Prelude.{ℕ, Bool, true, false, List, [], ◌∷◌, ◌++◌}
-use Rattle.rv_word.specs.MemoryMap.{Profile, profile_with}
-use Rattle.rv_word.specs.declared.version.Versions.{Versions}
+use Rattle.rv_image.specs.MemoryMap.{Profile, profile_with}
+use Rattle.rv_image.specs.declared.version.Versions.{Versions}
 use Rattle.rv_instr.specs.declared.instr.Instr.{Instr}
 use Rattle.rv_instr.specs.declared.instr.Instr.TheVariants.{Ebreak}
 use Rattle.cfi_graph.specs.Graph.{has_leaves}

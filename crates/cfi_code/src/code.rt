@@ -1,7 +1,7 @@
 //! The bytes of hardened code: the prologue, with the closing, and then the units.
 
 ghost use Rattle.std.specs.Prelude.{◌≡◌, ◌+◌, ◌*◌, ◌%◌, ◌≤◌, ◌++◌, ◌∷◌, [], IfOk, OnOk, length, map};
-ghost use Rattle.rv_word.specs.MemoryMap.{CODE_SIZE, CODE_START, profile_with};
+ghost use Rattle.rv_image.specs.MemoryMap.{CODE_SIZE, CODE_START, profile_with};
 ghost use Rattle.rv_instr.specs.declared.instr.Instr.TheVariants as Instr;
 ghost use Rattle.rv_code.specs.Encode.{code_of};
 ghost use Rattle.cfi_unit.specs.Prologue.{closing_instrs, lean_lone_set_up, lean_own_set_up, lone_set_up, own_set_up, prologue_instrs};
@@ -14,11 +14,12 @@ use cfi_emit::emit;
 use cfi_unit::Unit;
 use rv_code::encode;
 use rv_instr::{Immediate, ImmediateOp, Instr, Reg, RegisterOp, ShiftOp, UpperOp};
-use rv_word::memory_map::CODE_START;
-use rv_word::profile::{
+use rv_image::memory_map::CODE_START;
+use rv_image::profile::{
     LEAN_OPENING_CALL, LEAN_OPENING_CALL_OF_HARTS, OPENING_CALL, OPENING_CALL_OF_HARTS,
 };
-use rv_word::{GraphVersion, ImageVersion, NoMemory, Versions};
+use rv_image::{GraphVersion, ImageVersion, Versions};
+use rv_word::NoMemory;
 use std::alloc::Global;
 
 /// Puts the bytes of a word at the end, the lowest first.

@@ -1,8 +1,8 @@
 -- An image's run that is under way: one step of it, and the system calls that are alike so far.
 use Rattle.std.proofs.Common.{◌≡◌, true, false, ℕ, zero, suc, ◌+◌, ◌-◌, ◌<◌, ◌≤◌, List, [], ◌∷◌, ◌++◌, length, replicate, slice_get, Option, Some, None, append-nil, refl, sym, ap, subst, ◌∙◌, arith}
 use Rattle.std.proofs.lemmas.Option.{slice_get_past, slice_get_within}
-use Rattle.rv_word.specs.declared.version.ImageVersion.{ImageVersion}
-use Rattle.rv_word.specs.MemoryMap.{Profile, profile_of}
+use Rattle.rv_image.specs.declared.version.ImageVersion.{ImageVersion}
+use Rattle.rv_image.specs.MemoryMap.{Profile, profile_of}
 use Rattle.rv_code.specs.Run.{ByteChange, next_or_stop, run, run_alone}
 use Rattle.rv_code.specs.State.{After, Hart, Shared}
 use Rattle.rv_code.specs.Step.{step}

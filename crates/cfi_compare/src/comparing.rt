@@ -1,9 +1,9 @@
 //! The comparison of two runs, from both to the answer.
 
 ghost use Rattle.std.specs.Prelude.{◌≡◌, ◌+◌, ◌*◌, ◌≤◌, ◌^◌, [], IfOk, is_some, option_map, replicate, slice_get};
-ghost use Rattle.rv_word.specs.Image.{image_profile};
-ghost use Rattle.rv_word.specs.Form.{graph_version, profile_for};
-ghost use Rattle.rv_word.specs.MemoryMap.{profile_of};
+ghost use Rattle.rv_image.specs.Image.{image_profile};
+ghost use Rattle.rv_image.specs.Form.{graph_version, profile_for};
+ghost use Rattle.rv_image.specs.MemoryMap.{profile_of};
 ghost use Rattle.rv_code.specs.Run.{run_alone};
 ghost use Rattle.rv_machine.specs.Parts.{hart_in, shared_in};
 ghost use Rattle.src_machine.specs.Running.{source_of};
@@ -20,9 +20,10 @@ use crate::item::{SideItem, image_end, item_at, same_item, source_end};
 use crate::source::finish;
 use rv_code::Events;
 use rv_machine::{Processor, Turn};
-use rv_word::profile::START;
-use rv_word::unit_words::ENTER_WORDS;
-use rv_word::{Form, GraphVersion, Image, NoMemory};
+use rv_image::profile::START;
+use rv_image::unit_words::ENTER_WORDS;
+use rv_image::{Form, GraphVersion, Image};
+use rv_word::NoMemory;
 use src_machine::{SourceRun, SourceTurn};
 use std::alloc::Global;
 

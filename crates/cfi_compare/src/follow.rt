@@ -1,7 +1,7 @@
 //! The image's run, followed as long as its system calls are those of the program's.
 
 ghost use Rattle.std.specs.Prelude.{◌≡◌, ◌≤◌, ◌^◌, [], false, IfOk, replicate};
-ghost use Rattle.rv_word.specs.MemoryMap.{profile_of};
+ghost use Rattle.rv_image.specs.MemoryMap.{profile_of};
 ghost use Rattle.rv_code.specs.Run.{run_alone};
 ghost use Rattle.rv_machine.specs.Parts.{hart_in, shared_in};
 ghost use Rattle.cfi_compare.specs.Followed.{Agree, IsFollowed, agree_at, is_stop};

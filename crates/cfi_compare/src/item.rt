@@ -9,7 +9,7 @@ use crate::call_text::CallText;
 use rv_code::Events;
 use rv_machine::Turn;
 use rv_sys::Event;
-use rv_word::profile::START;
+use rv_image::profile::START;
 use rv_word::{Bytes, NoMemory};
 use src_machine::SourceTurn;
 use std::alloc::Global;

@@ -4,12 +4,12 @@ use Rattle.std.specs.Prelude.{if◌then◌else◌, slice_get}
 use Rattle.std.specs.List.{AllByRecursion}
 use Rattle.std.proofs.lemmas.Bool.{cases_eq, eq-eqb, ne_eqb}
 use Rattle.std.proofs.lemmas.Option.{same_Some, slice_get_within}
-use Rattle.rv_word.specs.Image.{Contents}
-use Rattle.rv_word.specs.MemoryMap.{PART_SIZE, START, IsProfile, MayRun, Profile, part_of}
-use Rattle.rv_word.specs.Memory.{Memory, loaded}
+use Rattle.rv_image.specs.Image.{Contents, loaded}
+use Rattle.rv_image.specs.MemoryMap.{PART_SIZE, START, IsProfile, MayRun, Profile, part_of}
+use Rattle.rv_word.specs.Memory.{Memory}
 use Rattle.rv_word.specs.Same.{SameOn}
 use Rattle.rv_word.proofs.Cases.{cases_Option}
-use Rattle.rv_word.proofs.Profiles.{laid_out}
+use Rattle.rv_image.proofs.Profiles.{laid_out}
 use Rattle.rv_instr.specs.Registers.{Registers}
 use Rattle.rv_instr.specs.declared.instr.Instr.{Instr}
 use Rattle.rv_instr.specs.declared.instr.Instr.TheVariants.{Ecall}

@@ -2,10 +2,9 @@
 use Rattle.std.proofs.Common.{◌≡◌, ℕ, ◌+◌, ◌*◌, ◌%◌, ◌^◌, ◌<◌, ◌≤◌, ◌⊎◌, inl, inr, Bool, true, false, List, [], ◌∷◌, refl, sym, ap, ◌∙◌, Some, None, arith}
 use Rattle.std.proofs.lemmas.Bool.{cases_Bool}
 use Rattle.std.proofs.lemmas.Option.{none-some}
-use Rattle.rv_word.specs.Image.{Contents}
-use Rattle.rv_word.specs.MemoryMap.{START, IsProfile, Profile}
-use Rattle.rv_word.specs.Memory.{loaded}
-use Rattle.rv_word.proofs.Profiles.{laid_out}
+use Rattle.rv_image.specs.Image.{Contents, loaded}
+use Rattle.rv_image.specs.MemoryMap.{START, IsProfile, Profile}
+use Rattle.rv_image.proofs.Profiles.{laid_out}
 use Rattle.rv_instr.specs.Registers.{Registers}
 use Rattle.cfi_graph.specs.Graph.{GraphParts}
 use Rattle.cfi_graph.specs.declared.line.SiteKind.{SiteKind}

@@ -4,10 +4,10 @@ use Rattle.std.specs.Prelude.{◌==◌, if◌then◌else◌, slice_get}
 use Rattle.std.specs.List.{Contains}
 use Rattle.std.proofs.lemmas.Bool.{and_parts, eq-eqb, false≢true}
 use Rattle.std.proofs.lemmas.Option.{same_Some}
-use Rattle.rv_word.specs.Image.{Contents}
-use Rattle.rv_word.specs.MemoryMap.{MayRun, Profile, part_of, lean_version_1, version_1, version_2}
-use Rattle.rv_word.specs.Memory.{loaded, placed, write}
-use Rattle.rv_word.proofs.Profiles.{LaidOut, laid_out}
+use Rattle.rv_image.specs.Image.{Contents, loaded}
+use Rattle.rv_image.specs.MemoryMap.{MayRun, Profile, part_of, lean_version_1, version_1, version_2}
+use Rattle.rv_word.specs.Memory.{placed, write}
+use Rattle.rv_image.proofs.Profiles.{LaidOut, laid_out}
 use Rattle.rv_instr.specs.declared.instr.Instr.{Instr}
 use Rattle.rv_instr.specs.declared.instr.Instr.TheVariants.{Branch, Jal, Jalr}
 use Rattle.rv_code.specs.Decode.{decoded}

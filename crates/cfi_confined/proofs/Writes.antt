@@ -2,7 +2,7 @@
 -- nothing. Where callees save sites, the slot is that of the newest site, and that site is what is written.
 use Rattle.std.proofs.Common.{◌≡◌, ℕ, ◌+◌, ◌^◌, ◌<◌, ◌≤◌, ◌⊎◌, inl, inr, Bool, true, false, List, [], ◌∷◌, length, refl, ap, subst, ◌∙◌, arith}
 use Rattle.std.proofs.lemmas.Bool.{cond_both}
-use Rattle.rv_word.specs.MemoryMap.{DATA_END, PART_SIZE, Profile, can_load, can_store}
+use Rattle.rv_image.specs.MemoryMap.{DATA_END, PART_SIZE, Profile, can_load, can_store}
 use Rattle.rv_word.specs.Memory.{Memory, read, write}
 use Rattle.rv_instr.specs.Registers.{Registers, get_reg}
 use Rattle.rv_instr.specs.declared.instr.Instr.{Instr}

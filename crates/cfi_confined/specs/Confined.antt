@@ -2,10 +2,10 @@
 -- word at the pc and the graph's lines alone.
 use Rattle.std.specs.Prelude.{◌≡◌, ℕ, Bool, true, false, ◌+◌, ◌-◌, ◌<◌, ◌≤◌, ◌==◌, ◌⊎◌, IsTrue, List, [], ◌∷◌, length, Option, Some, None, if◌then◌else◌}
 use Rattle.std.specs.List.{Contains}
-use Rattle.rv_word.specs.Image.{Contents}
-use Rattle.rv_word.specs.declared.version.GraphVersion.{GraphVersion}
-use Rattle.rv_word.specs.declared.version.GraphVersion.TheVariants.{OneLabel, TwoLabels, CalleeSaves}
-use Rattle.rv_word.specs.MemoryMap.{CODE_START, DATA_END, PART_SIZE, START, MayRun, Profile, part_of}
+use Rattle.rv_image.specs.Image.{Contents}
+use Rattle.rv_image.specs.declared.version.GraphVersion.{GraphVersion}
+use Rattle.rv_image.specs.declared.version.GraphVersion.TheVariants.{OneLabel, TwoLabels, CalleeSaves}
+use Rattle.rv_image.specs.MemoryMap.{CODE_START, DATA_END, PART_SIZE, START, MayRun, Profile, part_of}
 use Rattle.rv_word.specs.Memory.{Memory, read}
 use Rattle.rv_word.specs.Numbers.{is_listed}
 use Rattle.rv_instr.specs.declared.instr.Instr.{Instr}

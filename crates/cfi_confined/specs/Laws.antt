@@ -1,8 +1,7 @@
 -- What holds of confined runs, and that what meets the rules is confined.
 use Rattle.std.specs.Prelude.{◌≡◌, ℕ, List, Option, Some}
-use Rattle.rv_word.specs.Image.{Contents}
-use Rattle.rv_word.specs.MemoryMap.{IsProfile, MayRun, Profile}
-use Rattle.rv_word.specs.Memory.{loaded}
+use Rattle.rv_image.specs.Image.{Contents, loaded}
+use Rattle.rv_image.specs.MemoryMap.{IsProfile, MayRun, Profile}
 use Rattle.rv_instr.specs.declared.instr.Instr.{Instr}
 use Rattle.rv_code.specs.Run.{HartStep, run}
 use Rattle.rv_code.specs.State.{Harts, Shared}

@@ -1,9 +1,9 @@
 -- Small pairs with one fault each, which are not confined: so it is not said of everything.
 use Rattle.std.specs.Prelude.{ℕ, List, [], ◌∷◌, ◌++◌, map}
-use Rattle.rv_word.specs.Image.{Contents}
-use Rattle.rv_word.specs.declared.version.GraphVersion.TheVariants.{OneLabel, CalleeSaves}
-use Rattle.rv_word.specs.declared.version.ImageVersion.TheVariants.{OneHart}
-use Rattle.rv_word.specs.MemoryMap.{START, lean_version_1, version_1, version_2}
+use Rattle.rv_image.specs.Image.{Contents}
+use Rattle.rv_image.specs.declared.version.GraphVersion.TheVariants.{OneLabel, CalleeSaves}
+use Rattle.rv_image.specs.declared.version.ImageVersion.TheVariants.{OneHart}
+use Rattle.rv_image.specs.MemoryMap.{START, lean_version_1, version_1, version_2}
 use Rattle.rv_code.specs.Encode.{code_of}
 use Rattle.cfi_graph.specs.Graph.{GraphParts}
 use Rattle.cfi_graph.specs.declared.line.GraphLine.{GraphLine}

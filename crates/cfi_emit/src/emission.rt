@@ -1,7 +1,7 @@
 //! A unit to its words, its size, and where it may stand.
 
 ghost use Rattle.std.specs.Prelude.{◌≡◌, ◌+◌, ◌*◌, ◌<◌, ◌↔◌, ◌++◌, IfOk, IsTrue, List, Some, length, ℕ};
-ghost use Rattle.rv_word.specs.MemoryMap.{CODE_START, CODE_SIZE};
+ghost use Rattle.rv_image.specs.MemoryMap.{CODE_START, CODE_SIZE};
 ghost use Rattle.cfi_unit.specs.Recognise.{recognised};
 ghost use Rattle.cfi_unit.specs.UnitWords.{BAD_TARGET, Fits, MaskFits, Reaches, is_plain, mask_words, may_precede, word_count, words_of};
 
@@ -9,7 +9,7 @@ use crate::template::unit_code;
 use cfi_unit::handlers::{BAD_RETURN, BAD_TARGET, DEEP};
 use cfi_unit::{Mask, Unit, is_close, is_reached};
 use rv_instr::{Immediate, Instr, UpperOp};
-use rv_word::unit_words::{
+use rv_image::unit_words::{
     BRANCH_WORDS, CALL_WORDS, ENTER_WORDS, ICALL_WORDS, IJUMP_WORDS, LEAN_TRANSFER_WORDS,
     RETURN_WORDS,
 };

@@ -2,7 +2,7 @@
 
 ghost use Rattle.std.specs.Prelude.{◌≡◌, ◌↔◌, ◌+◌, ◌<◌, ◌≤◌, ◌||◌, None, Some, drop, if◌then◌else◌, is_none, nat_le, nat_lt, option_map, IfSome, IsNone, IsTrue};
 ghost use Rattle.std.specs.List.{All};
-ghost use Rattle.rv_word.specs.MemoryMap.{CODE_START, CODE_SIZE};
+ghost use Rattle.rv_image.specs.MemoryMap.{CODE_START, CODE_SIZE};
 ghost use Rattle.rv_word.specs.Numbers.{IsNumber};
 ghost use Rattle.cfi_unit.specs.Members.{MOST_MEMBERS, member_of};
 ghost use Rattle.cfi_unit.specs.UnitWords.{Begins, instr_at, is_jump, mask_words, may_precede, skips_jump, word_count};

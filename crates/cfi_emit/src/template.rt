@@ -3,7 +3,7 @@
 ghost use Rattle.std.specs.Prelude.{◌≡◌, ◌+◌, ◌*◌, ◌<◌, ◌≤◌, ◌^◌, ◌++◌, length, map};
 ghost use Rattle.std.specs.List.{AllByRecursion};
 ghost use Rattle.rv_code.specs.Encode.{code_of};
-ghost use Rattle.rv_word.specs.MemoryMap.{CODE_START, CODE_SIZE};
+ghost use Rattle.rv_image.specs.MemoryMap.{CODE_START, CODE_SIZE};
 ghost use Rattle.rv_word.specs.Numbers.{IsNumber, MOST_NUMBERS};
 ghost use Rattle.cfi_unit.specs.Guarded.{guards};
 ghost use Rattle.cfi_unit.specs.Members.{member_instr};

@@ -2,13 +2,13 @@
 
 ghost use Rattle.std.specs.Prelude.{◌≡◌, ◌<◌, length};
 ghost use Rattle.std.specs.Option.{option_copied};
-ghost use Rattle.rv_word.specs.MemoryMap.{lean_profile_of, profile_of, profile_with};
+ghost use Rattle.rv_image.specs.MemoryMap.{lean_profile_of, profile_of, profile_with};
 ghost use Rattle.cfi_scan.specs.Pieces.{prologue_count};
 ghost use Rattle.cfi_rules.specs.Rules.{fits_table, is_link, prologue_word_fits};
 
 use rv_code::decode;
 use rv_instr::Instr;
-use rv_word::{GraphVersion, ImageVersion, Versions};
+use rv_image::{GraphVersion, ImageVersion, Versions};
 
 /// The words in version 1. Word 13 is the opening's `jal x1` to the entry, which may lead anywhere.
 const PROLOGUE: [u32; 16] = [

@@ -22,7 +22,7 @@ use cfi_rules::{Asks, Rule, jump_word};
 use cfi_scan::Entry;
 use cfi_starts::{Spot, Starts, is_beside};
 use cfi_unit::TargetWord;
-use rv_word::memory_map::CODE_START;
+use rv_image::memory_map::CODE_START;
 
 /// Whether a rule other than Gate fails at an address.
 pub fn fails(starts: &Starts<'_>, rule: Rule, address: u64) -> bool

@@ -11,7 +11,8 @@ use crate::raw::Raw;
 use cfi_class::{Entry, blank, note, table_of};
 use cfi_closed::{Closed, Side, Site, sorts_of};
 use cfi_graph::Sort;
-use rv_word::{GraphVersion, NoMemory};
+use rv_image::GraphVersion;
+use rv_word::NoMemory;
 use std::alloc::Global;
 
 /// The table of the sites that stand at the places.

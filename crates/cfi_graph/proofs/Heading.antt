@@ -1,6 +1,6 @@
 -- The first two lines of a text.
 use Rattle.std.proofs.Common.{◌≡◌, ℕ, true, false, List, [], ◌∷◌, ◌++◌, Option, Some, None, Ok, Err, refl, sym, subst, ◌∙◌, ap}
-use Rattle.rv_word.specs.declared.version.GraphVersion.{GraphVersion}
+use Rattle.rv_image.specs.declared.version.GraphVersion.{GraphVersion}
 use Rattle.rv_word.specs.declared.end.End.{End}
 use Rattle.text_lines.specs.declared.reason.Reason.TheVariants.{Form, Range}
 use Rattle.text_lines.specs.Lines.{lines_of, words_of}

@@ -3,7 +3,7 @@
 
 ghost use Rattle.std.specs.Prelude.{◌≡◌, ◌∷◌, ◌++◌, ℕ, IfSome, Some, length};
 ghost use Rattle.std.specs.Str.{bytes_eq};
-ghost use Rattle.rv_word.specs.declared.version.GraphVersion.{GraphVersion};
+ghost use Rattle.rv_image.specs.declared.version.GraphVersion.{GraphVersion};
 ghost use Rattle.text_lines.specs.Lines.{words_of};
 ghost use Rattle.text_lines.specs.Reading.{FirstLine};
 ghost use Rattle.cfi_graph.specs.Lines.{line_of};

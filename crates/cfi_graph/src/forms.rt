@@ -18,7 +18,8 @@ ghost use Rattle.cfi_graph.specs.Lines.{
 ghost use Rattle.text_lines.specs.Lines.{parts_after, words_of};
 
 use crate::line::{GraphLine, SiteKind, Sort, has_leaves};
-use rv_word::{GraphVersion, NoMemory, Places};
+use rv_image::GraphVersion;
+use rv_word::{NoMemory, Places};
 use std::alloc::Global;
 use text_lines::{cut, hex_of, is_word};
 

@@ -1,7 +1,8 @@
 ghost use Rattle.std.specs.Prelude.{◌≡◌, ◌<◌, ◌==◌, length, slice_get, count_by, Ok, Some};
 
 use crate::line::GraphLine;
-use rv_word::{GraphVersion, NoMemory, Numbers};
+use rv_image::GraphVersion;
+use rv_word::{NoMemory, Numbers};
 use std::alloc::Global;
 use std::marker::Model;
 

@@ -4,7 +4,8 @@ use crate::fixed::first_line;
 use crate::forms::line_of;
 use crate::line::{GraphLine, Key};
 use crate::rules::{in_order, line_in_range};
-use rv_word::{GraphVersion, NoMemory};
+use rv_image::GraphVersion;
+use rv_word::NoMemory;
 use std::alloc::Global;
 use text_lines::LineForm;
 

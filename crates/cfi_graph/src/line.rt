@@ -2,7 +2,8 @@ ghost use Rattle.std.specs.Prelude.{◌≡◌};
 ghost use Rattle.cfi_graph.specs.Graph.{has_leaves};
 
 use crate::class::Class;
-use rv_word::{GraphVersion, Numbers, Places};
+use rv_image::GraphVersion;
+use rv_word::{Numbers, Places};
 
 /// The two kinds of transfer to a computed address.
 #[derive(Clone, Copy, PartialEq, Eq)]

@@ -13,7 +13,8 @@ use crate::graph::{Graph, GraphLines};
 use crate::graph_form::GraphForm;
 use crate::line::{GraphLine, Key};
 use crate::rules::is_code_length;
-use rv_word::{End, GraphVersion, NoMemory, Numbers};
+use rv_image::GraphVersion;
+use rv_word::{End, NoMemory, Numbers};
 use std::alloc::Global;
 use text_lines::{LineFault, Reason, after_one_of, cut, read_lines};
 

@@ -16,7 +16,7 @@ ghost use Rattle.cfi_graph.specs.Graph.{
 ghost use Rattle.cfi_graph.specs.Reading.{in_order};
 
 use crate::line::{GraphLine, Key};
-use rv_word::memory_map::{CODE_SIZE, CODE_START};
+use rv_image::memory_map::{CODE_SIZE, CODE_START};
 use rv_word::{MOST_NUMBERS, Numbers};
 
 /// Whether code may have this length.

@@ -1,11 +1,11 @@
 -- A placement in which no value leaves its range, with labels, makes an accepted choice of a program with its closed graph.
 use Rattle.std.proofs.Common.{◌≡◌, ℕ, ◌+◌, ◌-◌, ◌<◌, true, false, List, Option, Some, None, refl, sym, ap, subst, ◌∙◌, arith}
 use Rattle.std.specs.Prelude.{is_some, slice_get}
-use Rattle.rv_word.specs.declared.version.GraphVersion.{GraphVersion}
-use Rattle.rv_word.proofs.Profiles.{is_form_profile}
-use Rattle.rv_word.specs.Form.{graph_version, profile_for}
-use Rattle.rv_word.specs.declared.form.Form.{Form}
-use Rattle.rv_word.specs.declared.form.Form.TheVariants.{Plain, Harts, Split, HartsSplit, Lean, HartsLean}
+use Rattle.rv_image.specs.declared.version.GraphVersion.{GraphVersion}
+use Rattle.rv_image.proofs.Profiles.{is_form_profile}
+use Rattle.rv_image.specs.Form.{graph_version, profile_for}
+use Rattle.rv_image.specs.declared.form.Form.{Form}
+use Rattle.rv_image.specs.declared.form.Form.TheVariants.{Plain, Harts, Split, HartsSplit, Lean, HartsLean}
 use Rattle.cfi_graph.specs.Graph.{has_leaves}
 use Rattle.obj_program.specs.AtMap.{instr_at}
 use Rattle.obj_program.specs.Program.{Program, count, is_end, item_of}

@@ -1,7 +1,7 @@
 -- A program that is entered is prepared, and what refuses that refuses the request; what a request comes to is what that of the program
 -- comes to that is given.
 use Rattle.std.proofs.Common.{ℕ, inr, Result, Ok, Err, refl, subst}
-use Rattle.rv_word.specs.Form.{graph_version}
+use Rattle.rv_image.specs.Form.{graph_version}
 use Rattle.rv_word.specs.declared.end.End.{End}
 use Rattle.rv_word.specs.declared.end.End.TheVariants.{Fault, NoMemory}
 use Rattle.obj_program.specs.Program.{Program}

@@ -1,9 +1,9 @@
 -- A request that is prepared is ready to be written, and what its writing comes to is what the request comes to.
 use Rattle.std.proofs.Common.{ℕ, ◌^◌, ◌<◌, ◌≤◌, List, Result, Ok, Err, arith, refl, subst, sym}
 use Rattle.std.specs.Prelude.{sum}
-use Rattle.rv_word.proofs.Profiles.{is_form_profile, laid_out}
-use Rattle.rv_word.specs.Form.{graph_version, image_version, profile_for}
-use Rattle.rv_word.specs.MemoryMap.{CODE_SIZE}
+use Rattle.rv_image.proofs.Profiles.{is_form_profile, laid_out}
+use Rattle.rv_image.specs.Form.{graph_version, image_version, profile_for}
+use Rattle.rv_image.specs.MemoryMap.{CODE_SIZE}
 use Rattle.rv_word.specs.declared.end.End.{End}
 use Rattle.rv_word.specs.declared.end.End.TheVariants.{Fault, NoMemory}
 use Rattle.obj_program.specs.MapFit.{FitsMaps}

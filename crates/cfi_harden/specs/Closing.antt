@@ -1,6 +1,6 @@
 -- What a program and a policy come to: a closed graph for a version of graphs, or a wrong line of the policy.
 use Rattle.std.specs.Prelude.{ℕ, List, Option, Some, None, Result, Ok, Err}
-use Rattle.rv_word.specs.declared.version.GraphVersion.{GraphVersion}
+use Rattle.rv_image.specs.declared.version.GraphVersion.{GraphVersion}
 use Rattle.rv_word.specs.declared.end.End.{End}
 use Rattle.rv_word.specs.declared.end.End.TheVariants.{Fault, NoMemory}
 use Rattle.text_lines.specs.declared.fault.LineFault.{LineFault}

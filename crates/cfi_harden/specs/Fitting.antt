@@ -1,7 +1,7 @@
 -- What a prepared program comes to before its units are written: a placement in which its data have room and no value leaves its range,
 -- or the first of three refusals.
 use Rattle.std.specs.Prelude.{◌≡◌, ◌<◌, ◌≤◌, Some, None, Result, Ok, Err}
-use Rattle.rv_word.specs.MemoryMap.{CODE_SIZE}
+use Rattle.rv_image.specs.MemoryMap.{CODE_SIZE}
 use Rattle.rv_word.specs.declared.end.End.{End}
 use Rattle.rv_word.specs.declared.end.End.TheVariants.{Fault, NoMemory}
 use Rattle.obj_program.specs.DataAtMap.{init_size}

@@ -1,9 +1,9 @@
 -- What a request comes to before anything is placed: the program with its closed graph under the policy and its entry, or the first of
 -- what stands against that: what is given is no program; an entry that is not there; a wrong line of the policy.
 use Rattle.std.specs.Prelude.{◌≡◌, ℕ, ◌⊎◌, List, Option, Some, None, Result, Ok, Err}
-use Rattle.rv_word.specs.declared.version.GraphVersion.{GraphVersion}
-use Rattle.rv_word.specs.Form.{graph_version}
-use Rattle.rv_word.specs.declared.form.Form.{Form}
+use Rattle.rv_image.specs.declared.version.GraphVersion.{GraphVersion}
+use Rattle.rv_image.specs.Form.{graph_version}
+use Rattle.rv_image.specs.declared.form.Form.{Form}
 use Rattle.rv_word.specs.declared.end.End.{End}
 use Rattle.rv_word.specs.declared.end.End.TheVariants.{Fault}
 use Rattle.text_lines.specs.declared.fault.LineFault.{LineFault}

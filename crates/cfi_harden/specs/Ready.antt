@@ -1,6 +1,6 @@
 -- What a prepared program has before it is placed. Only private contracts cite this.
 use Rattle.std.specs.Prelude.{◌≡◌, ℕ, ◌<◌, ◌^◌, true}
-use Rattle.rv_word.specs.Form.{graph_version}
+use Rattle.rv_image.specs.Form.{graph_version}
 use Rattle.obj_program.specs.MapFit.{FitsMaps}
 use Rattle.obj_program.specs.Program.{count, item_of}
 use Rattle.obj_program.specs.Sound.{IsSound}

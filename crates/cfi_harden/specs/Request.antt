@@ -1,7 +1,7 @@
 -- What is asked to be hardened: in which form a program, the name of its entry and the text of a policy, if there is one. What a program is
 -- given as stands for it.
 use Rattle.std.specs.Prelude.{ℕ, List, Option, Some, None, Result, Ok}
-use Rattle.rv_word.specs.declared.form.Form.{Form}
+use Rattle.rv_image.specs.declared.form.Form.{Form}
 use Rattle.rv_word.specs.declared.end.End.{End}
 use Rattle.text_lines.specs.declared.fault.LineFault.{LineFault}
 use Rattle.cfi_policy.specs.Policy.{PolicyParts, no_policy, policy_begun, policy_read}

@@ -1,7 +1,7 @@
 //! A policy's text to a program's closed graph.
 
 ghost use Rattle.std.specs.Prelude.{◌≡◌, Ok, option_copied};
-ghost use Rattle.rv_word.specs.Form.{graph_version};
+ghost use Rattle.rv_image.specs.Form.{graph_version};
 ghost use Rattle.text_lines.specs.Answers.{Answers, UnlessNoMemory};
 ghost use Rattle.cfi_harden.specs.Closing.{Closes, failed_line};
 ghost use Rattle.cfi_harden.specs.Request.{policy_asked, policy_end};
@@ -11,7 +11,8 @@ use cfi_flow::{close, raw_graph};
 use cfi_policy::{Policy, read_policy_part};
 use obj_program::Items;
 use refusals::Refusal;
-use rv_word::{End, Form};
+use rv_image::Form;
+use rv_word::End;
 use std::alloc::Global;
 use text_lines::LineFault;
 

@@ -1,7 +1,7 @@
 //! The calls that harden a program, to what is written.
 
 ghost use Rattle.std.specs.Prelude.{◌<◌, IfOk, option_copied, sum};
-ghost use Rattle.rv_word.specs.MemoryMap.{CODE_SIZE};
+ghost use Rattle.rv_image.specs.MemoryMap.{CODE_SIZE};
 ghost use Rattle.cfi_writer.specs.GraphOf.{IsGraphOf};
 ghost use Rattle.cfi_writer.specs.Hardened.{AreGiven};
 ghost use Rattle.cfi_harden.specs.Prepared.{IsOfRequest, IsPreparedOf, entered_of};
@@ -16,7 +16,8 @@ use crate::word_range::words_fit_in;
 use cfi_writer::{Hardened, class_labels, written};
 use obj_program::Items;
 use refusals::Refusal;
-use rv_word::{End, Form, NoMemory};
+use rv_image::Form;
+use rv_word::{End, NoMemory};
 use std::alloc::Global;
 
 /// The labels of a prepared program's classes.

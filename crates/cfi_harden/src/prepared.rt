@@ -1,5 +1,5 @@
 ghost use Rattle.std.specs.Prelude.{option_copied};
-ghost use Rattle.rv_word.specs.Form.{graph_version};
+ghost use Rattle.rv_image.specs.Form.{graph_version};
 ghost use Rattle.cfi_harden.specs.Given.{alone};
 ghost use Rattle.cfi_harden.specs.Preparing.{Enters, Reads};
 ghost use Rattle.cfi_harden.specs.Refused.{PreparesProgram};
@@ -12,7 +12,8 @@ use elf_object::Object;
 use obj_items::items;
 use obj_program::Items;
 use refusals::Refusal;
-use rv_word::{End, Form};
+use rv_image::Form;
+use rv_word::End;
 use std::alloc::Global;
 use std::marker::Model;
 

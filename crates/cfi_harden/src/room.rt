@@ -1,7 +1,7 @@
 //! Whether data and code have room.
 
 ghost use Rattle.std.specs.Prelude.{◌≡◌, ◌↔◌, ◌<◌, IsTrue};
-ghost use Rattle.rv_word.specs.Form.{graph_version};
+ghost use Rattle.rv_image.specs.Form.{graph_version};
 ghost use Rattle.obj_program.specs.Program.{count};
 ghost use Rattle.cfi_harden.specs.Fitting.{FitsOr};
 ghost use Rattle.cfi_harden.specs.Room.{HasDataRoom};

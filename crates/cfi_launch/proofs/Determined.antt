@@ -1,9 +1,9 @@
 -- What texts come to that spell a pair and a script is determined by them: no fault, and a run where the pair meets the rules.
 use Rattle.std.proofs.Common.{◌≡◌, ◌∙◌, ◌⊎◌, inl, inr, ℕ, ◌≤◌, ◌<◌, List, Option, Result, Ok, Err, sym, ap, subst, arith}
-use Rattle.rv_word.specs.declared.version.ImageVersion.{ImageVersion}
-use Rattle.rv_word.specs.declared.version.ImageVersion.TheVariants.{OneHart}
-use Rattle.rv_word.specs.Image.{Contents, image_profile}
-use Rattle.rv_word.specs.MemoryMap.{MayRun, profile_of}
+use Rattle.rv_image.specs.declared.version.ImageVersion.{ImageVersion}
+use Rattle.rv_image.specs.declared.version.ImageVersion.TheVariants.{OneHart}
+use Rattle.rv_image.specs.Image.{Contents, image_profile}
+use Rattle.rv_image.specs.MemoryMap.{MayRun, profile_of}
 use Rattle.elf_image.specs.Fault.{version_in}
 use Rattle.cfi_graph.specs.Graph.{GraphParts}
 use Rattle.cfi_rules.specs.Rules.{IsWellFormed, pair_profile}

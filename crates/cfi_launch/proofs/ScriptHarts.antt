@@ -1,12 +1,12 @@
 -- A script is for one to eight harts, and how many of them an image may have.
 use Rattle.std.proofs.Common.{◌≡◌, ◌≤◌, ◌<◌, ◌==◌, ◌&&◌, ℕ, nat_le, true, false, List, [], ◌∷◌, Option, Some, None, Result, Ok, Err, inl, inr, ap, arith, refl, subst, sym}
 use Rattle.std.proofs.lemmas.Bool.{and_parts, leb-true, ltb-false, ltb-true}
-use Rattle.rv_word.specs.declared.version.ImageVersion.{ImageVersion}
-use Rattle.rv_word.specs.declared.version.ImageVersion.TheVariants.{OneHart, EightHarts}
-use Rattle.rv_word.specs.MemoryMap.{MayRun, profile_of}
-use Rattle.rv_word.specs.declared.profile.TheConstants.{MOST_HARTS}
+use Rattle.rv_image.specs.declared.version.ImageVersion.{ImageVersion}
+use Rattle.rv_image.specs.declared.version.ImageVersion.TheVariants.{OneHart, EightHarts}
+use Rattle.rv_image.specs.MemoryMap.{MayRun, profile_of}
+use Rattle.rv_image.specs.declared.profile.TheConstants.{MOST_HARTS}
 use Rattle.rv_word.proofs.Cases.{chosen}
-use Rattle.rv_word.proofs.Profiles.{is_profile, laid_out}
+use Rattle.rv_image.proofs.Profiles.{is_profile, laid_out}
 use Rattle.rv_word.specs.declared.end.End.{End}
 use Rattle.text_lines.specs.Lines.{lines_of, words_of}
 use Rattle.text_lines.specs.Reading.{if_right, one_named}

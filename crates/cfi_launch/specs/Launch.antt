@@ -1,9 +1,9 @@
 -- A run of an image with its graph under a script, and why there is none.
 use Rattle.std.specs.Prelude.{◌≡◌, ◌⊎◌, ◌<◌, nat_lt, Bool, false, ℕ, List, ⊤, Option, Some, None, Result, Ok, Err}
-use Rattle.rv_word.specs.Image.{Contents, image_profile}
-use Rattle.rv_word.specs.MemoryMap.{MayRun}
-use Rattle.rv_word.specs.declared.version.ImageVersion.{ImageVersion}
-use Rattle.rv_word.specs.declared.version.ImageVersion.TheVariants.{OneHart, EightHarts}
+use Rattle.rv_image.specs.Image.{Contents, image_profile}
+use Rattle.rv_image.specs.MemoryMap.{MayRun}
+use Rattle.rv_image.specs.declared.version.ImageVersion.{ImageVersion}
+use Rattle.rv_image.specs.declared.version.ImageVersion.TheVariants.{OneHart, EightHarts}
 use Rattle.rv_word.specs.declared.end.End.{End}
 use Rattle.text_lines.specs.declared.fault.LineFault.{LineFault}
 use Rattle.text_lines.specs.Answers.{line_fault}

@@ -1,7 +1,7 @@
 -- What the report of a run says: the pair meets the rules, is safe and is confined, the program makes no system calls but those of the
 -- graph's list, if there is one, and this is its run under a script.
 use Rattle.std.specs.Prelude.{◌≡◌, ℕ, List, [], Some}
-use Rattle.rv_word.specs.Image.{Contents}
+use Rattle.rv_image.specs.Image.{Contents}
 use Rattle.rv_code.specs.State.{start_hart, start_shared}
 use Rattle.cfi_graph.specs.Graph.{GraphParts, calls_in}
 use Rattle.cfi_confined.specs.Confined.{IsConfined}

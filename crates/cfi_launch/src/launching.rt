@@ -1,6 +1,6 @@
 ghost use Rattle.std.specs.Prelude.{◌≡◌, Ok, IfOk, IfErr, option_map};
-ghost use Rattle.rv_word.specs.Image.{image_profile};
-ghost use Rattle.rv_word.specs.MemoryMap.{MayRun};
+ghost use Rattle.rv_image.specs.Image.{image_profile};
+ghost use Rattle.rv_image.specs.MemoryMap.{MayRun};
 ghost use Rattle.text_lines.specs.Answers.{Answers};
 ghost use Rattle.cfi_pair.specs.Spelled.{Spell};
 ghost use Rattle.cfi_launch.specs.Launch.{IsComplete, IsLaunchEnd, IsLaunchOf, IsLaunchOfPair, lacks_harts, script_given};
@@ -9,7 +9,8 @@ use cfi_pair::{Pair, PairFault, open_pair};
 use cfi_script::Script;
 use cfi_step::{RunReport, run};
 use cfi_verify::{Reject, verify};
-use rv_word::{End, Image, ImageVersion, NoMemory};
+use rv_image::{Image, ImageVersion};
+use rv_word::{End, NoMemory};
 use std::alloc::Global;
 use text_lines::{LineFault, Reason};
 

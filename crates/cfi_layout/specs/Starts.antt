@@ -2,7 +2,7 @@
 -- prologue, `from`. A part is what is placed as one: the words of its lead, if there are any, and a unit.
 use Rattle.std.specs.Prelude.{ℕ, ◌+◌, ◌-◌, Bool, true, List, [], ◌∷◌, sum}
 use Rattle.std.specs.List.{slice_index_or}
-use Rattle.rv_word.specs.MemoryMap.{CODE_START}
+use Rattle.rv_image.specs.MemoryMap.{CODE_START}
 
 -- where parts of these sizes start, in bytes, the first at an address; and where the last ends
 unfoldable pub starts_from : ℕ → List ℕ → List ℕ

@@ -1,13 +1,14 @@
 ghost use Rattle.std.specs.Prelude.{◌≡◌, ◌<◌, ◌≤◌, [], IfOk, IfErr, Err, length, slice_index};
-ghost use Rattle.rv_word.specs.Form.{profile_for};
-ghost use Rattle.rv_word.specs.MemoryMap.{CODE_SIZE};
+ghost use Rattle.rv_image.specs.Form.{profile_for};
+ghost use Rattle.rv_image.specs.MemoryMap.{CODE_SIZE};
 ghost use Rattle.cfi_layout.specs.Starts.{code_size, flag, starts_from};
 ghost use Rattle.rv_word.specs.declared.end.End.TheVariants.{Fault, NoMemory as NoPlaceMemory};
 
 use crate::code_too_large::CodeTooLarge;
 use crate::starts::{code_size, starts_of};
-use rv_word::memory_map::CODE_SIZE;
-use rv_word::{End, Form};
+use rv_image::memory_map::CODE_SIZE;
+use rv_image::Form;
+use rv_word::End;
 use std::alloc::Global;
 use std::marker::Model;
 

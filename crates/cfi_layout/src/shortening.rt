@@ -1,6 +1,6 @@
 ghost use Rattle.std.specs.Prelude.{◌≡◌, ℕ, ◌<◌, ◌≤◌, false, not, IfOk, IsTrue, Some, length, slice_get};
-ghost use Rattle.rv_word.specs.Form.{profile_for};
-ghost use Rattle.rv_word.specs.MemoryMap.{CODE_SIZE};
+ghost use Rattle.rv_image.specs.Form.{profile_for};
+ghost use Rattle.rv_image.specs.MemoryMap.{CODE_SIZE};
 ghost use Rattle.cfi_layout.specs.declared.short.Short.{Short};
 ghost use Rattle.cfi_layout.specs.LongSet.{AreShorts, IsLongSet, is_branch, starts_under};
 ghost use Rattle.cfi_layout.specs.Starts.{code_size, flag};
@@ -9,7 +9,8 @@ use crate::placement::Placement;
 use crate::short::Short;
 use crate::starts::starts_with;
 use crate::worklist::lengthen;
-use rv_word::{Form, NoMemory};
+use rv_image::Form;
+use rv_word::NoMemory;
 use std::alloc::Global;
 
 /// Flags of parts, in which all but those of branches are long.

@@ -1,14 +1,15 @@
 //! Sums: where parts of these sizes start.
 
 ghost use Rattle.std.specs.Prelude.{◌≡◌, ℕ, ◌+◌, ◌-◌, ◌<◌, ◌≤◌, ◌^◌, if◌then◌else◌, IfOk, length, slice_index};
-ghost use Rattle.rv_word.specs.Form.{profile_for};
-ghost use Rattle.rv_word.specs.MemoryMap.{CODE_SIZE};
+ghost use Rattle.rv_image.specs.Form.{profile_for};
+ghost use Rattle.rv_image.specs.MemoryMap.{CODE_SIZE};
 ghost use Rattle.cfi_layout.specs.Lengthening.{starts_with};
 ghost use Rattle.cfi_layout.specs.LongSet.{sizes_where};
 ghost use Rattle.cfi_layout.specs.Starts.{code_size, flag, starts_from};
 
-use rv_word::memory_map::CODE_START;
-use rv_word::{Form, NoMemory};
+use rv_image::memory_map::CODE_START;
+use rv_image::Form;
+use rv_word::NoMemory;
 use std::alloc::Global;
 
 /// How many bytes the code of parts of these sizes has, the prologue of a form's images counted.

@@ -2,8 +2,8 @@
 -- has a word for computed jumps; then an entry that is no leaf has a jump over the rest and what saves the site of its call, five words;
 -- and between these two a target of computed calls has the gate that they ask for.
 use Rattle.std.specs.Prelude.{ℕ, ◌+◌, ◌*◌, Bool, not, ◌&&◌, if◌then◌else◌, length}
-use Rattle.rv_word.specs.declared.version.GraphVersion.{GraphVersion}
-use Rattle.rv_word.specs.declared.version.GraphVersion.TheVariants.{OneLabel, TwoLabels, CalleeSaves}
+use Rattle.rv_image.specs.declared.version.GraphVersion.{GraphVersion}
+use Rattle.rv_image.specs.declared.version.GraphVersion.TheVariants.{OneLabel, TwoLabels, CalleeSaves}
 use Rattle.cfi_closed.specs.Closed.{is_target}
 use Rattle.cfi_leads.specs.Entered.{Entered}
 use Rattle.cfi_leads.specs.Entries.{is_call_target, is_entry}

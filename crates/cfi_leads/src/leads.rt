@@ -14,7 +14,8 @@ use crate::entries::{Entries, is_call_target};
 use crate::pieces::Pieces;
 use cfi_closed::Closed;
 use obj_program::{Item, Items};
-use rv_word::{GraphVersion, NoMemory};
+use rv_image::GraphVersion;
+use rv_word::NoMemory;
 use std::alloc::Global;
 use std::marker::Model;
 

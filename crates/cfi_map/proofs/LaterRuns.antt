@@ -5,7 +5,7 @@ use Rattle.std.specs.Prelude.{if◌then◌else◌, option_and_then, option_map, 
 use Rattle.std.proofs.lemmas.Bool.{and_parts, cases_Bool, cases_lt, cond_both}
 use Rattle.std.proofs.lemmas.List.{get_or_past}
 use Rattle.std.proofs.lemmas.Option.{same_Some}
-use Rattle.rv_word.specs.MemoryMap.{Profile}
+use Rattle.rv_image.specs.MemoryMap.{Profile}
 use Rattle.rv_instr.specs.declared.instr.Instr.{Instr}
 use Rattle.rv_instr.specs.declared.instr.Instr.TheVariants as I
 use Rattle.rv_instr.specs.declared.instr.UpperOp.TheVariants.{Lui, Auipc}

@@ -1,8 +1,8 @@
 -- Worked rows: where calls arrive, the lines of leaves, and those of jumps over what saves a site, in small programs whose callees save sites.
 -- Of each program the gates and the lines were worked out by hand beside its code, which is for one hart.
 use Rattle.std.proofs.Common.{◌≡◌, ℕ, false, List, [], ◌∷◌, Option, Some, None, refl}
-use Rattle.rv_word.specs.MemoryMap.{lean_version_1}
-use Rattle.rv_word.specs.declared.version.GraphVersion.TheVariants.{OneLabel, TwoLabels, CalleeSaves}
+use Rattle.rv_image.specs.MemoryMap.{lean_version_1}
+use Rattle.rv_image.specs.declared.version.GraphVersion.TheVariants.{OneLabel, TwoLabels, CalleeSaves}
 use Rattle.rv_code.specs.Decode.{decoded}
 use Rattle.obj_input.specs.declared.item_kind.ItemKind.{ItemKind}
 use Rattle.obj_input.specs.declared.item_kind.ItemKind.TheVariants as is

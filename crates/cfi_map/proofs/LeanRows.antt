@@ -1,7 +1,7 @@
 -- Worked rows: sizes, groups and kept branches of small programs whose callees save sites. Of each program the places' gates were worked out
 -- by hand beside its code; a part is as long as from its gate to the next one, and the first one's is at the code's 44th byte.
 use Rattle.std.proofs.Common.{◌≡◌, ℕ, Bool, true, false, List, [], ◌∷◌, Option, Some, None, pos, refl}
-use Rattle.rv_word.specs.declared.version.GraphVersion.TheVariants.{TwoLabels, CalleeSaves}
+use Rattle.rv_image.specs.declared.version.GraphVersion.TheVariants.{TwoLabels, CalleeSaves}
 use Rattle.rv_code.specs.Decode.{decoded}
 use Rattle.obj_input.specs.declared.item_kind.ItemKind.{ItemKind}
 use Rattle.obj_input.specs.declared.item_kind.ItemKind.TheVariants as is

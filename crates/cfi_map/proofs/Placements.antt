@@ -9,10 +9,10 @@ use Rattle.std.proofs.lemmas.Bool.{cases_Bool, cases_lt, eq-eqb, not_from_false,
 use Rattle.std.proofs.lemmas.List.Folds.{list_any_at}
 use Rattle.std.proofs.lemmas.Option.{get_or_from_slice_get, slice_get_within}
 use Rattle.std.proofs.lemmas.List.{get_or-take, get_or_append_left, length-take-le}
-use Rattle.rv_word.proofs.Profiles.{is_form_profile, laid_out}
-use Rattle.rv_word.specs.Form.{image_version, profile_for}
-use Rattle.rv_word.specs.MemoryMap.{CODE_SIZE}
-use Rattle.rv_word.specs.declared.form.Form.{Form}
+use Rattle.rv_image.proofs.Profiles.{is_form_profile, laid_out}
+use Rattle.rv_image.specs.Form.{image_version, profile_for}
+use Rattle.rv_image.specs.MemoryMap.{CODE_SIZE}
+use Rattle.rv_image.specs.declared.form.Form.{Form}
 use Rattle.obj_input.specs.declared.item_kind.ItemKind.{ItemKind}
 use Rattle.obj_input.specs.declared.item_kind.ItemKind.TheVariants as is
 use Rattle.obj_program.specs.declared.item.Item.{Item}

@@ -2,8 +2,8 @@
 -- gates and counts of steps are worked out by hand.
 use Rattle.std.proofs.Common.{◌≡◌, ℕ, ◌+◌, ◌-◌, ◌^◌, true, false, List, [], ◌∷◌, Option, Some, None, length, replicate, pos, refl}
 use Rattle.std.specs.Prelude.{option_map}
-use Rattle.rv_word.specs.declared.version.GraphVersion.TheVariants.{OneLabel, TwoLabels}
-use Rattle.rv_word.specs.MemoryMap.{version_1}
+use Rattle.rv_image.specs.declared.version.GraphVersion.TheVariants.{OneLabel, TwoLabels}
+use Rattle.rv_image.specs.MemoryMap.{version_1}
 use Rattle.rv_word.specs.Memory.{placed, write}
 use Rattle.rv_instr.specs.Registers.{set_reg}
 use Rattle.rv_code.specs.Decode.{decoded}

@@ -2,12 +2,12 @@
 -- their targets, the opening's call of the entry, which stands where a run starts, and a line for each transfer at its word. Where the
 -- words before a unit have a jump over what saves a site, that has a line too.
 use Rattle.std.specs.Prelude.{ℕ, zero, suc, ◌+◌, ◌-◌, ◌*◌, Bool, if◌then◌else◌, Option, Some, None, List, [], ◌∷◌, ◌++◌, map, slice_index}
-use Rattle.rv_word.specs.Form.{profile_for}
-use Rattle.rv_word.specs.declared.unit_words.TheConstants as counts
-use Rattle.rv_word.specs.declared.version.GraphVersion.{GraphVersion}
-use Rattle.rv_word.specs.declared.version.GraphVersion.TheVariants.{OneLabel, TwoLabels, CalleeSaves}
-use Rattle.rv_word.specs.MemoryMap.{Profile, START}
-use Rattle.rv_word.specs.declared.form.Form.{Form}
+use Rattle.rv_image.specs.Form.{profile_for}
+use Rattle.rv_image.specs.declared.unit_words.TheConstants as counts
+use Rattle.rv_image.specs.declared.version.GraphVersion.{GraphVersion}
+use Rattle.rv_image.specs.declared.version.GraphVersion.TheVariants.{OneLabel, TwoLabels, CalleeSaves}
+use Rattle.rv_image.specs.MemoryMap.{Profile, START}
+use Rattle.rv_image.specs.declared.form.Form.{Form}
 use Rattle.obj_input.specs.declared.item_kind.ItemKind.{ItemKind}
 use Rattle.obj_input.specs.declared.item_kind.ItemKind.TheVariants as is
 use Rattle.obj_program.specs.declared.item.Item.{Item}

@@ -1,7 +1,7 @@
 -- Legal maps: one line for each place, in order, with the gates of a placement, whose first unit stands behind the prologue of the
 -- images of the map's form.
 use Rattle.std.specs.Prelude.{◌≡◌, ℕ, List, map}
-use Rattle.rv_word.specs.Form.{profile_for}
+use Rattle.rv_image.specs.Form.{profile_for}
 use Rattle.cfi_map_text.specs.Map.{MapParts}
 use Rattle.cfi_map_text.specs.declared.map.MapLine.{MapLine}
 use Rattle.obj_program.specs.declared.item.Item.{Item}

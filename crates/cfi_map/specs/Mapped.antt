@@ -1,8 +1,8 @@
 -- A program at a map, as it is kept with the words of its places. Only a model cites this.
 use Rattle.std.specs.Prelude.{◌≡◌, ℕ, ◌<◌, ◌^◌, List, length, slice_index}
 use Rattle.std.specs.List.Sorted.{IsStrictlyIncreasing}
-use Rattle.rv_word.specs.Form.{graph_version}
-use Rattle.rv_word.specs.declared.form.Form.{Form}
+use Rattle.rv_image.specs.Form.{graph_version}
+use Rattle.rv_image.specs.declared.form.Form.{Form}
 use Rattle.obj_program.specs.Program.{count}
 use Rattle.cfi_map.specs.GraphAtMap.{ProgramAtMap, words_at}
 

@@ -1,8 +1,8 @@
 -- A placement of a program's code with groups of stores and short branches, and why there is none.
 use Rattle.std.specs.Prelude.{◌≡◌, ℕ, ◌+◌, ◌≤◌, ◌<◌, if◌then◌else◌, Bool, true, false, Some, List}
-use Rattle.rv_word.specs.Form.{profile_for}
-use Rattle.rv_word.specs.MemoryMap.{CODE_SIZE}
-use Rattle.rv_word.specs.declared.form.Form.{Form}
+use Rattle.rv_image.specs.Form.{profile_for}
+use Rattle.rv_image.specs.MemoryMap.{CODE_SIZE}
+use Rattle.rv_image.specs.declared.form.Form.{Form}
 use Rattle.obj_program.specs.Program.{Program, count, item_of}
 use Rattle.obj_program.specs.Sound.{IsSound}
 use Rattle.rv_word.specs.declared.end.End.{End}

@@ -1,8 +1,8 @@
 -- How many bytes the parts of a program's code have. The part of a place is the words before its unit, if there are any,
 -- and its unit.
 use Rattle.std.specs.Prelude.{ℕ, ◌+◌, ◌-◌, Bool, true, not, ◌&&◌, ◌||◌, if◌then◌else◌, List, [], ◌∷◌}
-use Rattle.rv_word.specs.Form.{profile_for}
-use Rattle.rv_word.specs.declared.form.Form.{Form}
+use Rattle.rv_image.specs.Form.{profile_for}
+use Rattle.rv_image.specs.declared.form.Form.{Form}
 use Rattle.obj_program.specs.declared.item.Item.{Item}
 use Rattle.cfi_layout.specs.Starts.{code_size}
 use Rattle.cfi_leads.specs.Entered.{Entered}

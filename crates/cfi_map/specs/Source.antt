@@ -1,7 +1,7 @@
 -- The source machine: a program at a map runs as the standard says, one instruction a step. It knows no units: where they
 -- stand, it sees by the gates and words of its places alone.
 use Rattle.std.specs.Prelude.{ℕ, ◌^◌, Option, Some, unwrap_or, List, []}
-use Rattle.rv_word.specs.MemoryMap.{DATA_START}
+use Rattle.rv_image.specs.MemoryMap.{DATA_START}
 use Rattle.rv_word.specs.Memory.{placed, zeros}
 use Rattle.rv_instr.specs.declared.instr.Instr.{Instr}
 use Rattle.rv_instr.specs.declared.instr.Instr.TheVariants as I

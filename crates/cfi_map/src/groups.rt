@@ -11,7 +11,8 @@ use obj_input::ItemKind;
 use obj_program::{Item, Items, Patch};
 use rv_code::decode;
 use rv_instr::{Immediate, Instr, Reg};
-use rv_word::{GraphVersion, NoMemory};
+use rv_image::GraphVersion;
+use rv_word::NoMemory;
 use std::alloc::Global;
 use std::marker::Model;
 

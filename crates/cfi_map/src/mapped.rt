@@ -2,8 +2,8 @@
 
 ghost use Rattle.std.specs.Prelude.{◌≡◌, ◌<◌, ◌≤◌, ◌^◌, ℕ, true, false, IfOk, IfSome, Some, is_some, length, slice_index};
 ghost use Rattle.std.specs.List.Sorted.{IsStrictlyIncreasing};
-ghost use Rattle.rv_word.specs.Form.{graph_version, profile_for};
-ghost use Rattle.rv_word.specs.MemoryMap.{IsProfile};
+ghost use Rattle.rv_image.specs.Form.{graph_version, profile_for};
+ghost use Rattle.rv_image.specs.MemoryMap.{IsProfile};
 ghost use Rattle.obj_program.specs.AtMap.{instr_at};
 ghost use Rattle.obj_program.specs.DataAtMap.{data_at, init_size};
 ghost use Rattle.obj_program.specs.MapFit.{EndsLast};
@@ -21,8 +21,9 @@ use cfi_leads::Leads;
 use least::Place;
 use obj_program::{Item, Items};
 use rv_instr::Instr;
-use rv_word::unit_words::ENTER_WORDS;
-use rv_word::{End, Form, GraphVersion, NoMemory};
+use rv_image::unit_words::ENTER_WORDS;
+use rv_image::{Form, GraphVersion};
+use rv_word::{End, NoMemory};
 use std::alloc::Global;
 use std::marker::Model;
 

@@ -1,7 +1,7 @@
 //! Which branches may be short, as parts of a placement.
 
 ghost use Rattle.std.specs.Prelude.{◌≡◌, ◌<◌, ◌≤◌, ◌^◌, Bool, IfOk, List, OnOk, sum};
-ghost use Rattle.rv_word.specs.MemoryMap.{CODE_SIZE};
+ghost use Rattle.rv_image.specs.MemoryMap.{CODE_SIZE};
 ghost use Rattle.obj_program.specs.Program.{count};
 ghost use Rattle.cfi_layout.specs.LongSet.{AreShorts};
 ghost use Rattle.cfi_map.specs.Shorts.{short_at, shorts_of, with_short, is_branch, is_kept, is_skipped};

@@ -1,8 +1,8 @@
 //! Where each place's gate and unit stand.
 
 ghost use Rattle.std.specs.Prelude.{◌≡◌, ℕ, ◌<◌, ◌≤◌, ◌^◌, false, IfOk, MatchResult};
-ghost use Rattle.rv_word.specs.Form.{graph_version};
-ghost use Rattle.rv_word.specs.MemoryMap.{CODE_SIZE};
+ghost use Rattle.rv_image.specs.Form.{graph_version};
+ghost use Rattle.rv_image.specs.MemoryMap.{CODE_SIZE};
 ghost use Rattle.obj_program.specs.Program.{count};
 ghost use Rattle.cfi_layout.specs.Starts.{flag};
 ghost use Rattle.cfi_leads.specs.Entered.{entered_at};
@@ -19,8 +19,9 @@ use cfi_closed::Closed;
 use cfi_layout::{CodeTooLarge, Placement, code_size, shorten};
 use cfi_leads::Leads;
 use obj_program::Items;
-use rv_word::memory_map::CODE_SIZE;
-use rv_word::{End, Form, NoMemory};
+use rv_image::memory_map::CODE_SIZE;
+use rv_image::Form;
+use rv_word::{End, NoMemory};
 use std::alloc::Global;
 use std::marker::Model;
 

@@ -17,9 +17,9 @@ use Rattle.text_lines.proofs.Options.{and_then, mapped}
 use Rattle.text_lines.proofs.Whole.{ends_whole, named_back, one_named_ok, whole_accepts, whole_back}
 use Rattle.text_lines.proofs.Written.{hex_back, hex_plain, join_newlines, lacks, spaced_line, split_join, words_back}
 use Rattle.text_lines.specs.declared.fault.LineFault.{LineFault}
-use Rattle.rv_word.specs.Form.{profile_for}
-use Rattle.rv_word.specs.declared.form.Form.{Form}
-use Rattle.rv_word.specs.declared.form.Form.TheVariants.{Plain, Harts, Split, HartsSplit, Lean, HartsLean}
+use Rattle.rv_image.specs.Form.{profile_for}
+use Rattle.rv_image.specs.declared.form.Form.{Form}
+use Rattle.rv_image.specs.declared.form.Form.TheVariants.{Plain, Harts, Split, HartsSplit, Lean, HartsLean}
 use Rattle.rv_word.specs.declared.end.End.{End}
 use Rattle.rv_word.specs.declared.end.End.TheVariants.{Fault, NoMemory}
 use Rattle.cfi_map_text.specs.declared.map.MapLine.{MapLine}

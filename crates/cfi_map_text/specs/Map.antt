@@ -2,9 +2,9 @@
 -- place is a section's number and an offset in that section; a gate is an address of the code.
 use Rattle.std.specs.Prelude.{ℕ, ◌+◌, ◌%◌, ◌^◌, ◌==◌, nat_lt, nat_le, Bool, ◌&&◌, ◌||◌, IsTrue, List}
 use Rattle.std.specs.List.{list_all}
-use Rattle.rv_word.specs.Form.{profile_for}
-use Rattle.rv_word.specs.MemoryMap.{CODE_START, CODE_SIZE}
-use Rattle.rv_word.specs.declared.form.Form.{Form}
+use Rattle.rv_image.specs.Form.{profile_for}
+use Rattle.rv_image.specs.MemoryMap.{CODE_START, CODE_SIZE}
+use Rattle.rv_image.specs.declared.form.Form.{Form}
 use Rattle.cfi_map_text.specs.declared.map.MapLine.{MapLine}
 use Rattle.cfi_graph.specs.Graph.{is_rising}
 

@@ -6,7 +6,8 @@ ghost use Rattle.cfi_map_text.specs.Map.{IsMap, MapParts};
 ghost use Rattle.cfi_map_text.specs.MapText.{form_at, in_map_order, map_line_of, map_name, map_of, map_rules, map_text, map_words};
 
 use crate::map::{Map, MapLine, MapLines};
-use rv_word::{End, Form, NoMemory};
+use rv_image::Form;
+use rv_word::{End, NoMemory};
 use std::alloc::Global;
 use text_lines::{
     LineFault, LineForm, after_one_of, cut, hex_of, is_word, push_number, read_lines,

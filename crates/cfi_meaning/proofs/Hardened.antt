@@ -1,7 +1,7 @@
 -- A hardened program of a request is an image of an accepted choice, at the gates of its map.
 use Rattle.std.proofs.Common.{◌≡◌, ℕ, List, [], Option, refl, sym, ap, subst, ◌∙◌, unwrap_or}
-use Rattle.rv_word.specs.Image.{Contents}
-use Rattle.rv_word.specs.Form.{image_version}
+use Rattle.rv_image.specs.Image.{Contents}
+use Rattle.rv_image.specs.Form.{image_version}
 use Rattle.cfi_map.specs.GraphAtMap.{ProgramAtMap, program_at}
 use Rattle.cfi_map.specs.LegalMap.{IsLegalMap}
 use Rattle.cfi_map.specs.Source.{init_here}

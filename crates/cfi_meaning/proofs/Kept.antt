@@ -1,8 +1,8 @@
 -- Meaning kept, by induction on the source machine's steps.
 use Rattle.std.proofs.Common.{◌≡◌, ℕ, ◌+◌, ◌≤◌, ◌⊎◌, true, false, inl, inr, List, [], Option, Some, None, refl, sym, ap, subst, ◌∙◌, arith}
 use Rattle.std.proofs.lemmas.Bool.{cases_Bool}
-use Rattle.rv_word.specs.Image.{Contents}
-use Rattle.rv_word.specs.MemoryMap.{DATA_START, Profile}
+use Rattle.rv_image.specs.Image.{Contents}
+use Rattle.rv_image.specs.MemoryMap.{DATA_START, Profile}
 use Rattle.rv_word.specs.Memory.{placed, zeros}
 use Rattle.rv_code.specs.State.{last_exit}
 use Rattle.cfi_map.specs.Placement.{whole_at}

@@ -1,7 +1,7 @@
 -- The source machine's step of a kind is the own step of that kind, by addresses.
 use Rattle.std.proofs.Common.{◌≡◌, ℕ, ◌+◌, ◌≤◌, Bool, true, false, List, [], ◌∷◌, Option, Some, refl, sym, ap, subst, ◌∙◌, if◌then◌else◌, unwrap_or}
 use Rattle.std.proofs.lemmas.Bool.{cond_both}
-use Rattle.rv_word.specs.MemoryMap.{Profile, can_load, can_store}
+use Rattle.rv_image.specs.MemoryMap.{Profile, can_load, can_store}
 use Rattle.rv_instr.specs.Registers.{Registers, get_reg}
 use Rattle.rv_instr.specs.declared.instr.Instr.{Instr}
 use Rattle.rv_instr.specs.declared.instr.Instr.TheVariants as I

@@ -1,8 +1,8 @@
 -- Kinds of instructions that leave the pending sites: their step is the same whichever sites are pending, and, where callees save sites, their
 -- unit does all of it. No unit there has more than 19 words but that of a group of stores.
 use Rattle.std.proofs.Common.{◌≡◌, ℕ, ◌≤◌, Bool, true, false, List, Option, Some, None, refl, arith}
-use Rattle.rv_word.specs.declared.version.GraphVersion.TheVariants.{CalleeSaves}
-use Rattle.rv_word.specs.MemoryMap.{Profile}
+use Rattle.rv_image.specs.declared.version.GraphVersion.TheVariants.{CalleeSaves}
+use Rattle.rv_image.specs.MemoryMap.{Profile}
 use Rattle.rv_instr.specs.declared.instr.Instr.{Instr}
 use Rattle.rv_instr.specs.declared.instr.Instr.TheVariants as I
 use Rattle.obj_input.specs.declared.item_kind.ItemKind.{ItemKind}

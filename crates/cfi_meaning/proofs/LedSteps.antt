@@ -2,7 +2,7 @@
 use Rattle.std.proofs.Common.{◌≡◌, ℕ, zero, suc, ◌+◌, ◌%◌, ◌^◌, true, inl, inr, List, [], ◌∷◌, ◌++◌, length, length-append, Option, Some, None, refl, sym, ap, subst, ◌∙◌, arith}
 use Rattle.std.proofs.lemmas.Bool.{cases_Bool}
 use Rattle.std.proofs.lemmas.Option.{option_and_then_some, same_Some}
-use Rattle.rv_word.specs.Image.{Contents}
+use Rattle.rv_image.specs.Image.{Contents}
 use Rattle.rv_code.specs.declared.turn.Turn.TheVariants.{Ran}
 use Rattle.obj_input.specs.declared.item_kind.ItemKind.TheVariants as is
 use Rattle.obj_program.specs.Program.{item_of}

@@ -1,8 +1,8 @@
 -- The unit of a place names no register that units keep for themselves, since its instruction does not.
 use Rattle.std.proofs.Common.{◌≡◌, ℕ, suc, ◌+◌, ◌<◌, ◌≤◌, ◌==◌, ◌||◌, true, false, Bool, inl, inr, Some, refl, sym, ap, subst, ◌∙◌, arith, Option, None, List}
 use Rattle.std.proofs.lemmas.Bool.{cases_Bool, eq-eqb, eqb-true, or_cases, or_left, or_right}
-use Rattle.rv_word.specs.declared.version.GraphVersion.{GraphVersion}
-use Rattle.rv_word.specs.declared.version.GraphVersion.TheVariants.{OneLabel, TwoLabels, CalleeSaves}
+use Rattle.rv_image.specs.declared.version.GraphVersion.{GraphVersion}
+use Rattle.rv_image.specs.declared.version.GraphVersion.TheVariants.{OneLabel, TwoLabels, CalleeSaves}
 use Rattle.rv_instr.specs.Operands.{names}
 use Rattle.rv_instr.specs.Reserved.{is_reserved}
 use Rattle.rv_instr.specs.declared.instr.Instr.{Instr}

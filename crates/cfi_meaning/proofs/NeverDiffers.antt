@@ -2,9 +2,9 @@
 -- it has ended both are the same.
 use Rattle.std.proofs.Common.{◌≡◌, ℕ, zero, suc, ◌+◌, ◌-◌, ◌≤◌, ◌==◌, Bool, true, List, [], ◌∷◌, ◌++◌, length, map, Option, Some, None, append-nil, append_assoc, replicate, refl, sym, ap, subst, ◌∙◌, arith}
 use Rattle.std.proofs.lemmas.Bool.{eq-eqb, le-ltb}
-use Rattle.rv_word.specs.Image.{Contents}
-use Rattle.rv_word.specs.MemoryMap.{Profile}
-use Rattle.rv_word.proofs.Profiles.{laid_out}
+use Rattle.rv_image.specs.Image.{Contents}
+use Rattle.rv_image.specs.MemoryMap.{Profile}
+use Rattle.rv_image.proofs.Profiles.{laid_out}
 use Rattle.rv_code.specs.Continue.{continue}
 use Rattle.rv_code.specs.Run.{ByteChange, next_or_stop, run_alone}
 use Rattle.rv_code.specs.State.{After, start_hart, start_shared}

@@ -4,12 +4,12 @@ use Rattle.std.proofs.Math.Nat.{mul-suc}
 use Rattle.std.proofs.lemmas.Bool.{cases_lt}
 use Rattle.std.proofs.lemmas.List.{get_or_past}
 use Rattle.std.proofs.lemmas.Nat.{mul-le}
-use Rattle.rv_word.specs.Image.{Contents}
-use Rattle.rv_word.specs.MemoryMap.{Profile, SHADOW_START, lean_version_1, lean_version_2, version_1, version_2}
-use Rattle.rv_word.specs.Memory.{Memory, loaded}
-use Rattle.rv_word.specs.declared.version.GraphVersion.{GraphVersion}
-use Rattle.rv_word.specs.declared.version.GraphVersion.TheVariants.{OneLabel, TwoLabels, CalleeSaves}
-use Rattle.rv_word.proofs.Profiles.{laid_out}
+use Rattle.rv_image.specs.Image.{Contents, loaded}
+use Rattle.rv_image.specs.MemoryMap.{Profile, SHADOW_START, lean_version_1, lean_version_2, version_1, version_2}
+use Rattle.rv_word.specs.Memory.{Memory}
+use Rattle.rv_image.specs.declared.version.GraphVersion.{GraphVersion}
+use Rattle.rv_image.specs.declared.version.GraphVersion.TheVariants.{OneLabel, TwoLabels, CalleeSaves}
+use Rattle.rv_image.proofs.Profiles.{laid_out}
 use Rattle.rv_instr.specs.Registers.{cleared}
 use Rattle.rv_code.specs.State.{After, Shared}
 use Rattle.obj_program.specs.Program.{count}

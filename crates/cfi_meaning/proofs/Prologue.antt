@@ -1,10 +1,9 @@
 -- What is written meets the rules, so its prologue stands.
 use Rattle.std.proofs.Common.{◌≡◌, ℕ, Bool, inl, inr, length, refl, sym, ap, subst, ◌∙◌}
 use Rattle.std.proofs.lemmas.Option.{same_Some}
-use Rattle.rv_word.specs.Image.{Contents}
-use Rattle.rv_word.specs.Memory.{loaded}
-use Rattle.rv_word.specs.MemoryMap.{IsProfile, Profile}
-use Rattle.rv_word.proofs.Profiles.{full_saves, lean_saves}
+use Rattle.rv_image.specs.Image.{Contents, loaded}
+use Rattle.rv_image.specs.MemoryMap.{IsProfile, Profile}
+use Rattle.rv_image.proofs.Profiles.{full_saves, lean_saves}
 use Rattle.cfi_graph.specs.Graph.{GraphParts}
 use Rattle.cfi_map.specs.GraphAtMap.{graph_lines}
 use Rattle.cfi_unit.specs.UnitWords.{Reaches}

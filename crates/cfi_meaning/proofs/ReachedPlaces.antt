@@ -4,8 +4,7 @@ use Rattle.std.specs.Prelude.{map, slice_get, slice_index, slice_index_or}
 use Rattle.std.proofs.lemmas.Bool.{and_from, cases_lt}
 use Rattle.std.proofs.lemmas.List.{get_or_past}
 use Rattle.std.proofs.lemmas.Option.{slice_get-get_or}
-use Rattle.rv_word.specs.Image.{Contents}
-use Rattle.rv_word.specs.Memory.{loaded}
+use Rattle.rv_image.specs.Image.{Contents, loaded}
 use Rattle.obj_program.specs.Program.{count, item_of}
 use Rattle.cfi_class.specs.Classes.{has}
 use Rattle.cfi_graph.specs.declared.line.SiteKind.{SiteKind}

@@ -1,6 +1,6 @@
 -- Steps from stores: each goes on to the next place and tells nothing to the world.
 use Rattle.std.proofs.Common.{◌≡◌, ℕ, ◌+◌, ◌⊎◌, inl, inr, true, Option, Some, None, refl, sym, ap, subst, ◌∙◌}
-use Rattle.rv_word.specs.Image.{Contents}
+use Rattle.rv_image.specs.Image.{Contents}
 use Rattle.rv_instr.specs.declared.instr.Instr.{Instr}
 use Rattle.rv_code.specs.State.{last_exit}
 use Rattle.rv_code.specs.declared.turn.Turn.{Turn}

@@ -2,10 +2,10 @@
 -- which the closed graph has one a side. Under version 3 none takes more than 21: a computed call has 15 words, and where it arrives stand
 -- a gate and five that save its site.
 use Rattle.std.specs.Prelude.{ℕ, ◌+◌, ◌-◌, ◌*◌, ◌/◌, length}
-use Rattle.rv_word.specs.MemoryMap.{Profile, START}
-use Rattle.rv_word.specs.declared.unit_words.TheConstants as counts
-use Rattle.rv_word.specs.declared.version.GraphVersion.{GraphVersion}
-use Rattle.rv_word.specs.declared.version.GraphVersion.TheVariants.{OneLabel, TwoLabels, CalleeSaves}
+use Rattle.rv_image.specs.MemoryMap.{Profile, START}
+use Rattle.rv_image.specs.declared.unit_words.TheConstants as counts
+use Rattle.rv_image.specs.declared.version.GraphVersion.{GraphVersion}
+use Rattle.rv_image.specs.declared.version.GraphVersion.TheVariants.{OneLabel, TwoLabels, CalleeSaves}
 use Rattle.cfi_map.specs.GraphAtMap.{ProgramAtMap}
 
 abbrev pub most_words_by : GraphVersion → ℕ → ℕ

@@ -1,7 +1,7 @@
 -- Meaning is kept by what a request comes to: its program, at the map that is told, runs as the image does that is told.
 use Rattle.std.specs.Prelude.{◌≡◌, ℕ, List}
-use Rattle.rv_word.specs.Image.{Contents}
-use Rattle.rv_word.specs.Form.{image_version}
+use Rattle.rv_image.specs.Image.{Contents}
+use Rattle.rv_image.specs.Form.{image_version}
 use Rattle.elf_image.specs.Spelling.{spelling}
 use Rattle.cfi_map.specs.GraphAtMap.{ProgramAtMap, program_at}
 use Rattle.cfi_map.specs.LegalMap.{IsLegalMap, gates_of}

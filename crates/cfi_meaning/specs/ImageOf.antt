@@ -1,6 +1,6 @@
 -- An image of what is written.
 use Rattle.std.specs.Prelude.{◌≡◌, ℕ, ◌<◌, false}
-use Rattle.rv_word.specs.Image.{Contents}
+use Rattle.rv_image.specs.Image.{Contents}
 use Rattle.obj_program.specs.Program.{count, is_end, item_of}
 use Rattle.cfi_rules.specs.Laws.{AreBytes}
 use Rattle.cfi_rules.specs.Split.{code_words}

@@ -1,7 +1,7 @@
 -- What a place's own step is, by the kind of its instruction: transfers go to gates, links are the next
 -- place's gate, and any other instruction has the hart's own effect at the place's word.
 use Rattle.std.specs.Prelude.{ℕ, if◌then◌else◌}
-use Rattle.rv_word.specs.MemoryMap.{Profile}
+use Rattle.rv_image.specs.MemoryMap.{Profile}
 use Rattle.rv_instr.specs.Registers.{get_reg}
 use Rattle.rv_instr.specs.declared.instr.Instr.{Instr}
 use Rattle.rv_instr.specs.declared.instr.Instr.TheVariants as I

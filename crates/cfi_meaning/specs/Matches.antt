@@ -4,11 +4,10 @@
 -- what saves a call's site has done so; in a leaf, where nothing does, the newest site is in x1 alone.
 use Rattle.std.specs.Prelude.{◌≡◌, ◌↔◌, ℕ, ◌+◌, ◌≤◌, ◌<◌, ◌⊎◌, Bool, true, false, Option, Some, None, List, [], ◌∷◌, length}
 use Rattle.std.specs.List.{AllByRecursion}
-use Rattle.rv_word.specs.Image.{Contents}
-use Rattle.rv_word.specs.MemoryMap.{DATA_END, PART_SIZE, SHADOW_START}
-use Rattle.rv_word.specs.Memory.{loaded}
-use Rattle.rv_word.specs.declared.version.GraphVersion.{GraphVersion}
-use Rattle.rv_word.specs.declared.version.GraphVersion.TheVariants.{OneLabel, TwoLabels, CalleeSaves}
+use Rattle.rv_image.specs.Image.{Contents, loaded}
+use Rattle.rv_image.specs.MemoryMap.{DATA_END, PART_SIZE, SHADOW_START}
+use Rattle.rv_image.specs.declared.version.GraphVersion.{GraphVersion}
+use Rattle.rv_image.specs.declared.version.GraphVersion.TheVariants.{OneLabel, TwoLabels, CalleeSaves}
 use Rattle.rv_instr.specs.Reserved.{is_reserved}
 use Rattle.rv_code.specs.State.{After, last_exit}
 use Rattle.rv_code.specs.declared.turn.Turn.TheVariants.{Ran}

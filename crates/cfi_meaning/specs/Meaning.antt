@@ -2,7 +2,7 @@
 -- matching state within 21 n + 13 steps, unless the program is at a later store of a group; and where the next step ends the run, the
 -- image's has ended alike within 21 (n + 1) + 13 in all. An image for several harts runs with one alone, and for 13 reads 17; with a graph of version 2 for 21 reads 22.
 use Rattle.std.specs.Prelude.{◌≡◌, ℕ, ◌+◌, ◌-◌, ◌≤◌, true, false, Some, List}
-use Rattle.rv_word.specs.Image.{Contents}
+use Rattle.rv_image.specs.Image.{Contents}
 use Rattle.rv_code.specs.State.{After}
 use Rattle.rv_code.specs.Step.{step}
 use Rattle.rv_code.specs.declared.turn.Turn.TheVariants.{Exit, Break}

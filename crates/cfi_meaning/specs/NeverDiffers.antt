@@ -1,6 +1,6 @@
 -- Compared with its image, no run of a program differs.
 use Rattle.std.specs.Prelude.{◌≡◌, ℕ, List}
-use Rattle.rv_word.specs.Image.{Contents}
+use Rattle.rv_image.specs.Image.{Contents}
 use Rattle.cfi_map.specs.GraphAtMap.{ProgramAtMap}
 use Rattle.cfi_map.specs.Source.{init_here}
 use Rattle.cfi_writer.specs.Units.{Choice}

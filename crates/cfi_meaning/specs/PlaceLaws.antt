@@ -1,8 +1,7 @@
 -- What stands at places, and where the words before their units lead.
 use Rattle.std.specs.Prelude.{◌≡◌, ℕ, suc, ◌+◌, ◌*◌, ◌≤◌, ◌<◌, true, false, List, [], Option, Some, length}
 use Rattle.std.specs.List.{range_with_len}
-use Rattle.rv_word.specs.Image.{Contents}
-use Rattle.rv_word.specs.Memory.{loaded}
+use Rattle.rv_image.specs.Image.{Contents, loaded}
 use Rattle.rv_instr.specs.Registers.{cleared}
 use Rattle.rv_code.specs.declared.turn.Turn.TheVariants.{Ran}
 use Rattle.obj_input.specs.declared.item_kind.ItemKind.TheVariants as is

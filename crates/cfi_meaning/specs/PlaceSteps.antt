@@ -1,8 +1,7 @@
 -- The program's own run by places, an instruction a step: the step of a place is that of its instruction's kind, at the place's word.
 -- Between steps it is at gates, with all sites that are pending, whoever saves them.
 use Rattle.std.specs.Prelude.{◌≡◌, ℕ, ◌+◌, ◌^◌, ◌<◌, ◌≤◌, Bool, true, false, Option, Some, List, [], ◌∷◌, length}
-use Rattle.rv_word.specs.Image.{Contents}
-use Rattle.rv_word.specs.Memory.{loaded}
+use Rattle.rv_image.specs.Image.{Contents, loaded}
 use Rattle.obj_program.specs.Program.{item_of}
 use Rattle.rv_instr.specs.Registers.{Registers, cleared, get_reg, set_reg}
 use Rattle.rv_instr.specs.declared.instr.Instr.{Instr}

@@ -2,9 +2,8 @@
 -- matched within 21 n steps of the machine, or 22 n with a graph of version 2, and as many more as the opening and
 -- the closing have words and what saves the closing's address, and what ends the program ends the machine alike.
 use Rattle.std.specs.Prelude.{◌≡◌, ℕ, ◌+◌, false, Option, Some, None, List, [], ◌∷◌, length}
-use Rattle.rv_word.specs.Image.{Contents}
-use Rattle.rv_word.specs.MemoryMap.{SHADOW_START}
-use Rattle.rv_word.specs.Memory.{loaded}
+use Rattle.rv_image.specs.Image.{Contents, loaded}
+use Rattle.rv_image.specs.MemoryMap.{SHADOW_START}
 use Rattle.rv_code.specs.State.{After}
 use Rattle.obj_input.specs.declared.item_kind.ItemKind.TheVariants as is
 use Rattle.obj_program.specs.Program.{item_of}

@@ -1,6 +1,6 @@
 -- What is said of two texts that spell a pair is determined by them: no fault, and no rule that fails where the pair meets all.
 use Rattle.std.proofs.Common.{◌≡◌, ◌∙◌, ◌⊎◌, inl, inr, ℕ, List, None, Result, Ok, Err, refl, sym, ap, subst}
-use Rattle.rv_word.specs.Image.{Contents}
+use Rattle.rv_image.specs.Image.{Contents}
 use Rattle.elf_image.specs.Fault.{fault_of}
 use Rattle.elf_image.proofs.Only.{reads_none}
 use Rattle.cfi_graph.specs.Graph.{GraphParts}

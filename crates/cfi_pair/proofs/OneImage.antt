@@ -1,6 +1,6 @@
 -- A file spells one image.
 use Rattle.std.proofs.Common.{◌≡◌, ◌∙◌, ℕ, List, length, take, drop, sym, ap}
-use Rattle.rv_word.specs.Image.{Contents, IsImageSize}
+use Rattle.rv_image.specs.Image.{Contents, IsImageSize}
 use Rattle.elf_image.specs.Fault.{code_of, version_in}
 use Rattle.elf_image.specs.Header.{data_start}
 use Rattle.elf_image.specs.Spelling.{spelling}

@@ -1,6 +1,6 @@
 -- What the rules say of an image and its graph.
 use Rattle.std.specs.Prelude.{◌≡◌, ◌⊎◌, ℕ, List, Some, Result, Ok, Err}
-use Rattle.rv_word.specs.Image.{Contents}
+use Rattle.rv_image.specs.Image.{Contents}
 use Rattle.cfi_graph.specs.Graph.{GraphParts, calls_in}
 use Rattle.cfi_confined.specs.Confined.{IsConfined}
 use Rattle.cfi_rules.specs.Along.{IsSafe}

@@ -1,6 +1,6 @@
 -- The image and the graph that texts spell.
 use Rattle.std.specs.Prelude.{◌≡◌, ℕ, List, length}
-use Rattle.rv_word.specs.Image.{Contents, IsImageSize}
+use Rattle.rv_image.specs.Image.{Contents, IsImageSize}
 use Rattle.elf_image.specs.Spelling.{spelling}
 use Rattle.cfi_graph.specs.Graph.{GraphParts, IsGraph}
 use Rattle.cfi_graph.specs.Text.{graph_text}

@@ -6,7 +6,8 @@ ghost use Rattle.cfi_pair.specs.Spelled.{Spell};
 
 use cfi_graph::{Graph, read_graph};
 use elf_image::{ImageRefusal, read_image};
-use rv_word::{End, Image};
+use rv_image::Image;
+use rv_word::End;
 use std::alloc::Global;
 use text_lines::{LineFault, Reason};
 

@@ -1,7 +1,7 @@
 -- The opening of an image whose functions save the sites of their own calls: it sets up x2, the mask of stores and the shadow stack of
 -- the hart that runs it, and calls the entry, its own site in x1.
 use Rattle.std.specs.Prelude.{◌≡◌, ℕ, ◌+◌, ◌*◌, ◌^◌, ◌<◌, ◌⊎◌, Bool, true, false, List, [], ◌∷◌, ◌++◌, length}
-use Rattle.rv_word.specs.MemoryMap.{SHADOW_START, Profile, part_of}
+use Rattle.rv_image.specs.MemoryMap.{SHADOW_START, Profile, part_of}
 use Rattle.rv_word.specs.Memory.{Memory}
 use Rattle.rv_instr.specs.declared.instr.Instr.{Instr}
 use Rattle.rv_code.specs.State.{Hart, Shared, After}

@@ -1,5 +1,5 @@
 ghost use Rattle.std.specs.Prelude.{IfOk, option_copied};
-ghost use Rattle.rv_word.specs.declared.form.Form.TheVariants as Form;
+ghost use Rattle.rv_image.specs.declared.form.Form.TheVariants as Form;
 ghost use Rattle.cfi_harden.specs.Given.{alone};
 ghost use Rattle.cfi_harden.specs.Prepared.{IsOfRequest, IsPreparedOf};
 ghost use Rattle.cfi_harden.specs.Refused.{Hardens, HardensPrepared, HardensProgram};
@@ -11,7 +11,8 @@ use cfi_meaning::laws::{hardened_keeps_meaning, hardened_never_differs};
 use cfi_writer::Hardened;
 use obj_program::Items;
 use refusals::Refusal;
-use rv_word::{End, Form};
+use rv_image::Form;
+use rv_word::End;
 use std::alloc::Global;
 
 /// Hardens an object (System V gABI, "Object Files"; RISC-V ELF psABI) in a form: its image, its graph and its map, or the first

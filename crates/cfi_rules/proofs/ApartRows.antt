@@ -1,9 +1,9 @@
 -- A worked code under version 2 of graphs, and what each rule finds wrong of small changes of it.
 use Rattle.std.proofs.Common.{◌≡◌, ℕ, ◌*◌, inl, Bool, true, false, List, [], ◌∷◌, length, refl, lit<}
 use Rattle.std.specs.Prelude.{None}
-use Rattle.rv_word.specs.declared.version.GraphVersion.{GraphVersion}
-use Rattle.rv_word.specs.declared.version.GraphVersion.TheVariants.{OneLabel, TwoLabels}
-use Rattle.rv_word.specs.MemoryMap.{version_1}
+use Rattle.rv_image.specs.declared.version.GraphVersion.{GraphVersion}
+use Rattle.rv_image.specs.declared.version.GraphVersion.TheVariants.{OneLabel, TwoLabels}
+use Rattle.rv_image.specs.MemoryMap.{version_1}
 use Rattle.rv_instr.specs.declared.instr.Instr.TheVariants.{Upper, Load, Immediate}
 use Rattle.rv_instr.specs.declared.instr.ImmediateOp.TheVariants.{Addi}
 use Rattle.rv_instr.specs.declared.instr.LoadOp.TheVariants.{Ld}

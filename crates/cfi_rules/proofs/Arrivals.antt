@@ -4,10 +4,10 @@ use Rattle.std.proofs.Common.{◌≡◌, ℕ, zero, suc, ◌&&◌, not, Bool, tr
 use Rattle.std.specs.Prelude.{◌==◌, is_some, slice_get}
 use Rattle.std.proofs.lemmas.Bool.{and_parts, false≢true}
 use Rattle.std.proofs.lemmas.Option.{same_Some}
-use Rattle.rv_word.specs.Image.{Contents}
-use Rattle.rv_word.specs.MemoryMap.{Profile, SHADOW_START, part_of, version_1, version_2}
-use Rattle.rv_word.proofs.Profiles.{laid_out}
-use Rattle.rv_word.specs.Memory.{loaded, placed, write}
+use Rattle.rv_image.specs.Image.{Contents, loaded}
+use Rattle.rv_image.specs.MemoryMap.{Profile, SHADOW_START, part_of, version_1, version_2}
+use Rattle.rv_image.proofs.Profiles.{laid_out}
+use Rattle.rv_word.specs.Memory.{placed, write}
 use Rattle.rv_instr.specs.Registers.{Registers}
 use Rattle.rv_code.specs.Decode.{decoded}
 use Rattle.rv_code.specs.Encode.{code_of}

@@ -3,9 +3,9 @@ use Rattle.std.proofs.Common.{◌≡◌, ℕ, zero, suc, ◌+◌, ◌-◌, ◌*�
 use Rattle.std.specs.Prelude.{slice_get, slice_index, nat_le, nat_lt, ◌&&◌}
 use Rattle.std.proofs.lemmas.Bool.{cases_Bool, le-leb, lt-ltb, le-ltb}
 use Rattle.std.proofs.lemmas.Option.{slice_get-get_or}
-use Rattle.rv_word.specs.Image.{Contents, IsImageSize}
-use Rattle.rv_word.specs.MemoryMap.{CODE_START, DATA_START}
-use Rattle.rv_word.specs.Memory.{Memory, read, loaded, placed, zeros}
+use Rattle.rv_image.specs.Image.{Contents, IsImageSize, loaded}
+use Rattle.rv_image.specs.MemoryMap.{CODE_START, DATA_START}
+use Rattle.rv_word.specs.Memory.{Memory, read, placed, zeros}
 use Rattle.cfi_unit.specs.Laws.{AreWords}
 use Rattle.cfi_rules.specs.Laws.{AreBytes}
 use Rattle.cfi_rules.specs.Split.{code_words}

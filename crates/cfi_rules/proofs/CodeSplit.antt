@@ -3,8 +3,8 @@
 use Rattle.std.proofs.Common.{◌≡◌, ℕ, zero, suc, ◌+◌, ◌-◌, ◌*◌, ◌/◌, ◌%◌, ◌≤◌, ◌<◌, inl, inr, true, List, [], ◌∷◌, length, drop, length-drop, sym, ap, subst, ◌∙◌, None, arith}
 use Rattle.std.proofs.lemmas.Bool.{cases_Bool, cases_eq, cases_lt}
 use Rattle.std.proofs.lemmas.List.{drop-drop, drop_all}
-use Rattle.rv_word.specs.MemoryMap.{CODE_START, Profile}
-use Rattle.rv_word.proofs.Profiles.{LaidOut, laid_out}
+use Rattle.rv_image.specs.MemoryMap.{CODE_START, Profile}
+use Rattle.rv_image.proofs.Profiles.{LaidOut, laid_out}
 use Rattle.cfi_unit.specs.declared.unit.Unit as U
 use Rattle.cfi_unit.specs.Split.{IsSplit}
 use Rattle.cfi_unit.specs.UnitWords.{word_count}

@@ -5,8 +5,8 @@ use Rattle.std.specs.Prelude.{slice_get}
 use Rattle.std.proofs.lemmas.Bool.{cases_Bool, and_parts, leb-true, le-leb, eqb-true, cases_eq}
 use Rattle.std.proofs.lemmas.List.{drop-drop}
 use Rattle.std.proofs.lemmas.List.Elements.{All-drop}
-use Rattle.rv_word.specs.MemoryMap.{CODE_START, Profile}
-use Rattle.rv_word.proofs.Profiles.{LaidOut}
+use Rattle.rv_image.specs.MemoryMap.{CODE_START, Profile}
+use Rattle.rv_image.proofs.Profiles.{LaidOut}
 use Rattle.cfi_unit.specs.declared.unit.Unit as U
 use Rattle.cfi_unit.specs.Laws.{AreWords}
 use Rattle.cfi_unit.specs.Recognise.{recognised}

@@ -3,7 +3,7 @@ use Rattle.std.proofs.Common.{◌≡◌, ℕ, zero, suc, ◌+◌, ◌*◌, ◌^�
 use Rattle.std.specs.Prelude.{map, slice_get}
 use Rattle.std.specs.List.{AllByRecursion}
 use Rattle.std.proofs.lemmas.Nat.{mod_below}
-use Rattle.rv_word.specs.MemoryMap.{IsProfile, Profile, lean_version_1, lean_version_2, version_1, version_2}
+use Rattle.rv_image.specs.MemoryMap.{IsProfile, Profile, lean_version_1, lean_version_2, version_1, version_2}
 use Rattle.rv_word.specs.Numbers.{IsNumber, MOST_NUMBERS}
 use Rattle.rv_instr.specs.InRange.{IsInstr}
 use Rattle.rv_instr.specs.declared.instr.Instr.{Instr}

@@ -4,10 +4,10 @@ use Rattle.std.proofs.Common.{◌≡◌, ℕ, true, ◌+◌, ◌-◌, ◌*◌, �
 use Rattle.std.specs.Prelude.{nat_le}
 use Rattle.std.proofs.lemmas.Bool.{and_parts, cases_lt}
 use Rattle.std.proofs.lemmas.Option.{slice_get_cases}
-use Rattle.rv_word.specs.Image.{Contents}
-use Rattle.rv_word.specs.MemoryMap.{CODE_START, IsFullProfile, IsProfile, Profile}
-use Rattle.rv_word.proofs.Profiles.{full_low, laid_out}
-use Rattle.rv_word.specs.Memory.{loaded, read}
+use Rattle.rv_image.specs.Image.{Contents, loaded}
+use Rattle.rv_image.specs.MemoryMap.{CODE_START, IsFullProfile, IsProfile, Profile}
+use Rattle.rv_image.proofs.Profiles.{full_low, laid_out}
+use Rattle.rv_word.specs.Memory.{read}
 use Rattle.rv_code.specs.Decode.{decoded}
 use Rattle.cfi_graph.specs.declared.line.SiteKind.{SiteKind}
 use Rattle.cfi_graph.specs.Graph.{GraphParts}

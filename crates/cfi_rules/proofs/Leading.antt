@@ -1,7 +1,7 @@
 -- Where the registers at a place lead the walk, it may go whatever they are.
 use Rattle.std.proofs.Common.{◌≡◌, ℕ, inl, inr, Bool, true, false, List, [], ◌∷◌, refl, sym, ap, subst, ◌∙◌, Some}
 use Rattle.std.proofs.lemmas.Bool.{false≢true}
-use Rattle.rv_word.specs.MemoryMap.{Profile}
+use Rattle.rv_image.specs.MemoryMap.{Profile}
 use Rattle.rv_word.proofs.Cases.{cases_Option}
 use Rattle.rv_instr.specs.Registers.{Registers}
 use Rattle.cfi_graph.specs.declared.line.GraphLine.{GraphLine}

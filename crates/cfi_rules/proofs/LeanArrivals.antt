@@ -1,9 +1,9 @@
 -- Small lean pairs with an arrival of which what safety says is false: they are not safe.
 use Rattle.std.proofs.Common.{◌≡◌, ℕ, inl, inr, List, [], ◌∷◌, ◌++◌, length, refl, ap, subst, ◌∙◌, Some, None, arith, lit<}
-use Rattle.rv_word.specs.Image.{Contents}
-use Rattle.rv_word.specs.MemoryMap.{SHADOW_START, lean_version_1}
-use Rattle.rv_word.proofs.Profiles.{laid_out}
-use Rattle.rv_word.specs.Memory.{loaded, placed, write}
+use Rattle.rv_image.specs.Image.{Contents, loaded}
+use Rattle.rv_image.specs.MemoryMap.{SHADOW_START, lean_version_1}
+use Rattle.rv_image.proofs.Profiles.{laid_out}
+use Rattle.rv_word.specs.Memory.{placed, write}
 use Rattle.rv_instr.specs.declared.instr.Instr.{Instr}
 use Rattle.rv_instr.specs.declared.instr.Instr.TheVariants.{Immediate}
 use Rattle.rv_instr.specs.declared.instr.ImmediateOp.TheVariants.{Addi}

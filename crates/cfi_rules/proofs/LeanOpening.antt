@@ -2,7 +2,7 @@
 use Rattle.std.proofs.Common.{◌≡◌, ℕ, ◌+◌, ◌*◌, ◌<◌, inl, inr, Bool, true, false, [], Some, refl, sym, ap, subst, ◌∙◌, arith}
 use Rattle.std.specs.Prelude.{slice_get}
 use Rattle.std.proofs.lemmas.Option.{slice_get_cases}
-use Rattle.rv_word.specs.MemoryMap.{IsLeanProfile, Profile, lean_version_1, lean_version_2, part_of}
+use Rattle.rv_image.specs.MemoryMap.{IsLeanProfile, Profile, lean_version_1, lean_version_2, part_of}
 use Rattle.rv_word.specs.Memory.{Memory}
 use Rattle.rv_instr.specs.declared.instr.Instr.{Instr}
 use Rattle.rv_instr.specs.declared.instr.Instr.TheVariants.{Ecall}

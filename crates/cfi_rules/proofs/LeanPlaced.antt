@@ -1,7 +1,7 @@
 -- Worked codes of placed units whose callees save sites: they are sound, and so meet the rules.
 use Rattle.std.proofs.Common.{◌≡◌, inl, inr, true, false, List, [], ◌∷◌, refl, lit<, arith}
-use Rattle.rv_word.specs.declared.version.GraphVersion.TheVariants.{CalleeSaves}
-use Rattle.rv_word.specs.MemoryMap.{lean_version_1}
+use Rattle.rv_image.specs.declared.version.GraphVersion.TheVariants.{CalleeSaves}
+use Rattle.rv_image.specs.MemoryMap.{lean_version_1}
 use Rattle.rv_instr.specs.declared.instr.Instr.TheVariants.{Upper, Load, Immediate}
 use Rattle.rv_instr.specs.declared.instr.ImmediateOp.TheVariants.{Addi}
 use Rattle.rv_instr.specs.declared.instr.LoadOp.TheVariants.{Ld}

@@ -3,8 +3,8 @@
 use Rattle.std.proofs.Common.{◌≡◌, ℕ, ◌+◌, inl, inr, true, List, [], ◌∷◌, sym, ap, subst, ◌∙◌, Some, None}
 use Rattle.std.specs.List.{AllByRecursion}
 use Rattle.std.proofs.lemmas.Bool.{and_parts}
-use Rattle.rv_word.specs.Image.{Contents}
-use Rattle.rv_word.specs.MemoryMap.{IsProfile, Profile}
+use Rattle.rv_image.specs.Image.{Contents}
+use Rattle.rv_image.specs.MemoryMap.{IsProfile, Profile}
 use Rattle.rv_word.specs.Numbers.{is_listed}
 use Rattle.rv_word.proofs.SameNumbers.{same_list}
 use Rattle.rv_code.specs.State.{Hart}

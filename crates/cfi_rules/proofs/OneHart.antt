@@ -3,9 +3,9 @@ use Rattle.std.proofs.Common.{◌≡◌, ◌<◌, ℕ, Bool, List, [], ◌∷◌
 use Rattle.std.specs.Prelude.{◌==◌, if◌then◌else◌}
 use Rattle.std.specs.List.{AllByRecursion}
 use Rattle.std.proofs.lemmas.Bool.{eq-eqb}
-use Rattle.rv_word.specs.Image.{Contents}
-use Rattle.rv_word.specs.MemoryMap.{MayRun, Profile}
-use Rattle.rv_word.proofs.Profiles.{LaidOut}
+use Rattle.rv_image.specs.Image.{Contents}
+use Rattle.rv_image.specs.MemoryMap.{MayRun, Profile}
+use Rattle.rv_image.proofs.Profiles.{LaidOut}
 use Rattle.rv_code.specs.Run.{ByteChange, disturbed}
 use Rattle.rv_code.specs.State.{Hart, Shared, start_hart, start_shared}
 use Rattle.rv_code.specs.Step.{step}

@@ -3,10 +3,10 @@ use Rattle.std.proofs.Common.{◌≡◌, ℕ, zero, suc, ◌+◌, ◌-◌, ◌*�
 use Rattle.std.specs.Prelude.{slice_get, slice_index, ◌==◌, not, option_map}
 use Rattle.std.proofs.lemmas.Bool.{cases_eq, eq-eqb, eqb-true, le-leb, ne_eqb}
 use Rattle.std.proofs.lemmas.Option.{get_or_from_slice_get, slice_get-map, slice_get_within}
-use Rattle.rv_word.specs.Image.{Contents}
-use Rattle.rv_word.specs.MemoryMap.{CODE_START, IsProfile, Profile, lean_version_1, lean_version_2, version_1, version_2}
-use Rattle.rv_word.proofs.Profiles.{LaidOut, laid_out}
-use Rattle.rv_word.specs.Memory.{read, loaded}
+use Rattle.rv_image.specs.Image.{Contents, loaded}
+use Rattle.rv_image.specs.MemoryMap.{CODE_START, IsProfile, Profile, lean_version_1, lean_version_2, version_1, version_2}
+use Rattle.rv_image.proofs.Profiles.{LaidOut, laid_out}
+use Rattle.rv_word.specs.Memory.{read}
 use Rattle.rv_instr.specs.declared.instr.Instr.{Instr}
 use Rattle.rv_instr.specs.declared.instr.Instr.TheVariants.{Jal}
 use Rattle.rv_code.specs.Decode.{decoded}

@@ -1,7 +1,7 @@
 -- Worked pairs, computed: which rule fails, and where.
 use Rattle.std.proofs.Common.{◌≡◌, ℕ, ◌+◌, ◌*◌, Bool, List, [], ◌∷◌, ◌++◌, length, take, drop, refl, true, false}
-use Rattle.rv_word.specs.declared.version.GraphVersion.TheVariants.{OneLabel}
-use Rattle.rv_word.specs.MemoryMap.{version_1}
+use Rattle.rv_image.specs.declared.version.GraphVersion.TheVariants.{OneLabel}
+use Rattle.rv_image.specs.MemoryMap.{version_1}
 use Rattle.rv_code.specs.Decode.{decoded}
 use Rattle.rv_code.specs.Encode.{code_of}
 use Rattle.cfi_graph.specs.declared.line.GraphLine.{GraphLine}

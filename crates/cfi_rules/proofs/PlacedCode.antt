@@ -5,9 +5,9 @@ use Rattle.std.specs.Prelude.{not, ◌&&◌, slice_get, slice_index, option_and_
 use Rattle.std.proofs.lemmas.Bool.{and_parts, and_left, and_right, cases_Bool, cases_eq, eq-eqb, leb-true, ne_eqb, not_from_true}
 use Rattle.std.proofs.lemmas.List.{drop_at}
 use Rattle.std.proofs.lemmas.Option.{same_Some, slice_get-map, slice_get-get_or}
-use Rattle.rv_word.specs.declared.version.GraphVersion.{GraphVersion}
-use Rattle.rv_word.specs.MemoryMap.{CODE_START, IsProfile, Profile, lies_within}
-use Rattle.rv_word.proofs.Profiles.{laid_out}
+use Rattle.rv_image.specs.declared.version.GraphVersion.{GraphVersion}
+use Rattle.rv_image.specs.MemoryMap.{CODE_START, IsProfile, Profile, lies_within}
+use Rattle.rv_image.proofs.Profiles.{laid_out}
 use Rattle.rv_instr.specs.declared.instr.Instr.{Instr}
 use Rattle.rv_instr.specs.declared.instr.Instr.TheVariants.{Jal}
 use Rattle.rv_code.specs.Decode.{decoded}

@@ -4,7 +4,7 @@ use Rattle.std.proofs.Common.{◌≡◌, ℕ, zero, suc, ◌+◌, ◌-◌, ◌*�
 use Rattle.std.specs.Prelude.{slice_get, is_some}
 use Rattle.std.proofs.lemmas.Bool.{cases_eq, cases_lt, le-leb, lt-leb, ne_eqb}
 use Rattle.std.proofs.lemmas.List.{drop-drop, drop_at}
-use Rattle.rv_word.specs.MemoryMap.{CODE_START, Profile}
+use Rattle.rv_image.specs.MemoryMap.{CODE_START, Profile}
 use Rattle.rv_word.proofs.Cases.{cases_Option}
 use Rattle.cfi_unit.specs.declared.unit.Unit as U
 use Rattle.cfi_unit.specs.Recognise.{recognised}

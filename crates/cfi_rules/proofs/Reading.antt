@@ -2,7 +2,7 @@
 use Rattle.std.proofs.Common.{◌≡◌, ℕ, ◌-◌, ◌/◌, ◌^◌, ◌<◌, List, [], ◌∷◌, ◌++◌, drop, take, refl, sym, ap, subst, ◌∙◌, Option, Some, arith}
 use Rattle.std.specs.Prelude.{map}
 use Rattle.std.proofs.lemmas.List.Elements.{All-drop, All-head, All-tail, All-take}
-use Rattle.rv_word.specs.MemoryMap.{CODE_START, Profile}
+use Rattle.rv_image.specs.MemoryMap.{CODE_START, Profile}
 use Rattle.rv_instr.specs.declared.instr.Instr.{Instr}
 use Rattle.rv_code.specs.Decode.{decoded}
 use Rattle.rv_code.specs.Encode.{code_of}

@@ -2,11 +2,11 @@
 -- comes after it may be any statement that follows from that.
 use Rattle.std.proofs.Common.{◌≡◌, ℕ, ◌+◌, ◌*◌, ◌≤◌, ◌<◌, ◌⊎◌, inl, inr, Bool, true, false, List, [], ◌∷◌, length, refl, sym, ap, subst, ◌∙◌, Option, Some, None, arith}
 use Rattle.std.proofs.lemmas.Bool.{false≢true}
-use Rattle.rv_word.specs.Image.{Contents}
-use Rattle.rv_word.specs.MemoryMap.{PART_SIZE, IsFullProfile, IsLeanProfile, IsProfile, Profile, part_of}
-use Rattle.rv_word.specs.Memory.{Memory, loaded}
+use Rattle.rv_image.specs.Image.{Contents, loaded}
+use Rattle.rv_image.specs.MemoryMap.{PART_SIZE, IsFullProfile, IsLeanProfile, IsProfile, Profile, part_of}
+use Rattle.rv_word.specs.Memory.{Memory}
 use Rattle.rv_word.specs.Same.{SameOn}
-use Rattle.rv_word.proofs.Profiles.{full_saves, laid_out}
+use Rattle.rv_image.proofs.Profiles.{full_saves, laid_out}
 use Rattle.rv_instr.specs.Registers.{Registers}
 use Rattle.rv_instr.specs.declared.instr.Instr.{Instr}
 use Rattle.rv_code.specs.State.{Hart, Shared, After, last_exit}

@@ -3,7 +3,7 @@ use Rattle.std.proofs.Common.{◌≡◌, ◌<◌, ℕ, Bool, List, [], ◌∷◌
 use Rattle.std.specs.Prelude.{if◌then◌else◌}
 use Rattle.std.specs.List.{AllByRecursion}
 use Rattle.std.proofs.lemmas.Bool.{eq-eqb}
-use Rattle.rv_word.specs.MemoryMap.{Profile}
+use Rattle.rv_image.specs.MemoryMap.{Profile}
 use Rattle.rv_code.specs.Run.{ByteChange, HartStep, IsDataChange, RunAfter, disturbed, if_ran, next_or_stop, run}
 use Rattle.rv_code.specs.State.{Hart, Harts, Shared, with_hart}
 use Rattle.rv_code.specs.Step.{step}

@@ -4,11 +4,11 @@ use Rattle.std.proofs.Common.{◌≡◌, ℕ, zero, suc, ◌+◌, ◌<◌, ◌&&
 use Rattle.std.specs.List.{AllByRecursion}
 use Rattle.std.proofs.lemmas.Bool.{and_parts, false≢true}
 use Rattle.std.proofs.lemmas.Option.{none-some, same_Some}
-use Rattle.rv_word.specs.Image.{Contents}
-use Rattle.rv_word.specs.MemoryMap.{MayRun, Profile, version_1, version_2}
-use Rattle.rv_word.specs.Memory.{loaded, placed, write}
+use Rattle.rv_image.specs.Image.{Contents, loaded}
+use Rattle.rv_image.specs.MemoryMap.{MayRun, Profile, version_1, version_2}
+use Rattle.rv_word.specs.Memory.{placed, write}
 use Rattle.rv_word.specs.Numbers.{is_listed}
-use Rattle.rv_word.proofs.Profiles.{laid_out}
+use Rattle.rv_image.proofs.Profiles.{laid_out}
 use Rattle.rv_code.specs.Decode.{decoded}
 use Rattle.rv_code.specs.Encode.{code_of}
 use Rattle.rv_code.specs.Run.{ByteChange}

@@ -3,10 +3,10 @@
 use Rattle.std.proofs.Common.{◌≡◌, ℕ, zero, suc, ◌+◌, ◌≤◌, inl, List, [], ◌∷◌, refl, ap, subst, Some, arith, lit≤}
 use Rattle.std.specs.Prelude.{slice_get}
 use Rattle.std.specs.List.{AllByRecursion}
-use Rattle.rv_word.specs.Image.{Contents}
-use Rattle.rv_word.specs.MemoryMap.{version_1}
-use Rattle.rv_word.proofs.Profiles.{laid_out}
-use Rattle.rv_word.specs.Memory.{loaded, placed, write}
+use Rattle.rv_image.specs.Image.{Contents, loaded}
+use Rattle.rv_image.specs.MemoryMap.{version_1}
+use Rattle.rv_image.proofs.Profiles.{laid_out}
+use Rattle.rv_word.specs.Memory.{placed, write}
 use Rattle.rv_code.specs.Decode.{decoded}
 use Rattle.rv_code.specs.Encode.{code_of}
 use Rattle.rv_code.specs.State.{start_hart, start_shared, last_exit}

@@ -2,9 +2,9 @@
 -- at which something starts: the opening, the closing, a handler or a unit.
 use Rattle.std.specs.Prelude.{◌≡◌, ℕ, Bool, true, false, ◌<◌, ◌==◌, List, [], ◌∷◌, length, Option, Some, None, if◌then◌else◌}
 use Rattle.std.specs.List.{AllByRecursion}
-use Rattle.rv_word.specs.MemoryMap.{START, MayRun, Profile, part_of}
-use Rattle.rv_word.specs.Image.{Contents}
-use Rattle.rv_word.specs.Memory.{Memory, loaded}
+use Rattle.rv_image.specs.MemoryMap.{START, MayRun, Profile, part_of}
+use Rattle.rv_image.specs.Image.{Contents, loaded}
+use Rattle.rv_word.specs.Memory.{Memory}
 use Rattle.rv_instr.specs.Registers.{Registers}
 use Rattle.rv_code.specs.Run.{HartStep, IsStepOf}
 use Rattle.rv_code.specs.State.{Hart, Harts, Shared, last_exit}

@@ -1,8 +1,8 @@
 -- What holds of well-formed pairs and of runs along a graph.
 use Rattle.std.specs.Prelude.{◌≡◌, ℕ, ◌<◌, ◌^◌, List, [], ◌∷◌, length, slice_index}
 use Rattle.std.specs.List.{AllByRecursion}
-use Rattle.rv_word.specs.Image.{Contents, IsImageSize}
-use Rattle.rv_word.specs.MemoryMap.{IsProfile, MayRun, Profile}
+use Rattle.rv_image.specs.Image.{Contents, IsImageSize}
+use Rattle.rv_image.specs.MemoryMap.{IsProfile, MayRun, Profile}
 use Rattle.rv_code.specs.Run.{HartStep, RunAfter, run}
 use Rattle.rv_code.specs.State.{Harts, Shared, start_hart, start_shared, with_hart}
 use Rattle.rv_code.specs.declared.turn.Turn.TheVariants.{Ran}

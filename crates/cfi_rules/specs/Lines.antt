@@ -1,7 +1,7 @@
 -- What a graph says of an address and of a label.
 use Rattle.std.specs.Prelude.{ℕ, ◌-◌, ◌==◌, ◌&&◌, ◌||◌, nat_le, not, Bool, true, false, List, [], ◌∷◌, Option, Some, None, option_and_then, find, if◌then◌else◌}
-use Rattle.rv_word.specs.declared.version.GraphVersion.{GraphVersion}
-use Rattle.rv_word.specs.declared.version.GraphVersion.TheVariants.{OneLabel, TwoLabels, CalleeSaves}
+use Rattle.rv_image.specs.declared.version.GraphVersion.{GraphVersion}
+use Rattle.rv_image.specs.declared.version.GraphVersion.TheVariants.{OneLabel, TwoLabels, CalleeSaves}
 use Rattle.cfi_graph.specs.declared.line.GraphLine.{GraphLine}
 use Rattle.cfi_graph.specs.declared.line.GraphLine.TheVariants.{Leaf, Site, Edge, Call}
 use Rattle.cfi_graph.specs.declared.line.SiteKind.{SiteKind}

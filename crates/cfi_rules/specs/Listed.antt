@@ -1,8 +1,8 @@
 -- A run in which harts make no other system calls than those of a list, but for the closing's exit.
 use Rattle.std.specs.Prelude.{◌≡◌, ℕ, ◌+◌, ◌⊎◌, IsTrue, List, [], ◌∷◌, ◌++◌, Some}
 use Rattle.std.specs.List.{AllByRecursion}
-use Rattle.rv_word.specs.Image.{Contents}
-use Rattle.rv_word.specs.MemoryMap.{IsProfile, MayRun, Profile}
+use Rattle.rv_image.specs.Image.{Contents}
+use Rattle.rv_image.specs.MemoryMap.{IsProfile, MayRun, Profile}
 use Rattle.rv_word.specs.Numbers.{is_listed}
 use Rattle.rv_code.specs.Run.{HartStep}
 use Rattle.rv_code.specs.State.{Harts, Shared}

@@ -2,9 +2,9 @@
 -- but Length is a test of an address: whether the rule fails there.
 use Rattle.std.specs.Prelude.{◌≡◌, ◌≢◌, ℕ, ◌+◌, ◌-◌, ◌*◌, ◌/◌, ◌%◌, ◌<◌, ◌==◌, nat_lt, nat_le, ◌&&◌, ◌||◌, not, Bool, true, false, List, length, map, slice_get, slice_index, Option, Some, None, is_some, option_and_then, if◌then◌else◌}
 use Rattle.std.specs.List.{list_any}
-use Rattle.rv_word.specs.declared.version.GraphVersion.{GraphVersion}
-use Rattle.rv_word.specs.MemoryMap.{CODE_START, Profile, lies_within, profile_under}
-use Rattle.rv_word.specs.Image.{Contents}
+use Rattle.rv_image.specs.declared.version.GraphVersion.{GraphVersion}
+use Rattle.rv_image.specs.MemoryMap.{CODE_START, Profile, lies_within, profile_under}
+use Rattle.rv_image.specs.Image.{Contents}
 use Rattle.rv_word.specs.Numbers.{are_same}
 use Rattle.rv_instr.specs.declared.instr.Instr.{Instr}
 use Rattle.rv_instr.specs.declared.instr.Instr.TheVariants.{Jal}

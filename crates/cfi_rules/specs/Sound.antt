@@ -4,8 +4,8 @@
 use Rattle.std.specs.Prelude.{◌≡◌, ◌⊎◌, ℕ, ◌+◌, ◌*◌, IsTrue, Bool, true, false, not, List, length, slice_get, Option, Some, None, is_some, option_and_then}
 use Rattle.std.specs.List.{last_or, list_all}
 use Rattle.std.specs.Option.{option_or}
-use Rattle.rv_word.specs.declared.version.GraphVersion.{GraphVersion}
-use Rattle.rv_word.specs.MemoryMap.{IsProfile, Profile}
+use Rattle.rv_image.specs.declared.version.GraphVersion.{GraphVersion}
+use Rattle.rv_image.specs.MemoryMap.{IsProfile, Profile}
 use Rattle.cfi_graph.specs.declared.line.GraphLine.{GraphLine}
 use Rattle.cfi_graph.specs.Graph.{ClassLine, calls_in, class_in, has_leaves}
 use Rattle.cfi_unit.specs.declared.unit.Unit as U

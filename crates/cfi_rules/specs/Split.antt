@@ -1,7 +1,7 @@
 -- The units of an image's code: the first begins where the profile says, each next one where the
 -- one before ends. What stands at an address is a place: a unit, or a part of the prologue.
 use Rattle.std.specs.Prelude.{ℕ, zero, suc, ◌+◌, ◌-◌, ◌*◌, ◌/◌, ◌%◌, ◌^◌, ◌==◌, nat_le, ◌&&◌, ◌||◌, Bool, true, false, List, [], ◌∷◌, drop, slice_get, Option, Some, None, option_map, option_and_then, if◌then◌else◌}
-use Rattle.rv_word.specs.MemoryMap.{CODE_START, Profile}
+use Rattle.rv_image.specs.MemoryMap.{CODE_START, Profile}
 use Rattle.rv_code.specs.Decode.{decoded}
 use Rattle.cfi_unit.specs.declared.unit.Unit as U
 use Rattle.cfi_unit.specs.declared.place.Place.{Place}

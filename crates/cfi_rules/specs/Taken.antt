@@ -1,6 +1,6 @@
 -- The steps that a run takes, one after another: what is said of runs is said of this list.
 use Rattle.std.specs.Prelude.{ℕ, List, [], ◌∷◌}
-use Rattle.rv_word.specs.MemoryMap.{Profile}
+use Rattle.rv_image.specs.MemoryMap.{Profile}
 use Rattle.rv_code.specs.Run.{HartStep, disturbed, if_ran}
 use Rattle.rv_code.specs.State.{After, Hart, Harts, Shared, with_hart}
 use Rattle.rv_code.specs.Step.{step}

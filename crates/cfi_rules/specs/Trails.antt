@@ -1,7 +1,7 @@
 -- What a run along a graph is, in a second sentence: each begun instruction of a hart is a word of what
 -- stands at the newest address of its walk so far, and ends as it may there.
 use Rattle.std.specs.Prelude.{◌≡◌, ℕ, ◌==◌, Bool, true, false, List, [], ◌∷◌, Option, Some, None}
-use Rattle.rv_word.specs.MemoryMap.{Profile}
+use Rattle.rv_image.specs.MemoryMap.{Profile}
 use Rattle.rv_code.specs.declared.turn.Turn.{Turn}
 use Rattle.cfi_unit.specs.declared.place.Place.{Place}
 use Rattle.cfi_unit.specs.Place.{IsWordOf}

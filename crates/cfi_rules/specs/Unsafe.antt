@@ -1,9 +1,9 @@
 -- Small pairs with one fault each, which are not safe: so safety is not said of everything.
 use Rattle.std.specs.Prelude.{ℕ, ◌+◌, ◌/◌, ◌%◌, ◌^◌, List, [], ◌∷◌, ◌++◌, length, map, take, drop}
-use Rattle.rv_word.specs.declared.version.GraphVersion.TheVariants.{OneLabel, CalleeSaves}
-use Rattle.rv_word.specs.declared.version.ImageVersion.TheVariants.{OneHart, EightHarts}
-use Rattle.rv_word.specs.MemoryMap.{START, UNITS_START, lean_version_1, version_1, version_2}
-use Rattle.rv_word.specs.Image.{Contents}
+use Rattle.rv_image.specs.declared.version.GraphVersion.TheVariants.{OneLabel, CalleeSaves}
+use Rattle.rv_image.specs.declared.version.ImageVersion.TheVariants.{OneHart, EightHarts}
+use Rattle.rv_image.specs.MemoryMap.{START, UNITS_START, lean_version_1, version_1, version_2}
+use Rattle.rv_image.specs.Image.{Contents}
 use Rattle.rv_instr.specs.declared.instr.Instr.TheVariants.{Immediate}
 use Rattle.rv_instr.specs.declared.instr.ImmediateOp.TheVariants.{Addi}
 use Rattle.rv_code.specs.Encode.{code_of}

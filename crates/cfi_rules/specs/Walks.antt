@@ -1,8 +1,8 @@
 -- What a run along a graph is, in one sentence: the addresses of a hart's begun instructions at which
 -- something starts are a list of steps of the graph walk, from the opening with nothing pending.
 use Rattle.std.specs.Prelude.{◌≡◌, ℕ, ◌==◌, Bool, true, false, List, [], ◌∷◌, Option, Some, None}
-use Rattle.rv_word.specs.Image.{Contents}
-use Rattle.rv_word.specs.MemoryMap.{MayRun, Profile}
+use Rattle.rv_image.specs.Image.{Contents}
+use Rattle.rv_image.specs.MemoryMap.{MayRun, Profile}
 use Rattle.rv_code.specs.Run.{HartStep}
 use Rattle.rv_code.specs.State.{Harts, Shared}
 use Rattle.cfi_graph.specs.declared.line.GraphLine.{GraphLine}

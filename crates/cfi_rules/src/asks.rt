@@ -3,7 +3,7 @@ ghost use Rattle.cfi_rules.specs.Lines.{jump_word};
 
 use cfi_graph::SiteKind;
 use cfi_unit::TargetWord;
-use rv_word::GraphVersion;
+use rv_image::GraphVersion;
 
 /// What a computed transfer asks for: a class with a label that serves transfers of its kind whose
 /// checks read this word of their destinations.

@@ -1,7 +1,7 @@
 -- Nothing happens from outside: the count of steps with that written out, and without.
 use Rattle.std.proofs.Common.{◌≡◌, ℕ, zero, suc, ◌+◌, ◌≤◌, inl, inr, List, [], replicate, refl, sym, subst, arith}
 use Rattle.std.proofs.lemmas.List.{take-replicate}
-use Rattle.rv_word.specs.MemoryMap.{Profile}
+use Rattle.rv_image.specs.MemoryMap.{Profile}
 use Rattle.rv_code.specs.Continue.{continue}
 use Rattle.rv_code.specs.Run.{ByteChange}
 use Rattle.rv_code.specs.State.{Hart, Shared, After}

@@ -1,8 +1,8 @@
 -- The opening comes to the program's own start, the closing to its own end.
 use Rattle.std.proofs.Common.{◌≡◌, ℕ, ◌+◌, ◌-◌, ◌≤◌, Bool, true, false, length, inl, inr, refl, sym, ap, subst, ◌∙◌, arith}
-use Rattle.rv_word.specs.MemoryMap.{IsFullProfile, IsProfile, Profile, SHADOW_START, part_of}
+use Rattle.rv_image.specs.MemoryMap.{IsFullProfile, IsProfile, Profile, SHADOW_START, part_of}
 use Rattle.rv_word.specs.Memory.{Memory}
-use Rattle.rv_word.proofs.Profiles.{full_saves, lean_saves}
+use Rattle.rv_image.proofs.Profiles.{full_saves, lean_saves}
 use Rattle.rv_instr.specs.Registers.{Registers, set_reg}
 use Rattle.rv_instr.specs.declared.instr.Instr.TheVariants.{Ecall}
 use Rattle.rv_code.specs.State.{Hart, Shared, After}

@@ -2,7 +2,7 @@
 use Rattle.std.proofs.Common.{◌≡◌, ℕ, zero, suc, ◌+◌, ◌^◌, ◌<◌, ◌≤◌, inl, inr, true, refl, sym, ap, subst, ◌∙◌, arith}
 use Rattle.std.proofs.lemmas.Bool.Decides.{nat_tests}
 use Rattle.rv_word.specs.Bits.{wrap}
-use Rattle.rv_word.specs.MemoryMap.{Profile, can_store}
+use Rattle.rv_image.specs.MemoryMap.{Profile, can_store}
 use Rattle.rv_word.specs.Memory.{write}
 use Rattle.rv_instr.specs.Registers.{Registers, get_reg}
 use Rattle.rv_instr.specs.declared.instr.Instr.TheVariants.{Store}

@@ -2,9 +2,9 @@
 use Rattle.std.proofs.Common.{◌≡◌, ℕ, ◌+◌, ◌-◌, ◌*◌, ◌^◌, ◌<◌, inl, inr, [], length, Some, true, refl, sym, subst, ◌∙◌, arith}
 use Rattle.std.specs.Prelude.{slice_get}
 use Rattle.rv_word.specs.Bits.{wrap}
-use Rattle.rv_word.specs.MemoryMap.{Profile, SHADOW_START, lean_version_1, lean_version_2, part_of}
+use Rattle.rv_image.specs.MemoryMap.{Profile, SHADOW_START, lean_version_1, lean_version_2, part_of}
 use Rattle.rv_word.specs.Memory.{Memory}
-use Rattle.rv_word.proofs.Profiles.{laid_out}
+use Rattle.rv_image.proofs.Profiles.{laid_out}
 use Rattle.rv_instr.specs.Registers.{Registers, set_reg}
 use Rattle.rv_instr.specs.declared.instr.Instr.{Instr}
 use Rattle.rv_code.specs.Arithmetic.{difference}

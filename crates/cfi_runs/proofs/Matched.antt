@@ -2,7 +2,7 @@
 use Rattle.std.proofs.Common.{◌≡◌, ◌≢◌, ℕ, zero, suc, ◌+◌, ◌-◌, ◌*◌, ◌/◌, ◌^◌, ◌==◌, ◌≤◌, ◌<◌, ◌||◌, Bool, true, false, List, [], ◌∷◌, length, inl, inr, if◌then◌else◌, refl, sym, ap, subst, ◌∙◌, arith}
 use Rattle.std.specs.List.{AllByRecursion, list_any}
 use Rattle.std.proofs.lemmas.Bool.{cases_Bool, eqb-true, false≢true}
-use Rattle.rv_word.specs.MemoryMap.{Profile, SHADOW_START}
+use Rattle.rv_image.specs.MemoryMap.{Profile, SHADOW_START}
 use Rattle.rv_word.specs.Memory.{Memory, write}
 use Rattle.rv_word.specs.Numbers.{is_listed}
 use Rattle.rv_instr.specs.Registers.{Registers, get_reg, set_reg}

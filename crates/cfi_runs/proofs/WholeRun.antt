@@ -1,10 +1,10 @@
 -- The opening, then a path, then a step or the closing: all of it is one run.
 use Rattle.std.proofs.Common.{inl, ◌≡◌, ℕ, suc, ◌+◌, ◌-◌, ◌==◌, inr, Bool, true, false, List, [], ◌∷◌, length, None, refl, sym, subst, arith}
 use Rattle.std.proofs.lemmas.Bool.{cases_Bool}
-use Rattle.rv_word.specs.Image.{Contents}
-use Rattle.rv_word.specs.MemoryMap.{CODE_START, Profile, SHADOW_START}
-use Rattle.rv_word.specs.Memory.{Memory, loaded}
-use Rattle.rv_word.proofs.Profiles.{laid_out}
+use Rattle.rv_image.specs.Image.{Contents, loaded}
+use Rattle.rv_image.specs.MemoryMap.{CODE_START, Profile, SHADOW_START}
+use Rattle.rv_word.specs.Memory.{Memory}
+use Rattle.rv_image.proofs.Profiles.{laid_out}
 use Rattle.rv_instr.specs.Registers.{cleared}
 use Rattle.rv_code.specs.State.{Hart, Shared, After, start_hart, start_shared, last_exit}
 use Rattle.rv_code.specs.Step.{stops}

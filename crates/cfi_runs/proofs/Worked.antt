@@ -4,10 +4,10 @@ use Rattle.std.proofs.Common.{◌≡◌, ℕ, zero, suc, ◌+◌, ◌*◌, ◌-�
 use Rattle.std.specs.Prelude.{nat_le, nat_lt, slice_get, slice_index}
 use Rattle.std.specs.List.{list_all}
 use Rattle.std.proofs.lemmas.Bool.{cases_Bool, cond_both, and_parts, eqb-true, ltb-true}
-use Rattle.rv_word.specs.declared.version.ImageVersion.TheVariants.{OneHart}
-use Rattle.rv_word.specs.Image.{Contents}
-use Rattle.rv_word.specs.MemoryMap.{CODE_START, DATA_START, version_1}
-use Rattle.rv_word.specs.Memory.{loaded, placed, read}
+use Rattle.rv_image.specs.declared.version.ImageVersion.TheVariants.{OneHart}
+use Rattle.rv_image.specs.Image.{Contents, loaded}
+use Rattle.rv_image.specs.MemoryMap.{CODE_START, DATA_START, version_1}
+use Rattle.rv_word.specs.Memory.{placed, read}
 use Rattle.rv_instr.specs.Registers.{cleared}
 use Rattle.rv_instr.specs.Reserved.{is_reserved}
 use Rattle.rv_instr.specs.declared.instr.Instr.{Instr}

@@ -2,10 +2,10 @@
 -- step is tame, so the law says that the run exits within 24 steps (it takes 22).
 use Rattle.std.proofs.Common.{◌≡◌, ℕ, ◌^◌, ◌<◌, ◌==◌, ◌||◌, inl, inr, true, false, List, [], ◌∷◌, Some, map, lit<, lit≤, refl, sym, ap, subst, ◌∙◌}
 use Rattle.std.proofs.lemmas.Bool.{eqb-true, or_cases}
-use Rattle.rv_word.specs.declared.version.ImageVersion.TheVariants.{OneHart}
-use Rattle.rv_word.specs.Image.{Contents}
-use Rattle.rv_word.specs.MemoryMap.{CODE_START, DATA_START, lean_version_1}
-use Rattle.rv_word.specs.Memory.{Memory, loaded, placed, zeros}
+use Rattle.rv_image.specs.declared.version.ImageVersion.TheVariants.{OneHart}
+use Rattle.rv_image.specs.Image.{Contents, loaded}
+use Rattle.rv_image.specs.MemoryMap.{CODE_START, DATA_START, lean_version_1}
+use Rattle.rv_word.specs.Memory.{Memory, placed, zeros}
 use Rattle.rv_instr.specs.Registers.{cleared}
 use Rattle.rv_instr.specs.Reserved.{is_reserved}
 use Rattle.rv_instr.specs.declared.instr.Instr.{Instr}

@@ -2,7 +2,7 @@
 -- the next unit's run goes on: after one step, and then within at most as many steps as each has words
 -- more.
 use Rattle.std.specs.Prelude.{ℕ, ◌-◌, List, length}
-use Rattle.rv_word.specs.MemoryMap.{Profile}
+use Rattle.rv_image.specs.MemoryMap.{Profile}
 use Rattle.rv_word.specs.Memory.{Memory}
 use Rattle.rv_code.specs.State.{Hart, Shared}
 use Rattle.rv_code.specs.Step.{step}

@@ -1,7 +1,7 @@
 -- The machine keeps the program's own run: from a matching state each tame step is matched within as
 -- many steps of the machine as its unit has words, so a path of them within as many as all have.
 use Rattle.std.specs.Prelude.{◌≡◌, ℕ, ◌-◌, ◌^◌, ◌<◌, Bool, List, length}
-use Rattle.rv_word.specs.MemoryMap.{Profile, part_of}
+use Rattle.rv_image.specs.MemoryMap.{Profile, part_of}
 use Rattle.rv_word.specs.Memory.{Memory}
 use Rattle.rv_instr.specs.Registers.{Registers}
 use Rattle.rv_code.specs.State.{Hart, Shared, After}

@@ -2,7 +2,7 @@
 -- the output and the system calls are the same, and its pending sites are those of the shadow stack. Where functions save the sites of
 -- their own calls x4 holds the mask of stores.
 use Rattle.std.specs.Prelude.{◌≡◌, ℕ, ◌<◌, Bool, length}
-use Rattle.rv_word.specs.MemoryMap.{DATA_END}
+use Rattle.rv_image.specs.MemoryMap.{DATA_END}
 use Rattle.rv_word.specs.Memory.{Memory}
 use Rattle.rv_code.specs.State.{Hart, Shared, After}
 use Rattle.rv_code.specs.declared.turn.Turn.TheVariants.{Ran}

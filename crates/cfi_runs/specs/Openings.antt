@@ -1,7 +1,7 @@
 -- The opening of an image, whoever saves the sites of calls. A lean one, of an image whose functions save the sites of their own calls,
 -- calls the entry with one word: so the shadow stack is still empty at the entry, and the closing's address is in x1 alone.
 use Rattle.std.specs.Prelude.{◌≡◌, ℕ, ◌-◌, ◌<◌, Bool, true, false, List, [], ◌∷◌, length}
-use Rattle.rv_word.specs.MemoryMap.{IsLeanProfile, IsProfile, Profile, part_of}
+use Rattle.rv_image.specs.MemoryMap.{IsLeanProfile, IsProfile, Profile, part_of}
 use Rattle.rv_word.specs.Memory.{Memory}
 use Rattle.rv_instr.specs.Registers.{set_reg}
 use Rattle.rv_code.specs.State.{Hart, Shared, After}

@@ -2,7 +2,7 @@
 -- which no word of a unit has a part. The pending sites are a list of their own, the newest first; where callees save sites, one is
 -- pending there from its enter on.
 use Rattle.std.specs.Prelude.{ℕ, ◌+◌, ◌*◌, ◌/◌, true, false, if◌then◌else◌, List, [], ◌∷◌}
-use Rattle.rv_word.specs.MemoryMap.{Profile}
+use Rattle.rv_image.specs.MemoryMap.{Profile}
 use Rattle.rv_instr.specs.Registers.{Registers, get_reg, set_reg}
 use Rattle.rv_instr.specs.declared.instr.Instr.{Instr}
 use Rattle.rv_instr.specs.declared.instr.Instr.TheVariants.{Ecall}

@@ -2,9 +2,9 @@
 -- program, the machine comes to a matching state, in no more steps than the opening and the units of
 -- the path have words; and where the program's next step ends its run, the machine's ends alike.
 use Rattle.std.specs.Prelude.{ℕ, ◌+◌, ◌-◌, ◌/◌, ◌^◌, ◌<◌, ◌≤◌, ◌≡◌, List, [], replicate}
-use Rattle.rv_word.specs.Image.{Contents}
-use Rattle.rv_word.specs.MemoryMap.{DATA_START, IsProfile, Profile, SHADOW_START}
-use Rattle.rv_word.specs.Memory.{loaded, placed, zeros}
+use Rattle.rv_image.specs.Image.{Contents, loaded}
+use Rattle.rv_image.specs.MemoryMap.{DATA_START, IsProfile, Profile, SHADOW_START}
+use Rattle.rv_word.specs.Memory.{placed, zeros}
 use Rattle.rv_instr.specs.Registers.{cleared}
 use Rattle.rv_code.specs.Run.{ByteChange, run_alone}
 use Rattle.rv_code.specs.State.{Shared, After, start_hart, start_shared}

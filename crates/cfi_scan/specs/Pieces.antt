@@ -1,7 +1,7 @@
 -- A code that comes in pieces: what is kept of all the bytes that came.
 use Rattle.std.specs.Prelude.{◌≡◌, ℕ, ◌+◌, ◌*◌, ◌-◌, ◌/◌, ◌<◌, ◌≤◌, min, List, [], ◌∷◌, length, take, drop}
-use Rattle.rv_word.specs.declared.version.Versions.{Versions}
-use Rattle.rv_word.specs.MemoryMap.{CODE_SIZE, CODE_START, Profile}
+use Rattle.rv_image.specs.declared.version.Versions.{Versions}
+use Rattle.rv_image.specs.MemoryMap.{CODE_SIZE, CODE_START, Profile}
 use Rattle.cfi_reader.specs.declared.entry.Entry.{Entry}
 use Rattle.cfi_reader.specs.declared.reader.Reader.{Reader}
 use Rattle.cfi_scan.specs.Carry.{word_of}

@@ -1,5 +1,5 @@
 ghost use Rattle.std.specs.Prelude.{◌≡◌, ◌+◌, ◌-◌, ◌*◌, ◌/◌, ◌%◌, ◌<◌, ◌≤◌, ◌^◌, ℕ, List, IfOk, [], ◌∷◌, ◌++◌, length};
-ghost use Rattle.rv_word.specs.MemoryMap.{CODE_SIZE, profile_with};
+ghost use Rattle.rv_image.specs.MemoryMap.{CODE_SIZE, profile_with};
 ghost use Rattle.cfi_reader.specs.Entries.{numbers_or_none};
 ghost use Rattle.cfi_scan.specs.Pieces.{HasSeen, IsOf, prologue_count};
 
@@ -8,7 +8,8 @@ use crate::kept::Kept;
 use crate::listing::Listing;
 use crate::splitter::Splitter;
 use crate::steps::Steps;
-use rv_word::{NoMemory, Numbers, Versions};
+use rv_image::Versions;
+use rv_word::{NoMemory, Numbers};
 use std::alloc::Global;
 use std::marker::Model;
 use std::sync::ledger::Ledger;
@@ -23,7 +24,7 @@ pub struct Feeder {
 
 impl Model for Feeder {
     ghost use Rattle.std.specs.Prelude.{◌/◌, min, take};
-    ghost use Rattle.rv_word.specs.MemoryMap.{profile_with};
+    ghost use Rattle.rv_image.specs.MemoryMap.{profile_with};
     ghost use Rattle.cfi_scan.specs.Pieces.{HasPlace, Sight, prologue_count};
 
     ghost Value = { Sight };

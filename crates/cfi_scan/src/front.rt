@@ -1,9 +1,9 @@
 ghost use Rattle.std.specs.Prelude.{◌≡◌, ◌+◌, ◌*◌, ◌≤◌};
-ghost use Rattle.rv_word.specs.MemoryMap.{CODE_START, profile_with};
+ghost use Rattle.rv_image.specs.MemoryMap.{CODE_START, profile_with};
 ghost use Rattle.cfi_scan.specs.Pieces.{prologue_count};
 
-use rv_word::Versions;
-use rv_word::memory_map::CODE_START;
+use rv_image::Versions;
+use rv_image::memory_map::CODE_START;
 use std::marker::Model;
 
 /// The versions of a pair, and what they say of the words before the units, which is asked at each word.
@@ -15,8 +15,8 @@ pub(crate) struct Front {
 }
 
 impl Model for Front {
-    ghost use Rattle.rv_word.specs.declared.version.Versions.{Versions};
-    ghost use Rattle.rv_word.specs.MemoryMap.{profile_with};
+    ghost use Rattle.rv_image.specs.declared.version.Versions.{Versions};
+    ghost use Rattle.rv_image.specs.MemoryMap.{profile_with};
     ghost use Rattle.cfi_scan.specs.Pieces.{IsFront};
 
     ghost Value = { Versions };

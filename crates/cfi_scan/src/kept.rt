@@ -1,12 +1,13 @@
 ghost use Rattle.std.specs.Prelude.{◌≡◌, ◌+◌, ◌-◌, ◌/◌, ◌<◌, ◌≤◌, ◌^◌, ℕ, List, IfOk, [], ◌∷◌, ◌++◌, get_or, length};
-ghost use Rattle.rv_word.specs.MemoryMap.{profile_with};
+ghost use Rattle.rv_image.specs.MemoryMap.{profile_with};
 ghost use Rattle.cfi_scan.specs.Carry.{word_of};
 ghost use Rattle.cfi_scan.specs.Pieces.{HasPlace, IsCut, Keeps, prologue_count};
 
 use crate::front::Front;
 use crate::splitter::Splitter;
 use crate::steps::Steps;
-use rv_word::{NoMemory, Numbers, Versions};
+use rv_image::Versions;
+use rv_word::{NoMemory, Numbers};
 use std::alloc::Global;
 use std::sync::ledger::Ledger;
 

@@ -1,5 +1,5 @@
 ghost use Rattle.std.specs.Prelude.{◌≡◌, ◌+◌, ◌*◌, ◌<◌, ◌≤◌, ℕ, Some, false, length, slice_get, true};
-ghost use Rattle.rv_word.specs.MemoryMap.{CODE_START, profile_with};
+ghost use Rattle.rv_image.specs.MemoryMap.{CODE_START, profile_with};
 ghost use Rattle.cfi_reader.specs.Entries.{is_quiet, is_started};
 ghost use Rattle.cfi_reader.specs.declared.entry.Entry.{Entry};
 ghost use Rattle.cfi_scan.specs.Calm.{is_calm};
@@ -8,7 +8,7 @@ ghost use Rattle.cfi_scan.specs.Pieces.{prologue_count};
 use crate::front::Front;
 use crate::packed::Packed;
 use cfi_reader::Entry;
-use rv_word::Versions;
+use rv_image::Versions;
 use std::marker::Model;
 
 /// What is left of a code that has ended: the words of its prologue, and one entry for each word after
@@ -25,7 +25,7 @@ pub struct Listing {
 
 impl Model for Listing {
     ghost use Rattle.std.specs.Prelude.{◌/◌, min, take};
-    ghost use Rattle.rv_word.specs.MemoryMap.{profile_with};
+    ghost use Rattle.rv_image.specs.MemoryMap.{profile_with};
     ghost use Rattle.cfi_scan.specs.Pieces.{HasPlace, Listed, prologue_count};
 
     ghost Value = { Listed };

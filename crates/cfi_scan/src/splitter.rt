@@ -1,5 +1,5 @@
 ghost use Rattle.std.specs.Prelude.{◌≡◌, ◌<◌, ◌≤◌, true, false, ℕ, List, IfOk, [], ◌∷◌, ◌++◌, length, slice_set};
-ghost use Rattle.rv_word.specs.MemoryMap.{profile_with};
+ghost use Rattle.rv_image.specs.MemoryMap.{profile_with};
 ghost use Rattle.cfi_reader.specs.Entries.{inside};
 ghost use Rattle.cfi_scan.specs.Pieces.{HasPlace};
 ghost use Rattle.cfi_reader.specs.Reading.{START, is_new};
@@ -8,7 +8,8 @@ ghost use Rattle.cfi_scan.specs.Stream.{IsSplitUp, Splits};
 use crate::front::Front;
 use crate::packed::Packed;
 use cfi_reader::{Entry, First, Reader, Step, first_word, is_plain_word, next};
-use rv_word::{NoMemory, Numbers, Versions};
+use rv_image::Versions;
+use rv_word::{NoMemory, Numbers};
 use std::alloc::Global;
 
 /// The units of the words so far, under a list of system calls, which has no number where there is none: one entry for each word that there is room for, how many words belong

@@ -10,7 +10,7 @@ use Rattle.hex.specs.declared.error.FromHexError.{FromHexError}
 use Rattle.text_lines.specs.Decimal.{MAX_STEP, capped, decimal}
 use Rattle.text_lines.specs.Hex.{digit_value, hex}
 use Rattle.text_lines.proofs.Cuts.{some_part}
-use Rattle.rv_word.specs.MemoryMap.{DATA_END}
+use Rattle.rv_image.specs.MemoryMap.{DATA_END}
 use Rattle.cfi_script.specs.declared.script_line.ScriptLine.{ScriptLine}
 use Rattle.cfi_script.specs.Script.{Changes}
 use Rattle.cfi_script.specs.ScriptNumbers.{is_capital}

@@ -1,7 +1,7 @@
 -- What a meddler does to a run. Its plan answers, by the number of steps taken, the count of harts and the
 -- state then, which hart takes the next step and the changes that come before it: each an address and a byte.
 use Rattle.std.specs.Prelude.{◌≡◌, ◌≤◌, ◌<◌, ℕ, zero, suc, ◌+◌, List, [], ◌∷◌, ◌++◌, map}
-use Rattle.rv_word.specs.MemoryMap.{Profile}
+use Rattle.rv_image.specs.MemoryMap.{Profile}
 use Rattle.rv_code.specs.Run.{ByteChange, HartStep, disturbed_step, if_ran}
 use Rattle.rv_code.specs.State.{Harts, Shared, with_hart}
 

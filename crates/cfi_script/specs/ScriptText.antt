@@ -5,8 +5,8 @@
 -- that is not below the count, or no number of steps from 1 to 1,000,000,000.
 use Rattle.std.specs.Prelude.{ℕ, ◌+◌, ◌*◌, ◌==◌, nat_le, nat_lt, Bool, ◌&&◌, if◌then◌else◌, List, [], ◌∷◌, length, codes, Option, Some, None, option_map, option_and_then, Result, Ok, Err}
 use Rattle.std.specs.Str.{bytes_eq}
-use Rattle.rv_word.specs.MemoryMap.{DATA_END}
-use Rattle.rv_word.specs.declared.profile.TheConstants.{MOST_HARTS}
+use Rattle.rv_image.specs.MemoryMap.{DATA_END}
+use Rattle.rv_image.specs.declared.profile.TheConstants.{MOST_HARTS}
 use Rattle.rv_word.specs.declared.end.End.{End}
 use Rattle.text_lines.specs.Decimal.{MAX_STEP, capped, decimal}
 use Rattle.text_lines.specs.Hex.{digit_value, hex}

@@ -1,5 +1,5 @@
 ghost use Rattle.std.specs.Prelude.{◌≡◌, ◌+◌, ◌<◌, ◌^◌, ◌++◌, nat_le, ◌&&◌, true, length, IfOk, OnOk, OnErr, Ok};
-ghost use Rattle.rv_word.specs.declared.profile.TheConstants.{MOST_HARTS};
+ghost use Rattle.rv_image.specs.declared.profile.TheConstants.{MOST_HARTS};
 ghost use Rattle.text_lines.specs.Answers.{Answers};
 ghost use Rattle.text_lines.specs.Lines.{lines_of};
 ghost use Rattle.text_lines.specs.Reading.{if_right};
@@ -10,8 +10,8 @@ use crate::script::Script;
 use crate::script_line::{ScriptLine, harts_of, line_of};
 use crate::script_turns::read_turns;
 use rv_machine::Change;
-use rv_word::memory_map::DATA_END;
-use rv_word::profile::MOST_HARTS;
+use rv_image::memory_map::DATA_END;
+use rv_image::profile::MOST_HARTS;
 use rv_word::{End, NoMemory};
 use std::alloc::Global;
 use text_lines::{LineFault, LineForm, MAX_STEP, Reason, after_one_of, cut, read_lines};

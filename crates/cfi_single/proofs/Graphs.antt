@@ -1,7 +1,7 @@
 -- One raw graph and one closed graph are right.
 use Rattle.std.proofs.Common.{◌≡◌, suc, List, [], ◌∷◌, refl, sym, ap, map, subst, ◌∙◌, arith}
 use Rattle.std.specs.List.{All}
-use Rattle.rv_word.specs.declared.version.GraphVersion.{GraphVersion}
+use Rattle.rv_image.specs.declared.version.GraphVersion.{GraphVersion}
 use Rattle.cfi_policy.specs.Policy.{PolicyParts}
 use Rattle.cfi_graph.specs.declared.line.Sort.{Sort}
 use Rattle.obj_program.specs.Program.{Program}

@@ -3,7 +3,7 @@ use Rattle.std.proofs.Common.{◌≡◌, ℕ, true, false, inl, inr, List, Optio
 use Rattle.std.specs.Prelude.{IsSome}
 use Rattle.std.proofs.lemmas.Option.{same_Some}
 use Rattle.least.specs.declared.place.Place.{Place}
-use Rattle.rv_word.specs.Form.{graph_version}
+use Rattle.rv_image.specs.Form.{graph_version}
 use Rattle.rv_word.specs.declared.end.End.{End}
 use Rattle.rv_word.specs.declared.end.End.TheVariants.{Fault}
 use Rattle.text_lines.specs.declared.fault.LineFault.{LineFault}

@@ -1,12 +1,12 @@
 -- The profile of a pair of versions.
 use Rattle.std.proofs.Common.{◌≡◌, refl}
-use Rattle.rv_word.specs.declared.version.GraphVersion.{GraphVersion}
-use Rattle.rv_word.specs.declared.version.GraphVersion.TheVariants.{OneLabel, TwoLabels, CalleeSaves}
-use Rattle.rv_word.specs.declared.version.ImageVersion.{ImageVersion}
-use Rattle.rv_word.specs.declared.version.ImageVersion.TheVariants.{OneHart, EightHarts}
-use Rattle.rv_word.specs.declared.version.Versions.{Versions}
-use Rattle.rv_word.specs.MemoryMap.{profile_under, profile_with}
-use Rattle.rv_word.proofs.Profiles.{LaidOut, is_pair_profile, laid_out}
+use Rattle.rv_image.specs.declared.version.GraphVersion.{GraphVersion}
+use Rattle.rv_image.specs.declared.version.GraphVersion.TheVariants.{OneLabel, TwoLabels, CalleeSaves}
+use Rattle.rv_image.specs.declared.version.ImageVersion.{ImageVersion}
+use Rattle.rv_image.specs.declared.version.ImageVersion.TheVariants.{OneHart, EightHarts}
+use Rattle.rv_image.specs.declared.version.Versions.{Versions}
+use Rattle.rv_image.specs.MemoryMap.{profile_under, profile_with}
+use Rattle.rv_image.proofs.Profiles.{LaidOut, is_pair_profile, laid_out}
 use Rattle.cfi_graph.specs.Graph.{has_leaves}
 
 pub laid_under : (graph : GraphVersion) (image : ImageVersion) → LaidOut (profile_under graph image)

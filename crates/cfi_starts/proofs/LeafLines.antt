@@ -6,7 +6,7 @@ use Rattle.std.proofs.lemmas.Bool.{and_from, and_parts, cases_Bool, cases_order,
 use Rattle.std.proofs.lemmas.Option.{same_Some, slice_get_within}
 use Rattle.cfi_graph.specs.declared.line.GraphLine.{GraphLine}
 use Rattle.cfi_graph.specs.declared.line.GraphLine.TheVariants.{Calls, Leaf, Class, Site, Edge, Call}
-use Rattle.rv_word.specs.MemoryMap.{Profile}
+use Rattle.rv_image.specs.MemoryMap.{Profile}
 use Rattle.rv_word.proofs.Cases.{cases_Option}
 use Rattle.cfi_graph.specs.Graph.{GraphParts, IsGraph, is_rising, key_below, key_of, targets_rise}
 use Rattle.cfi_scan.specs.Pieces.{Listed}

@@ -1,7 +1,7 @@
 -- What the listing of a code says of an address: what stands there, where it leads, and of which kind its start is.
 use Rattle.std.specs.Prelude.{◌≡◌, ◌<◌, ℕ, ◌+◌, ◌-◌, ◌*◌, ◌/◌, ◌%◌, ◌==◌, nat_le, min, ◌&&◌, ◌||◌, not, Bool, true, false, List, slice_get, Option, Some, None, is_some, if◌then◌else◌}
 use Rattle.std.specs.List.{list_any}
-use Rattle.rv_word.specs.MemoryMap.{CODE_START, Profile, START}
+use Rattle.rv_image.specs.MemoryMap.{CODE_START, Profile, START}
 use Rattle.cfi_graph.specs.declared.line.GraphLine.{GraphLine}
 use Rattle.cfi_graph.specs.declared.line.GraphLine.TheVariants.{Leaf}
 use Rattle.cfi_graph.specs.declared.line.SiteKind.TheVariants as K

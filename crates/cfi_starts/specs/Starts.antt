@@ -1,6 +1,6 @@
 -- What is left of a code that has ended, with the graph.
 use Rattle.std.specs.Prelude.{◌≡◌}
-use Rattle.rv_word.specs.MemoryMap.{Profile, profile_with}
+use Rattle.rv_image.specs.MemoryMap.{Profile, profile_with}
 use Rattle.cfi_graph.specs.Graph.{GraphParts, IsGraph}
 use Rattle.cfi_scan.specs.Pieces.{Listed}
 

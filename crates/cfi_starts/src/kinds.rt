@@ -28,7 +28,7 @@ use crate::entries::{goes_on, may_stand};
 use crate::leaves::LeafRange;
 use crate::spot::Spot;
 use crate::starts::Starts;
-use rv_word::memory_map::CODE_START;
+use rv_image::memory_map::CODE_START;
 
 impl<'a> Starts<'a> {
     /// Whether a unit may not stand in the leaf in which it does, or outside of all leaves.

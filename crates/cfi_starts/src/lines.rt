@@ -9,7 +9,7 @@ ghost use Rattle.cfi_rules.specs.Lines.{call_word, class_with, is_among, is_besi
 use cfi_graph::{Class, Graph, GraphLine, Key, SiteKind, Sort};
 use cfi_rules::{Asks, jump_word};
 use cfi_unit::TargetWord;
-use rv_word::GraphVersion;
+use rv_image::GraphVersion;
 
 /// The line with a key that is no range, if there is one: it is sought where it likely stands and right behind. Keys rise, so
 /// else its place is halved in.

@@ -8,7 +8,7 @@ use crate::entries::{call_in, edge_in, gate_in, is_enter, site_in};
 use crate::starts::Starts;
 use cfi_rules::Asks;
 use cfi_scan::Entry;
-use rv_word::profile::START;
+use rv_image::profile::START;
 
 impl<'a> Starts<'a> {
     /// Where the branch or the jump at an address leads.

@@ -2,7 +2,7 @@
 
 ghost use Rattle.std.specs.Prelude.{◌≡◌, ◌+◌, ◌*◌, ◌/◌, ◌%◌, ◌<◌, ◌≤◌, ◌^◌, ℕ, IfNone, IfSome, IsTrue, false, nat_lt, slice_get};
 ghost use Rattle.std.specs.Option.{option_copied};
-ghost use Rattle.rv_word.specs.MemoryMap.{CODE_SIZE, CODE_START};
+ghost use Rattle.rv_image.specs.MemoryMap.{CODE_SIZE, CODE_START};
 ghost use Rattle.cfi_graph.specs.Graph.{IsGraph, has_leaves, is_rising};
 ghost use Rattle.cfi_pending.specs.Kinds.{leaf_of};
 ghost use Rattle.cfi_scan.specs.Pieces.{prologue_count};
@@ -21,8 +21,9 @@ use cfi_rules::Asks;
 use cfi_scan::{Entry, Listing};
 use rv_code::decode;
 use rv_instr::Instr;
-use rv_word::memory_map::CODE_START;
-use rv_word::{GraphVersion, Versions, sext};
+use rv_image::memory_map::CODE_START;
+use rv_image::{GraphVersion, Versions};
+use rv_word::sext;
 use std::marker::Model;
 
 /// Where the units of a code start, of which kind each is, and the graph.

@@ -4,7 +4,7 @@ use Rattle.std.proofs.lemmas.List.{length-append, map-append}
 use Rattle.std.specs.List.{All}
 use Rattle.std.proofs.lemmas.List.Elements.{All-cons, filter-append}
 use borrow.Author.Tests.{ne_eqb}
-use Rattle.rv_word.specs.MemoryMap.{Profile}
+use Rattle.rv_image.specs.MemoryMap.{Profile}
 use Rattle.rv_code.specs.Run.{RunAfter, if_ran, stepped}
 use Rattle.rv_code.specs.State.{Harts, Shared}
 use Rattle.rv_code.specs.declared.turn.Turn.{Turn}

@@ -4,8 +4,8 @@ use Rattle.std.specs.Prelude.{slice_get}
 use Rattle.std.specs.List.{All}
 use Rattle.std.proofs.lemmas.List.{length-map, length-set}
 use Rattle.std.proofs.lemmas.Option.{slice_get-map}
-use Rattle.rv_word.specs.Image.{Contents}
-use Rattle.rv_word.specs.MemoryMap.{MayRun, Profile, profile_of}
+use Rattle.rv_image.specs.Image.{Contents}
+use Rattle.rv_image.specs.MemoryMap.{MayRun, Profile, profile_of}
 use Rattle.rv_word.proofs.Cases.{mapped}
 use Rattle.rv_code.specs.State.{Harts, Shared, start_hart, start_shared}
 use Rattle.rv_machine.specs.Harts.{harts_in, harts_share}

@@ -1,7 +1,7 @@
 -- What a turn of a run comes to, from what its parts come to.
 use Rattle.std.proofs.Common.{◌≡◌, ℕ, List, [], Ok, Err, refl, subst}
 use Rattle.std.specs.Prelude.{OnOk, Result}
-use Rattle.rv_word.specs.MemoryMap.{Profile}
+use Rattle.rv_image.specs.MemoryMap.{Profile}
 use Rattle.rv_code.specs.Run.{disturbed, stepped}
 use Rattle.rv_code.specs.State.{Harts, Shared}
 use Rattle.cfi_script.specs.Plan.{changes_of, step_of}

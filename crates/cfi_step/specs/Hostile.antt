@@ -3,7 +3,7 @@
 -- equals a pending site of the hart: the double word in a slot of the hart's own part of the shadow stack below its x3.
 use Rattle.std.specs.Prelude.{ℕ, zero, suc, ◌+◌, ◌-◌, ◌/◌, ◌%◌, nat_le, ◌&&◌, Bool, List, [], ◌∷◌, ◌++◌, min, if◌then◌else◌}
 use Rattle.rv_word.specs.Bits.{wrap}
-use Rattle.rv_word.specs.MemoryMap.{DATA_END, part_of}
+use Rattle.rv_image.specs.MemoryMap.{DATA_END, part_of}
 use Rattle.rv_word.specs.Memory.{Memory, read}
 use Rattle.rv_instr.specs.Registers.{get_reg}
 use Rattle.rv_code.specs.State.{Hart, Harts}

@@ -2,8 +2,8 @@
 -- one that stopped it is counted), whose turns they were, its output, its system calls, and each hart's walk, of which the
 -- last sixteen addresses are kept.
 use Rattle.std.specs.Prelude.{◌≡◌, ℕ, ◌-◌, ◌<◌, ◌==◌, List, [], ◌∷◌, drop, length, slice_get, Option, Some, None, if◌then◌else◌}
-use Rattle.rv_word.specs.Image.{Contents}
-use Rattle.rv_word.specs.MemoryMap.{Profile}
+use Rattle.rv_image.specs.Image.{Contents}
+use Rattle.rv_image.specs.MemoryMap.{Profile}
 use Rattle.rv_code.specs.Run.{run}
 use Rattle.rv_code.specs.State.{start_hart, start_shared}
 use Rattle.rv_code.specs.declared.turn.Turn.{Turn}

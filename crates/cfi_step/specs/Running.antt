@@ -1,8 +1,8 @@
 -- What a run that is under way comes to, from the state at which it began. Only private contracts cite this.
 use Rattle.std.specs.Prelude.{◌≡◌, ◌≤◌, ◌<◌, ◌+◌, ◌==◌, ℕ, Bool, true, false, List, [], ◌∷◌, ◌++◌, length, map, slice_get, slice_set, Some}
 use Rattle.std.specs.List.{All, AllByRecursion}
-use Rattle.rv_word.specs.Image.{Contents}
-use Rattle.rv_word.specs.MemoryMap.{Profile, profile_of}
+use Rattle.rv_image.specs.Image.{Contents}
+use Rattle.rv_image.specs.MemoryMap.{Profile, profile_of}
 use Rattle.rv_code.specs.SameMachine.{IsSameMachine}
 use Rattle.rv_code.specs.Run.{HartStep, IsDataChange, disturbed, run}
 use Rattle.rv_code.specs.State.{Harts, Shared}

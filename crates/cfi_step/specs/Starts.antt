@@ -1,6 +1,6 @@
 -- Where something starts in a code, for each of its words. Only private contracts cite this.
 use Rattle.std.specs.Prelude.{◌≡◌, ℕ, ◌+◌, ◌*◌, Bool, List, Some, is_some, slice_get}
-use Rattle.rv_word.specs.MemoryMap.{CODE_START, Profile}
+use Rattle.rv_image.specs.MemoryMap.{CODE_START, Profile}
 use Rattle.cfi_rules.specs.Split.{place_at}
 
 abbrev pub AreStartsOf : Profile → List ℕ → List Bool → Type 0

@@ -1,5 +1,5 @@
 ghost use Rattle.std.specs.Prelude.{◌≡◌, ◌+◌, ◌*◌, ◌≤◌, ◌<◌, ◌^◌, ◌++◌, length, IfOk, OnOk, IsTrue, min};
-ghost use Rattle.rv_word.specs.MemoryMap.{DATA_END, SHADOW_START};
+ghost use Rattle.rv_image.specs.MemoryMap.{DATA_END, SHADOW_START};
 ghost use Rattle.rv_mem.specs.Cells.{memory_of};
 ghost use Rattle.rv_machine.specs.Harts.{harts_in, harts_share};
 ghost use Rattle.cfi_rules.specs.Lines.{is_among};
@@ -11,7 +11,7 @@ use rv_instr::Reg;
 use rv_machine::{Change, Machine};
 use rv_mem::Memory;
 use rv_word::NoMemory;
-use rv_word::memory_map::{DATA_END, PART_SIZE, SHADOW_START};
+use rv_image::memory_map::{DATA_END, PART_SIZE, SHADOW_START};
 use std::alloc::Global;
 
 /// How many double words are looked at from x2 on.

@@ -3,7 +3,7 @@
 ghost use Rattle.std.specs.Prelude.{◌≡◌, ◌≤◌, ◌<◌, ◌+◌, ◌^◌, ◌++◌, ◌∷◌, [], ℕ, List, None, Some, is_some, length, map, min, slice_set, IfOk, OnOk};
 ghost use Rattle.std.specs.List.{All, AllByRecursion};
 ghost use Rattle.cfi_rules.specs.Rules.{pair_profile};
-ghost use Rattle.rv_word.specs.MemoryMap.{Profile, profile_of};
+ghost use Rattle.rv_image.specs.MemoryMap.{Profile, profile_of};
 ghost use Rattle.rv_code.specs.Run.{IsDataChange, IsStepOf, disturbed, stepped};
 ghost use Rattle.rv_code.specs.State.{last_exit, start_hart, start_shared};
 ghost use Rattle.rv_machine.specs.Harts.{harts_in, harts_share, run_after};
@@ -26,7 +26,8 @@ use crate::walks::HartWalks;
 use cfi_script::Meddler;
 use cfi_verify::Checked;
 use rv_machine::{Change, Machine, Turn};
-use rv_word::{Image, NoMemory};
+use rv_image::Image;
+use rv_word::NoMemory;
 use std::alloc::Global;
 
 /// A run so far: the machine, the changes that were made, the turns that were taken, and the walk of each hart.

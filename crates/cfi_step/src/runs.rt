@@ -1,9 +1,9 @@
 //! The loop of a run.
 
 ghost use Rattle.std.specs.Prelude.{◌≡◌, ℕ, length, IfOk, OnOk};
-ghost use Rattle.rv_word.specs.Image.{image_profile};
+ghost use Rattle.rv_image.specs.Image.{image_profile};
 ghost use Rattle.cfi_rules.specs.Rules.{pair_profile};
-ghost use Rattle.rv_word.specs.MemoryMap.{MayRun};
+ghost use Rattle.rv_image.specs.MemoryMap.{MayRun};
 ghost use Rattle.rv_code.specs.State.{start_hart, start_shared};
 ghost use Rattle.rv_machine.specs.Harts.{harts_in, harts_share};
 ghost use Rattle.cfi_rules.specs.Split.{code_words};

@@ -7,7 +7,7 @@ ghost use Rattle.cfi_step.specs.Starts.{AreStartsOf};
 
 use cfi_verify::Checked;
 use rv_word::NoMemory;
-use rv_word::memory_map::CODE_START;
+use rv_image::memory_map::CODE_START;
 use std::alloc::Global;
 use std::marker::Model;
 

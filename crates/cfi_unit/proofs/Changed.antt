@@ -1,7 +1,7 @@
 -- The facts of a word: where its pc is, that they begin where a unit is entered, and that changes
 -- outside of the own part of the shadow keep them.
 use Rattle.std.proofs.Common.{◌≡◌, ℕ, suc, ◌+◌, ◌<◌, inl, inr, List, [], ◌∷◌, length, refl, ◌∙◌, arith}
-use Rattle.rv_word.specs.MemoryMap.{PART_SIZE, IsFullProfile, Profile, part_of}
+use Rattle.rv_image.specs.MemoryMap.{PART_SIZE, IsFullProfile, Profile, part_of}
 use Rattle.rv_word.specs.Memory.{Memory, read}
 use Rattle.rv_word.specs.Same.{SameOn}
 use Rattle.rv_instr.specs.Registers.{Registers}

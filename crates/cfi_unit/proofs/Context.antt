@@ -3,7 +3,7 @@
 use Rattle.std.proofs.Common.{◌≡◌, ℕ, zero, suc, ◌+◌, ◌*◌, ◌<◌, ◌≤◌, ◌⊎◌, inl, inr, List, [], ◌∷◌, ◌++◌, length, length-append, Some, true, refl, ap, ◌∙◌, arith}
 use Rattle.std.specs.Prelude.{slice_get}
 use Rattle.std.proofs.lemmas.Option.{slice_get_within}
-use Rattle.rv_word.specs.MemoryMap.{Profile, CODE_START, CODE_SIZE, CODE_TAIL, DATA_END, SHADOW_START, PART_SIZE}
+use Rattle.rv_image.specs.MemoryMap.{Profile, CODE_START, CODE_SIZE, CODE_TAIL, DATA_END, SHADOW_START, PART_SIZE}
 use Rattle.rv_word.specs.Memory.{Memory, read, write}
 use Rattle.rv_word.specs.Same.{SameOn}
 use Rattle.rv_instr.specs.declared.instr.Instr.{Instr}

@@ -4,7 +4,7 @@ use Rattle.std.proofs.Common.{◌≡◌, ℕ, suc, ◌+◌, ◌-◌, ◌*◌, �
 use Rattle.std.specs.List.{AllByRecursion}
 use Rattle.std.proofs.lemmas.Bool.{cases_Bool}
 use Rattle.rv_word.specs.Bits.{wrap}
-use Rattle.rv_word.specs.MemoryMap.{Profile}
+use Rattle.rv_image.specs.MemoryMap.{Profile}
 use Rattle.rv_word.specs.Memory.{Memory}
 use Rattle.rv_word.specs.Numbers.{IsNumber, is_listed}
 use Rattle.rv_instr.specs.Registers.{Registers, set_reg}

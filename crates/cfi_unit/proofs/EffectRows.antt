@@ -3,7 +3,7 @@ use Rattle.std.proofs.Common.{◌≡◌, ℕ, suc, ◌-◌, ◌+◌, ◌^◌, �
 use Rattle.std.specs.List.{AllByRecursion}
 use Rattle.std.specs.Prelude.{◌&&◌, nat_le, nat_lt}
 use Rattle.std.proofs.lemmas.Bool.{cases_Bool}
-use Rattle.rv_word.specs.MemoryMap.{Profile, SHADOW_START, DATA_END}
+use Rattle.rv_image.specs.MemoryMap.{Profile, SHADOW_START, DATA_END}
 use Rattle.rv_word.specs.Memory.{Memory, write}
 use Rattle.rv_instr.specs.Registers.{Registers}
 use Rattle.rv_code.specs.Run.{ByteChange, IsDataChange, disturbed}

@@ -5,7 +5,7 @@ use Rattle.std.specs.Prelude.{slice_get}
 use Rattle.std.proofs.lemmas.Bool.{cases_Bool, ne_eqb}
 use Rattle.std.proofs.lemmas.Option.{slice_get_within}
 use Rattle.rv_word.specs.Bits.{wrap}
-use Rattle.rv_word.specs.MemoryMap.{Profile, SHADOW_START, can_load, can_store}
+use Rattle.rv_image.specs.MemoryMap.{Profile, SHADOW_START, can_load, can_store}
 use Rattle.rv_word.specs.Memory.{Memory, read, write}
 use Rattle.rv_instr.specs.Registers.{Registers, get_reg, set_reg}
 use Rattle.rv_instr.specs.Reserved.{is_reserved}

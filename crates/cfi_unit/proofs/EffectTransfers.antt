@@ -2,7 +2,7 @@
 use Rattle.std.proofs.Common.{◌≡◌, ℕ, suc, ◌+◌, ◌*◌, ◌-◌, ◌==◌, ◌/◌, ◌%◌, ◌^◌, ◌<◌, ◌≤◌, not, inl, inr, true, false, List, ◌∷◌, length, bit_and, refl, sym, ap, subst, ◌∙◌, arith}
 use Rattle.std.proofs.lemmas.Bool.{eqb-true, eqb-false, not-true, not-false}
 use Rattle.std.proofs.lemmas.Nat.Bits.{and_high_mask}
-use Rattle.rv_word.specs.MemoryMap.{Profile, CODE_START, CODE_SIZE, CODE_TAIL}
+use Rattle.rv_image.specs.MemoryMap.{Profile, CODE_START, CODE_SIZE, CODE_TAIL}
 use Rattle.rv_word.specs.Memory.{Memory, read}
 use Rattle.rv_instr.specs.Registers.{Registers, set_reg}
 use Rattle.rv_instr.specs.declared.instr.Instr.{Instr}

@@ -4,7 +4,7 @@ use Rattle.std.proofs.Common.{◌≡◌, ℕ, zero, suc, ◌+◌, ◌*◌, ◌-�
 use Rattle.std.specs.Prelude.{nat_le, nat_lt, slice_get, slice_index}
 use Rattle.std.specs.List.{list_all}
 use Rattle.std.proofs.lemmas.Bool.{and_parts, cond_both, ltb-true}
-use Rattle.rv_word.specs.MemoryMap.{version_1, SHADOW_START}
+use Rattle.rv_image.specs.MemoryMap.{version_1, SHADOW_START}
 use Rattle.rv_word.specs.Memory.{Memory, placed, read, zeros}
 use Rattle.rv_instr.specs.declared.instr.Instr.{Instr}
 use Rattle.rv_instr.specs.declared.instr.BranchOp.TheVariants.{Bne}

@@ -4,7 +4,7 @@ use Rattle.std.proofs.Common.{◌≡◌, ℕ, zero, suc, ◌+◌, ◌*◌, ◌==
 use Rattle.std.specs.Prelude.{nat_le, slice_get}
 use Rattle.std.proofs.lemmas.Bool.{cond_both}
 use Rattle.std.proofs.lemmas.Option.{slice_get_cases, slice_get_within}
-use Rattle.rv_word.specs.MemoryMap.{Profile, can_load, can_store}
+use Rattle.rv_image.specs.MemoryMap.{Profile, can_load, can_store}
 use Rattle.rv_word.specs.Memory.{Memory}
 use Rattle.rv_word.specs.Numbers.{is_listed}
 use Rattle.rv_instr.specs.Registers.{Registers, get_reg}

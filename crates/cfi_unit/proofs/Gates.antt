@@ -3,7 +3,7 @@ use Rattle.std.proofs.Common.{◌≡◌, ℕ, zero, suc, ◌+◌, ◌-◌, ◌*�
 use Rattle.std.specs.Prelude.{slice_get}
 use Rattle.std.proofs.lemmas.List.{length-map}
 use Rattle.std.proofs.lemmas.Option.{slice_get_cases}
-use Rattle.rv_word.specs.MemoryMap.{Profile}
+use Rattle.rv_image.specs.MemoryMap.{Profile}
 use Rattle.rv_word.specs.Memory.{Memory, read}
 use Rattle.rv_instr.specs.declared.instr.Instr.{Instr}
 use Rattle.rv_code.specs.Decode.{decoded}

@@ -1,7 +1,7 @@
 -- What a step keeps, and that a step of one hart is to another hart a change outside of its part.
 use Rattle.std.proofs.Common.{◌≡◌, ◌≢◌, ℕ, ◌+◌, ◌%◌, ◌≤◌, inl, inr, arith}
 use Rattle.std.proofs.lemmas.Bool.{cases_lt}
-use Rattle.rv_word.specs.MemoryMap.{DATA_END, PART_SIZE}
+use Rattle.rv_image.specs.MemoryMap.{DATA_END, PART_SIZE}
 use Rattle.rv_word.specs.Memory.{Memory}
 use Rattle.rv_word.specs.Same.{SameOn}
 use Rattle.cfi_unit.specs.Context.{SameOutside}

@@ -1,7 +1,7 @@
 -- The parts of the shadow stack that belong to harts, and where the prologue's parts stand.
 use Rattle.std.proofs.Common.{◌≡◌, ℕ, ◌+◌, ◌*◌, ◌%◌, ◌<◌, ◌≤◌, ◌++◌, inl, inr, length, refl, sym, ap, subst, arith}
-use Rattle.rv_word.specs.MemoryMap.{SHADOW_START, IsFullProfile, IsProfile, Profile, part_of, version_1}
-use Rattle.rv_word.proofs.Profiles.{full_low, full_saves, laid_out}
+use Rattle.rv_image.specs.MemoryMap.{SHADOW_START, IsFullProfile, IsProfile, Profile, part_of, version_1}
+use Rattle.rv_image.proofs.Profiles.{full_low, full_saves, laid_out}
 use Rattle.cfi_unit.specs.declared.unit.Unit.TheVariants as V
 use Rattle.cfi_unit.specs.Prologue.{OPENING, call_at, opening_by, opening_instrs, set_up}
 use Rattle.cfi_unit.specs.Shadow.{IsPart}

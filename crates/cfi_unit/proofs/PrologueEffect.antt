@@ -2,7 +2,7 @@
 use Rattle.std.proofs.Common.{◌≡◌, ℕ, suc, ◌+◌, ◌-◌, ◌*◌, ◌^◌, ◌<◌, ◌≤◌, inl, inr, List, [], ◌∷◌, length, replicate, Some, refl, sym, subst, ◌∙◌, arith}
 use Rattle.std.specs.Prelude.{slice_get}
 use Rattle.rv_word.specs.Bits.{wrap}
-use Rattle.rv_word.specs.MemoryMap.{IsFullProfile, Profile, SHADOW_START, part_of, version_1, version_2}
+use Rattle.rv_image.specs.MemoryMap.{IsFullProfile, Profile, SHADOW_START, part_of, version_1, version_2}
 use Rattle.rv_word.specs.Memory.{Memory}
 use Rattle.rv_instr.specs.Registers.{Registers, set_reg}
 use Rattle.rv_instr.specs.declared.instr.Instr.{Instr}

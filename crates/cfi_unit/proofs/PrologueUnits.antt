@@ -1,6 +1,6 @@
 -- The handlers, the opening and the closing.
 use Rattle.std.proofs.Common.{◌≡◌, ℕ, List, [], ◌∷◌, ◌++◌, refl, sym, ap, subst, arith}
-use Rattle.rv_word.specs.MemoryMap.{IsFullProfile, IsProfile, Profile, version_1, version_2}
+use Rattle.rv_image.specs.MemoryMap.{IsFullProfile, IsProfile, Profile, version_1, version_2}
 use Rattle.rv_word.specs.Memory.{Memory}
 use Rattle.rv_instr.specs.Registers.{Registers}
 use Rattle.rv_instr.specs.declared.instr.Instr.{Instr}

@@ -1,7 +1,7 @@
 -- Which accesses of units stay in their regions.
 use Rattle.std.proofs.Common.{◌≡◌, ℕ, ◌+◌, ◌^◌, ◌<◌, ◌≤◌, true, arith}
 use Rattle.std.proofs.lemmas.Bool.Decides.{nat_tests}
-use Rattle.rv_word.specs.MemoryMap.{Profile, CODE_START, CODE_SIZE, CODE_TAIL, PART_SIZE, can_load, can_store}
+use Rattle.rv_image.specs.MemoryMap.{Profile, CODE_START, CODE_SIZE, CODE_TAIL, PART_SIZE, can_load, can_store}
 use Rattle.rv_instr.specs.declared.instr.StoreOp.{StoreOp}
 use Rattle.rv_instr.specs.declared.instr.StoreOp.TheVariants.{Sb, Sh, Sw, Sd}
 use Rattle.rv_code.specs.Arithmetic.{store_size}

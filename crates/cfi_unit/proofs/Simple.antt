@@ -3,7 +3,7 @@ use Rattle.std.proofs.Common.{◌≡◌, ℕ, zero, suc, ◌+◌, ◌*◌, ◌/�
 use Rattle.std.proofs.lemmas.Bool.{cases_Bool, and_parts}
 use Rattle.std.proofs.lemmas.Bool.Decides.{nat_tests}
 use Rattle.rv_word.specs.Bits.{wrap}
-use Rattle.rv_word.specs.MemoryMap.{Profile, can_load}
+use Rattle.rv_image.specs.MemoryMap.{Profile, can_load}
 use Rattle.rv_word.specs.Memory.{Memory}
 use Rattle.rv_instr.specs.Registers.{Registers, get_reg, set_reg}
 use Rattle.rv_instr.specs.Reserved.{is_reserved}

@@ -2,10 +2,10 @@
 -- first step.
 use Rattle.std.proofs.Common.{◌≡◌, ℕ, zero, suc, ◌+◌, ◌*◌, ◌^◌, ◌<◌, [], ◌∷◌, Some, None, inl, refl, arith}
 use Rattle.std.specs.Prelude.{slice_get}
-use Rattle.rv_word.specs.declared.version.ImageVersion.TheVariants.{OneHart}
-use Rattle.rv_word.specs.Image.{Contents}
-use Rattle.rv_word.specs.MemoryMap.{version_1, SHADOW_START}
-use Rattle.rv_word.specs.Memory.{read, loaded, placed}
+use Rattle.rv_image.specs.declared.version.ImageVersion.TheVariants.{OneHart}
+use Rattle.rv_image.specs.Image.{Contents, loaded}
+use Rattle.rv_image.specs.MemoryMap.{version_1, SHADOW_START}
+use Rattle.rv_word.specs.Memory.{read, placed}
 use Rattle.rv_instr.specs.declared.instr.Instr.{Instr}
 use Rattle.rv_code.specs.Decode.{decoded}
 use Rattle.rv_code.specs.State.{start_hart, start_shared, last_exit}

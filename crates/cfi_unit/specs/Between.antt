@@ -1,6 +1,6 @@
 -- What may happen to what harts share between two words of a unit, outside of the hart's own steps.
 use Rattle.std.specs.Prelude.{◌≡◌, ℕ, ◌≤◌}
-use Rattle.rv_word.specs.MemoryMap.{DATA_END}
+use Rattle.rv_image.specs.MemoryMap.{DATA_END}
 use Rattle.rv_code.specs.State.{Shared}
 
 -- nothing happens

@@ -2,7 +2,7 @@
 -- sites stand in the hart's own part of the shadow, and no byte outside of data and of that part is
 -- written.
 use Rattle.std.specs.Prelude.{◌≡◌, ℕ, ◌+◌, ◌≤◌, ◌<◌, ◌⊎◌, List, None}
-use Rattle.rv_word.specs.MemoryMap.{CODE_START, CODE_SIZE, CODE_TAIL, DATA_END, PART_SIZE}
+use Rattle.rv_image.specs.MemoryMap.{CODE_START, CODE_SIZE, CODE_TAIL, DATA_END, PART_SIZE}
 use Rattle.rv_word.specs.Memory.{Memory}
 use Rattle.rv_word.specs.Same.{SameOn}
 use Rattle.rv_code.specs.State.{Shared, last_exit}

@@ -2,7 +2,7 @@
 -- what harts then share. `h` and `s` are the hart and what is shared at the unit's first word, and
 -- `may` is what may happen between its words; `following` is the address after the unit.
 use Rattle.std.specs.Prelude.{◌≡◌, ◌≢◌, ℕ, ◌+◌, ◌-◌, ◌<◌, ◌⊎◌, true, false, if◌then◌else◌, List, [], ◌∷◌, length}
-use Rattle.rv_word.specs.MemoryMap.{Profile}
+use Rattle.rv_image.specs.MemoryMap.{Profile}
 use Rattle.rv_word.specs.Memory.{Memory}
 use Rattle.rv_instr.specs.Registers.{get_reg, set_reg}
 use Rattle.rv_code.specs.Arithmetic.{branch_taken}

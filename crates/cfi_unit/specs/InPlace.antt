@@ -3,7 +3,7 @@
 -- has found out. `n` counts the pending sites, `r` holds the registers at the unit's start.
 use Rattle.std.specs.Prelude.{◌≡◌, ◌≢◌, ℕ, suc, ◌+◌, ◌*◌, ◌/◌, ◌^◌, ◌<◌, ◌≤◌, true, false, List, [], ◌∷◌, Some, length, slice_get, take}
 use Rattle.rv_word.specs.Bits.{wrap}
-use Rattle.rv_word.specs.MemoryMap.{CODE_START, CODE_SIZE, SHADOW_START, Profile, part_of, version_1, version_2}
+use Rattle.rv_image.specs.MemoryMap.{CODE_START, CODE_SIZE, SHADOW_START, Profile, part_of, version_1, version_2}
 use Rattle.rv_word.specs.Memory.{Memory, read}
 use Rattle.rv_word.specs.Numbers.{is_listed}
 use Rattle.rv_instr.specs.Registers.{Registers}

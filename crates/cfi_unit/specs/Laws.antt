@@ -1,7 +1,7 @@
 -- What holds of units and their words, each law by its name.
 use Rattle.std.specs.Prelude.{◌≡◌, ℕ, ◌+◌, ◌%◌, ◌<◌, ◌≤◌, ◌^◌, ◌⊎◌, false, IsTrue, List, ◌∷◌, ◌++◌, length, Some}
 use Rattle.std.specs.List.{All}
-use Rattle.rv_word.specs.MemoryMap.{CODE_START, CODE_SIZE, CODE_TAIL, PART_SIZE, Profile}
+use Rattle.rv_image.specs.MemoryMap.{CODE_START, CODE_SIZE, CODE_TAIL, PART_SIZE, Profile}
 use Rattle.rv_word.specs.Memory.{Memory}
 use Rattle.rv_word.specs.Same.{SameOn}
 use Rattle.rv_instr.specs.Registers.{Registers}

@@ -3,7 +3,7 @@
 -- words alone those that bear its label, for the walk along a graph the targets of its class.
 use Rattle.std.specs.Prelude.{◌≡◌, ◌≢◌, ℕ, ◌+◌, ◌*◌, ◌/◌, ◌%◌, ◌≤◌, ◌<◌, ◌⊎◌, true, false, List, [], ◌∷◌, length}
 use Rattle.rv_word.specs.Bits.{wrap}
-use Rattle.rv_word.specs.MemoryMap.{CODE_START, CODE_SIZE, Profile}
+use Rattle.rv_image.specs.MemoryMap.{CODE_START, CODE_SIZE, Profile}
 use Rattle.rv_word.specs.Memory.{Memory, read}
 use Rattle.rv_word.specs.Numbers.{is_listed}
 use Rattle.rv_instr.specs.Registers.{Registers, get_reg}

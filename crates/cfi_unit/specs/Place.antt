@@ -3,7 +3,7 @@
 use Rattle.std.specs.Prelude.{◌≡◌, ℕ, ◌+◌, ◌-◌, ◌*◌, ◌<◌, List}
 pub use Rattle.cfi_unit.specs.declared.place.Place.{Place}
 pub use Rattle.cfi_unit.specs.declared.place.Place.TheVariants.{Handler as handler, Opening as opening, Closing as closing, Body as body}
-use Rattle.rv_word.specs.MemoryMap.{Profile}
+use Rattle.rv_image.specs.MemoryMap.{Profile}
 use Rattle.rv_instr.specs.declared.instr.Instr.{Instr}
 use Rattle.cfi_unit.specs.UnitWords.{instrs_of, word_count}
 use Rattle.cfi_unit.specs.Prologue.{OPENING, handler_instrs, opening_instrs, closing_instrs}

@@ -2,7 +2,7 @@
 -- hart that runs it and calls the entry, and the closing, which exits. In a lean image the opening also brings the
 -- mask of stores into x4, and leaves its own site in x1.
 use Rattle.std.specs.Prelude.{ℕ, Bool, true, false, ◌-◌, ◌==◌, List, [], ◌∷◌, ◌++◌, if◌then◌else◌}
-use Rattle.rv_word.specs.MemoryMap.{START, Profile}
+use Rattle.rv_image.specs.MemoryMap.{START, Profile}
 use Rattle.rv_instr.specs.declared.instr.Instr.{Instr}
 use Rattle.rv_instr.specs.declared.instr.Instr.TheVariants.{Upper, Immediate, Shift, Register, Ecall, Ebreak}
 use Rattle.rv_instr.specs.declared.instr.UpperOp.TheVariants.{Lui}

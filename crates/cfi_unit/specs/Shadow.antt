@@ -1,7 +1,7 @@
 -- The shadow stack of a hart: its own part of the shadow region, in which the sites of its pending
 -- calls stand in slots of eight bytes, the first slot eight bytes from the part's start.
 use Rattle.std.specs.Prelude.{◌≡◌, ℕ, ◌+◌, ◌*◌, ◌%◌, ◌≤◌, List, [], ◌∷◌, length}
-use Rattle.rv_word.specs.MemoryMap.{Profile, SHADOW_START, PART_SIZE}
+use Rattle.rv_image.specs.MemoryMap.{Profile, SHADOW_START, PART_SIZE}
 use Rattle.rv_word.specs.Memory.{Memory, read}
 use Rattle.cfi_unit.specs.declared.handlers.TheConstants as handlers
 

@@ -1,7 +1,7 @@
 -- Instructions that stand in code from an address on: a multiple of 4, all of them in the region of
 -- code, and each the instruction of its word.
 use Rattle.std.specs.Prelude.{◌≡◌, ℕ, ◌+◌, ◌*◌, ◌%◌, ◌≤◌, List, length, slice_get, Some}
-use Rattle.rv_word.specs.MemoryMap.{CODE_START, CODE_SIZE}
+use Rattle.rv_image.specs.MemoryMap.{CODE_START, CODE_SIZE}
 use Rattle.rv_word.specs.Memory.{Memory, read}
 use Rattle.rv_instr.specs.declared.instr.Instr.{Instr}
 use Rattle.rv_code.specs.Decode.{decoded}

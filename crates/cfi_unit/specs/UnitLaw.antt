@@ -3,7 +3,7 @@
 -- any memory in which code, the hart's own part of the shadow and the facts of the word stand: so
 -- data, and the other harts' parts, may change between two steps.
 use Rattle.std.specs.Prelude.{◌≡◌, ℕ, ◌%◌, ◌^◌, ◌<◌, ◌≤◌, ◌⊎◌, List, [], ◌∷◌, length}
-use Rattle.rv_word.specs.MemoryMap.{IsFullProfile, Profile}
+use Rattle.rv_image.specs.MemoryMap.{IsFullProfile, Profile}
 use Rattle.rv_word.specs.Memory.{Memory}
 use Rattle.rv_instr.specs.Registers.{Registers}
 use Rattle.rv_code.specs.State.{Hart, Shared, After}

@@ -2,7 +2,7 @@
 -- x31 are scratch, but that x4 holds the mask of stores where units use it so; no plain unit's instruction writes one of these four.
 use Rattle.std.specs.Prelude.{◌≡◌, ℕ, ◌+◌, ◌-◌, ◌*◌, ◌/◌, ◌%◌, ◌^◌, ◌<◌, ◌==◌, ◌&&◌, ◌||◌, Bool, true, false, is_none, length, nat_le, not, IsTrue, List, [], ◌∷◌, ◌++◌, map, take, drop, ◌≢◌, Option, Some, slice_get, option_and_then}
 use Rattle.rv_word.specs.Bits.{wrap}
-use Rattle.rv_word.specs.declared.unit_words.TheConstants as counts
+use Rattle.rv_image.specs.declared.unit_words.TheConstants as counts
 use Rattle.rv_instr.specs.InRange.{IsInstr}
 use Rattle.rv_instr.specs.Reserved.{is_reserved}
 use Rattle.rv_instr.specs.declared.instr.Instr.{Instr}

@@ -1,8 +1,8 @@
 -- A scan that has come to the length that the graph gives: what its listing tells of the code.
 use Rattle.std.proofs.Common.{◌≡◌, ℕ, ◌-◌, ◌/◌, List, length, sym, ap, subst, ◌∙◌, arith}
-use Rattle.rv_word.specs.declared.version.Versions.{Versions}
-use Rattle.rv_word.specs.Image.{Contents}
-use Rattle.rv_word.specs.MemoryMap.{Profile, profile_with}
+use Rattle.rv_image.specs.declared.version.Versions.{Versions}
+use Rattle.rv_image.specs.Image.{Contents}
+use Rattle.rv_image.specs.MemoryMap.{Profile, profile_with}
 use Rattle.cfi_graph.specs.Graph.{GraphParts}
 use Rattle.cfi_scan.specs.Pieces.{HasSeen, IsOf, Listed, Sight, prologue_count}
 use Rattle.cfi_verify.specs.Scan.{Scanned, Tells, numbers_in}

@@ -5,8 +5,8 @@ use Rattle.std.proofs.lemmas.Bool.{and_from, and_left, and_parts, and_right, cas
 use Rattle.std.proofs.lemmas.Option.{same_Some}
 use Rattle.std.specs.List.{list_any}
 use Rattle.rv_word.proofs.Cases.{cases_Option}
-use Rattle.rv_word.specs.MemoryMap.{Profile, START}
-use Rattle.rv_word.proofs.Profiles.{LaidOut}
+use Rattle.rv_image.specs.MemoryMap.{Profile, START}
+use Rattle.rv_image.proofs.Profiles.{LaidOut}
 use Rattle.cfi_graph.specs.declared.line.GraphLine.{GraphLine}
 use Rattle.cfi_graph.specs.declared.line.GraphLine.TheVariants.{Calls, Leaf, Class, Site, Edge, Call}
 use Rattle.cfi_graph.specs.Graph.{GraphParts, calls_in, has_leaves, is_rising, key_below, key_of}

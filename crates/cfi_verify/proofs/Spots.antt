@@ -3,8 +3,8 @@ use Rattle.std.proofs.Common.{◌≡◌, ◌≢◌, ◌<◌, ◌≤◌, ℕ, ◌
 use Rattle.std.specs.Prelude.{option_map, option_and_then, is_some}
 use Rattle.std.specs.List.{list_all, list_any}
 use Rattle.std.proofs.lemmas.Bool.{and_parts, or_cases, cases_Bool, false_from_ne_true, leb-true, ltb-true, eqb-true, false≢true}
-use Rattle.rv_word.specs.MemoryMap.{CODE_START, Profile, START}
-use Rattle.rv_word.proofs.Profiles.{LaidOut}
+use Rattle.rv_image.specs.MemoryMap.{CODE_START, Profile, START}
+use Rattle.rv_image.proofs.Profiles.{LaidOut}
 use Rattle.cfi_graph.specs.declared.line.GraphLine.{GraphLine}
 use Rattle.cfi_graph.specs.declared.line.GraphLine.TheVariants.{Calls, Leaf, Class, Site, Edge, Call}
 use Rattle.cfi_graph.specs.Graph.{GraphParts, IsGraph, is_code_address, line_in_range}

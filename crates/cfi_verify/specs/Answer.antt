@@ -1,6 +1,6 @@
 -- What the answer of the verifier says when it does not accept.
-use Rattle.rv_word.specs.MemoryMap.{Profile}
-use Rattle.rv_word.specs.Image.{Contents}
+use Rattle.rv_image.specs.MemoryMap.{Profile}
+use Rattle.rv_image.specs.Image.{Contents}
 use Rattle.cfi_graph.specs.Graph.{GraphParts}
 use Rattle.cfi_rules.specs.declared.reject.Reject.{Reject}
 use Rattle.cfi_rules.specs.Rules.{IsRejected}

@@ -1,7 +1,7 @@
 -- What one pass over a code and a graph finds out. Only private contracts cite this.
 use Rattle.std.specs.Prelude.{◌≡◌, ◌≢◌, ℕ, ◌+◌, ◌*◌, ◌<◌, ◌≤◌, ◌==◌, ◌&&◌, ◌⊎◌, nat_lt, is_some, Bool, true, false, List, Some, None, slice_get}
 use Rattle.std.specs.List.{list_any}
-use Rattle.rv_word.specs.MemoryMap.{CODE_START, Profile}
+use Rattle.rv_image.specs.MemoryMap.{CODE_START, Profile}
 use Rattle.cfi_graph.specs.declared.line.GraphLine.{GraphLine}
 use Rattle.cfi_graph.specs.declared.line.GraphLine.TheVariants.{Leaf}
 use Rattle.cfi_graph.specs.declared.line.Key.TheVariants.{Address}

@@ -1,7 +1,7 @@
 -- What a scan has seen, what the listing that it leaves tells, and an accepted pair.
 use Rattle.std.specs.Prelude.{◌≡◌, ℕ, ◌-◌, ◌/◌, ◌==◌, Bool, ◌||◌, ◌&&◌, List, is_some, length, take}
-use Rattle.rv_word.specs.MemoryMap.{Profile}
-use Rattle.rv_word.specs.Image.{Contents}
+use Rattle.rv_image.specs.MemoryMap.{Profile}
+use Rattle.rv_image.specs.Image.{Contents}
 use Rattle.cfi_graph.specs.Graph.{GraphParts, IsGraph, calls_in}
 use Rattle.cfi_unit.specs.Prologue.{OPENING}
 use Rattle.cfi_scan.specs.Pieces.{Listed, Sight, prologue_count}

@@ -1,13 +1,13 @@
 //! Units of a code at an address.
 
 ghost use Rattle.std.specs.Prelude.{◌≡◌, ◌+◌, ◌-◌, ◌/◌, ◌<◌, ◌≤◌, ◌^◌, ℕ, drop, slice_index, take};
-ghost use Rattle.rv_word.specs.MemoryMap.{CODE_SIZE, CODE_START};
+ghost use Rattle.rv_image.specs.MemoryMap.{CODE_SIZE, CODE_START};
 ghost use Rattle.cfi_unit.specs.Recognise.{recognised};
 ghost use Rattle.cfi_rules.specs.Split.{code_words};
 
 use cfi_emit::{WordList, recognise};
 use cfi_unit::Unit;
-use rv_word::memory_map::CODE_START;
+use rv_image::memory_map::CODE_START;
 
 /// The first words of some: as many as the longest unit has, and one more.
 type Window = WordList<21>;

@@ -16,7 +16,7 @@ use cfi_fails::fails;
 use cfi_rules::Rule;
 use cfi_starts::Starts;
 use least::first_below_u64;
-use rv_word::memory_map::CODE_START;
+use rv_image::memory_map::CODE_START;
 
 /// The rules in the order in which they are asked.
 pub(crate) const RULES: [Rule; 10] = [

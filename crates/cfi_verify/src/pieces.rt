@@ -1,7 +1,7 @@
 ghost use Rattle.std.specs.Prelude.{◌≡◌, ◌+◌, ◌/◌, ◌<◌, ◌≤◌, ◌^◌, ◌++◌, ℕ, List, IfErr, IfOk, length};
 ghost use Rattle.std.specs.List.{concat};
-ghost use Rattle.rv_word.specs.Image.{Contents};
-ghost use Rattle.rv_word.specs.MemoryMap.{profile_under, profile_with};
+ghost use Rattle.rv_image.specs.Image.{Contents};
+ghost use Rattle.rv_image.specs.MemoryMap.{profile_under, profile_with};
 ghost use Rattle.cfi_scan.specs.Pieces.{HasSeen};
 ghost use Rattle.cfi_verify.specs.Answer.{IsCause};
 ghost use Rattle.cfi_verify.specs.Scan.{Tells, numbers_in};
@@ -13,7 +13,8 @@ use cfi_graph::Graph;
 use cfi_rules::Reject;
 use cfi_scan::Steps;
 use cfi_starts::Starts;
-use rv_word::{Bytes, End, ImageVersion};
+use rv_image::ImageVersion;
+use rv_word::{Bytes, End};
 use std::alloc::Global;
 use std::sync::ledger::Ledger;
 

@@ -1,6 +1,6 @@
 ghost use Rattle.std.specs.Prelude.{◌≡◌, ◌+◌, ◌/◌, ◌<◌, ◌^◌, ℕ, List, IfErr, IfOk, [], ◌++◌, length};
-ghost use Rattle.rv_word.specs.Image.{Contents};
-ghost use Rattle.rv_word.specs.MemoryMap.{profile_under, profile_with};
+ghost use Rattle.rv_image.specs.Image.{Contents};
+ghost use Rattle.rv_image.specs.MemoryMap.{profile_under, profile_with};
 ghost use Rattle.cfi_scan.specs.Pieces.{HasSeen};
 ghost use Rattle.cfi_verify.specs.Scan.{Tells, numbers_in};
 ghost use Rattle.cfi_rules.specs.Rules.{IsRejected, IsWellFormed};
@@ -11,7 +11,8 @@ use cfi_graph::Graph;
 use cfi_rules::Reject;
 use cfi_scan::{Feeder, Steps};
 use cfi_starts::Starts;
-use rv_word::{ImageVersion, NoMemory, Versions};
+use rv_image::{ImageVersion, Versions};
+use rv_word::NoMemory;
 use std::alloc::Global;
 use std::marker::Model;
 use std::sync::ledger::Ledger;
@@ -25,7 +26,7 @@ pub struct Scan<'a> {
 }
 
 impl<'a> Model for Scan<'a> {
-    ghost use Rattle.rv_word.specs.MemoryMap.{profile_with};
+    ghost use Rattle.rv_image.specs.MemoryMap.{profile_with};
     ghost use Rattle.cfi_verify.specs.Scan.{IsScan, Scanned};
 
     ghost Value = { Scanned };

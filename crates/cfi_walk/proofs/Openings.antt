@@ -1,10 +1,10 @@
 -- By a graph's version, who saves the sites of calls in code of the pair.
 use Rattle.std.proofs.Common.{◌≡◌, true, false, ap, ◌∙◌}
-use Rattle.rv_word.specs.declared.version.GraphVersion.{GraphVersion}
-use Rattle.rv_word.specs.declared.version.GraphVersion.TheVariants.{OneLabel, TwoLabels, CalleeSaves}
-use Rattle.rv_word.specs.Image.{Contents}
-use Rattle.rv_word.specs.MemoryMap.{lean_profile_of, profile_of, profile_under}
-use Rattle.rv_word.proofs.Profiles.{full_saves, is_full, is_lean, lean_saves}
+use Rattle.rv_image.specs.declared.version.GraphVersion.{GraphVersion}
+use Rattle.rv_image.specs.declared.version.GraphVersion.TheVariants.{OneLabel, TwoLabels, CalleeSaves}
+use Rattle.rv_image.specs.Image.{Contents}
+use Rattle.rv_image.specs.MemoryMap.{lean_profile_of, profile_of, profile_under}
+use Rattle.rv_image.proofs.Profiles.{full_saves, is_full, is_lean, lean_saves}
 use Rattle.cfi_graph.specs.Graph.{GraphParts}
 use Rattle.cfi_rules.specs.Rules.{pair_profile}
 

@@ -1,8 +1,8 @@
 -- What holds of each step of a walk along the graph of a well-formed pair.
 use Rattle.std.specs.Prelude.{◌≡◌, ℕ, ◌<◌, List}
 use Rattle.std.specs.List.{AllByRecursion}
-use Rattle.rv_word.specs.Image.{Contents}
-use Rattle.rv_word.specs.MemoryMap.{IsProfile, Profile}
+use Rattle.rv_image.specs.Image.{Contents}
+use Rattle.rv_image.specs.MemoryMap.{IsProfile, Profile}
 use Rattle.cfi_graph.specs.Graph.{GraphParts}
 use Rattle.cfi_unit.specs.UnitWords.{DEEP}
 use Rattle.cfi_rules.specs.Rules.{IsWellFormed}

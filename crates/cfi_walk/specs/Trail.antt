@@ -1,6 +1,6 @@
 -- A list of addresses to which a walk goes, one after another, as far as there are steps.
 use Rattle.std.specs.Prelude.{◌≡◌, ℕ, ◌⊎◌, List, [], ◌∷◌}
-use Rattle.rv_word.specs.MemoryMap.{Profile}
+use Rattle.rv_image.specs.MemoryMap.{Profile}
 use Rattle.cfi_graph.specs.declared.line.GraphLine.{GraphLine}
 use Rattle.cfi_rules.specs.Walks.{IsStep, WalkState}
 

@@ -25,7 +25,7 @@ use cfi_graph::SiteKind;
 use cfi_unit::handlers::{self, BAD_RETURN, BAD_TARGET, DEEP};
 use cfi_unit::{Place, SystemOp, TargetWord, Unit};
 use cfi_verify::{Asks, Checked};
-use rv_word::GraphVersion;
+use rv_image::GraphVersion;
 
 /// How many sites the shadow stack holds.
 const MOST_PENDING: usize = handlers::MOST_PENDING as usize;

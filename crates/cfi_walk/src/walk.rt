@@ -3,7 +3,7 @@ ghost use Rattle.cfi_rules.specs.Walks.{walk_start};
 ghost use Rattle.cfi_walk.specs.Moves.{HasRoom, MOST_SITES, after};
 
 use rv_word::NoMemory;
-use rv_word::profile::START;
+use rv_image::profile::START;
 use std::alloc::Global;
 use std::marker::Model;
 

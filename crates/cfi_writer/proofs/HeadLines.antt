@@ -5,8 +5,8 @@ use Rattle.std.specs.Prelude.{if◌then◌else◌, nat_le, nat_lt, option_and_th
 use Rattle.std.specs.List.{list_all}
 use Rattle.std.proofs.lemmas.Bool.{and_from, and_parts, le-leb, lt-ltb}
 use Rattle.std.proofs.lemmas.List.Folds.{list_all-append}
-use Rattle.rv_word.specs.declared.version.GraphVersion.{GraphVersion}
-use Rattle.rv_word.specs.declared.version.GraphVersion.TheVariants.{OneLabel, TwoLabels, CalleeSaves}
+use Rattle.rv_image.specs.declared.version.GraphVersion.{GraphVersion}
+use Rattle.rv_image.specs.declared.version.GraphVersion.TheVariants.{OneLabel, TwoLabels, CalleeSaves}
 use Rattle.obj_program.specs.Program.{count}
 use Rattle.cfi_graph.specs.Calls.{may_be_calls}
 use Rattle.cfi_graph.specs.declared.line.GraphLine.{GraphLine}

@@ -2,8 +2,8 @@
 -- several harts, a function that saves a register, one that calls a leaf, one that goes on into an entry, a call through a pointer, and a
 -- jump and a call to one function. Their words, gates, lengths and lines are worked out by hand as those of the other versions.
 use Rattle.std.proofs.Common.{◌≡◌, ℕ, List, [], ◌∷◌, ◌++◌, Some, None, length, take, drop, refl}
-use Rattle.rv_word.specs.declared.version.GraphVersion.TheVariants.{CalleeSaves}
-use Rattle.rv_word.specs.MemoryMap.{Profile, lean_version_1, lean_version_2}
+use Rattle.rv_image.specs.declared.version.GraphVersion.TheVariants.{CalleeSaves}
+use Rattle.rv_image.specs.MemoryMap.{Profile, lean_version_1, lean_version_2}
 use Rattle.rv_code.specs.Decode.{decoded}
 use Rattle.rv_code.specs.Encode.{code_of}
 use Rattle.obj_input.specs.declared.item_kind.ItemKind.TheVariants as is

@@ -3,9 +3,9 @@ use Rattle.std.proofs.Common.{◌≡◌, ℕ, suc, ◌+◌, ◌<◌, ◌≤◌, 
 use Rattle.std.specs.Prelude.{slice_index}
 use Rattle.std.proofs.Math.ListN.{drop_of_length-le}
 use Rattle.std.proofs.Math.Seq.{drop-cons}
-use Rattle.rv_word.specs.Form.{profile_for}
-use Rattle.rv_word.specs.MemoryMap.{Profile}
-use Rattle.rv_word.specs.declared.form.Form.{Form}
+use Rattle.rv_image.specs.Form.{profile_for}
+use Rattle.rv_image.specs.MemoryMap.{Profile}
+use Rattle.rv_image.specs.declared.form.Form.{Form}
 use Rattle.obj_program.specs.declared.item.Item.{Item}
 use Rattle.obj_program.specs.Program.{count, item_of, no_item}
 use Rattle.cfi_map_text.specs.declared.map.MapLine.{MapLine}

@@ -5,8 +5,8 @@ use Rattle.std.specs.List.{list_any}
 use Rattle.std.proofs.lemmas.Bool.{cases_Bool, eqb-true, or_cases, or_left, or_right}
 use Rattle.std.proofs.lemmas.List.{length-map}
 use Rattle.std.proofs.lemmas.Option.{get_or_from_slice_get, same_Some, slice_get-get_or, slice_get-map, slice_get_within}
-use Rattle.rv_word.specs.declared.version.GraphVersion.{GraphVersion}
-use Rattle.rv_word.specs.declared.version.GraphVersion.TheVariants.{OneLabel, TwoLabels, CalleeSaves}
+use Rattle.rv_image.specs.declared.version.GraphVersion.{GraphVersion}
+use Rattle.rv_image.specs.declared.version.GraphVersion.TheVariants.{OneLabel, TwoLabels, CalleeSaves}
 use Rattle.rv_word.proofs.Cases.{mapped}
 use Rattle.cfi_class.specs.Classes.{IsIn, has}
 use Rattle.cfi_graph.specs.declared.line.Sort.{Sort}

@@ -4,8 +4,8 @@ use Rattle.std.specs.Prelude.{◌&&◌, nat_le, nat_lt, slice_get, slice_index}
 use Rattle.std.specs.List.Sorted.{IsStrictlyIncreasing}
 use Rattle.std.proofs.lemmas.Bool.{and_from, and_parts, eq-eqb, le-leb, lt-ltb, ltb-true, or_left}
 use Rattle.std.proofs.lemmas.Option.{get_or_from_slice_get, slice_get_within}
-use Rattle.rv_word.specs.declared.version.GraphVersion.{GraphVersion}
-use Rattle.rv_word.specs.MemoryMap.{CODE_SIZE, CODE_START}
+use Rattle.rv_image.specs.declared.version.GraphVersion.{GraphVersion}
+use Rattle.rv_image.specs.MemoryMap.{CODE_SIZE, CODE_START}
 use Rattle.obj_program.specs.Program.{count}
 use Rattle.cfi_graph.specs.Graph.{IsGraph, is_code_address, is_code_end, is_code_length, is_label, is_sort_of}
 use Rattle.cfi_graph.specs.declared.line.GraphLine.{GraphLine}

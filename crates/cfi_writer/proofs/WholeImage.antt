@@ -1,13 +1,13 @@
 -- A prepared program that is written, with its graph and map.
 use Rattle.std.proofs.Common.{◌≡◌, ℕ, ◌*◌, ◌^◌, ◌<◌, ◌≤◌, List, length, Some, sym, ap, subst, ◌∙◌, arith}
 use Rattle.std.specs.Prelude.{slice_index}
-use Rattle.rv_word.specs.declared.version.GraphVersion.{GraphVersion}
-use Rattle.rv_word.specs.declared.version.ImageVersion.{ImageVersion}
-use Rattle.rv_word.specs.Image.{IsImageSize}
-use Rattle.rv_word.specs.declared.version.Versions.{Versions}
-use Rattle.rv_word.specs.Form.{graph_version, image_version, profile_for}
-use Rattle.rv_word.specs.MemoryMap.{CODE_SIZE, Profile, profile_under, profile_with}
-use Rattle.rv_word.specs.declared.form.Form.{Form}
+use Rattle.rv_image.specs.declared.version.GraphVersion.{GraphVersion}
+use Rattle.rv_image.specs.declared.version.ImageVersion.{ImageVersion}
+use Rattle.rv_image.specs.Image.{IsImageSize}
+use Rattle.rv_image.specs.declared.version.Versions.{Versions}
+use Rattle.rv_image.specs.Form.{graph_version, image_version, profile_for}
+use Rattle.rv_image.specs.MemoryMap.{CODE_SIZE, Profile, profile_under, profile_with}
+use Rattle.rv_image.specs.declared.form.Form.{Form}
 use Rattle.elf_image.specs.Spelling.{spelling}
 use Rattle.cfi_graph.specs.Graph.{GraphParts, IsGraph}
 use Rattle.cfi_map_text.specs.Map.{MapParts}

@@ -3,8 +3,8 @@
 -- instructions and the sizes of units.
 use Rattle.std.proofs.Common.{◌≡◌, ℕ, true, false, List, [], ◌∷◌, ◌++◌, Some, None, length, take, drop, pos, refl}
 use Rattle.std.specs.Prelude.{Option, slice_get}
-use Rattle.rv_word.specs.declared.version.GraphVersion.TheVariants.{OneLabel, TwoLabels}
-use Rattle.rv_word.specs.MemoryMap.{Profile, UNITS_START, version_1, version_2}
+use Rattle.rv_image.specs.declared.version.GraphVersion.TheVariants.{OneLabel, TwoLabels}
+use Rattle.rv_image.specs.MemoryMap.{Profile, UNITS_START, version_1, version_2}
 use Rattle.rv_code.specs.Decode.{decoded}
 use Rattle.rv_code.specs.Encode.{code_of}
 use Rattle.obj_input.specs.declared.item_kind.ItemKind.{ItemKind}

@@ -2,8 +2,8 @@
 use Rattle.std.specs.Prelude.{◌≡◌, ℕ, ◌<◌, ◌^◌, List, length, Some}
 use Rattle.std.specs.List.{All}
 use Rattle.std.specs.List.Sorted.{IsStrictlyIncreasing}
-use Rattle.rv_word.specs.Form.{graph_version, image_version, profile_for}
-use Rattle.rv_word.specs.declared.form.Form.{Form}
+use Rattle.rv_image.specs.Form.{graph_version, image_version, profile_for}
+use Rattle.rv_image.specs.declared.form.Form.{Form}
 use Rattle.elf_image.specs.Spelling.{spelling}
 use Rattle.cfi_graph.specs.Graph.{GraphParts}
 use Rattle.cfi_map_text.specs.Map.{MapParts}

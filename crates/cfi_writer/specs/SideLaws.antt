@@ -2,8 +2,8 @@
 -- a word of its own before a target's unit.
 use Rattle.std.specs.Prelude.{◌≡◌, ℕ, zero, suc, ◌*◌, ◌<◌, true, List, [], Some, length, map, option_and_then, slice_get, slice_index, slice_index_or}
 use Rattle.std.specs.List.Sorted.{IsStrictlyIncreasing}
-use Rattle.rv_word.specs.declared.version.GraphVersion.{GraphVersion}
-use Rattle.rv_word.specs.declared.version.GraphVersion.TheVariants.{CalleeSaves}
+use Rattle.rv_image.specs.declared.version.GraphVersion.{GraphVersion}
+use Rattle.rv_image.specs.declared.version.GraphVersion.TheVariants.{CalleeSaves}
 use Rattle.cfi_class.specs.Classes.{IsIn}
 use Rattle.cfi_graph.specs.Graph.{ClassLine, class_in}
 use Rattle.cfi_graph.specs.declared.line.SiteKind.{SiteKind}

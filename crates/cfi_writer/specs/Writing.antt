@@ -2,8 +2,8 @@
 use Rattle.std.specs.Prelude.{◌≡◌, ℕ, ◌*◌, ◌≤◌, true, List, Some, is_some, length}
 use Rattle.elf_image.specs.Spelling.{spelling}
 use Rattle.cfi_graph.specs.Graph.{GraphParts}
-use Rattle.rv_word.specs.Form.{graph_version, image_version, profile_for}
-use Rattle.rv_word.specs.declared.form.Form.{Form}
+use Rattle.rv_image.specs.Form.{graph_version, image_version, profile_for}
+use Rattle.rv_image.specs.declared.form.Form.{Form}
 use Rattle.cfi_map_text.specs.Map.{IsMap, MapParts}
 use Rattle.obj_program.specs.DataAtMap.{data_at, init_size}
 use Rattle.obj_program.specs.MapFit.{FitsMaps}

@@ -2,7 +2,7 @@
 
 ghost use Rattle.std.specs.Prelude.{◌≡◌, ◌+◌, ◌<◌, ◌≤◌, ◌^◌, if◌then◌else◌, IfOk, IfSome, Some, drop, length, slice_get};
 ghost use Rattle.std.specs.List.{All};
-ghost use Rattle.rv_word.specs.MemoryMap.{profile_with};
+ghost use Rattle.rv_image.specs.MemoryMap.{profile_with};
 ghost use Rattle.obj_program.specs.Program.{count, item_of};
 ghost use Rattle.cfi_closed.specs.Closed as closed;
 ghost use Rattle.cfi_closed.specs.Closed.{is_target};
@@ -23,7 +23,8 @@ use cfi_map::{Mapped, Spacing};
 use obj_input::ItemKind;
 use obj_program::Item;
 use rv_instr::Instr;
-use rv_word::{GraphVersion, NoMemory, Versions};
+use rv_image::{GraphVersion, Versions};
+use rv_word::NoMemory;
 use std::alloc::Global;
 use std::marker::Model;
 

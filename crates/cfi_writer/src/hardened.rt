@@ -1,7 +1,7 @@
 ghost use Rattle.std.specs.Prelude.{◌≡◌, ◌*◌, ◌<◌, ◌≤◌, ◌^◌, ℕ, true, IfOk, OnOk, Some, is_some, length, slice_index};
-ghost use Rattle.rv_word.specs.Form.{profile_for};
-ghost use Rattle.rv_word.specs.Image.{IsImageSize};
-ghost use Rattle.rv_word.specs.MemoryMap.{CODE_SIZE};
+ghost use Rattle.rv_image.specs.Form.{profile_for};
+ghost use Rattle.rv_image.specs.Image.{IsImageSize};
+ghost use Rattle.rv_image.specs.MemoryMap.{CODE_SIZE};
 ghost use Rattle.cfi_map_text.specs.Map.{IsMap};
 ghost use Rattle.cfi_map.specs.GraphAtMap.{graph_lines};
 ghost use Rattle.cfi_rules.specs.Split.{code_words};
@@ -17,7 +17,8 @@ use cfi_graph::Graph;
 use cfi_map::{Mapped, Spacing};
 use cfi_map_text::Map;
 use elf_image::write_image_as;
-use rv_word::{Bytes, Form, NoMemory};
+use rv_image::Form;
+use rv_word::{Bytes, NoMemory};
 use std::alloc::Global;
 use std::marker::Model;
 

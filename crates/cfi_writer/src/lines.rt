@@ -11,8 +11,9 @@ use crate::chosen::{Chosen, is_call};
 use cfi_closed::Side;
 use cfi_graph::{Graph, GraphLine, GraphLines, SiteKind};
 use obj_input::ItemKind;
-use rv_word::profile::START;
-use rv_word::{GraphVersion, NoMemory, Places};
+use rv_image::profile::START;
+use rv_image::GraphVersion;
+use rv_word::{NoMemory, Places};
 use std::alloc::Global;
 
 /// Puts a line at the end, if there is one.

@@ -3,7 +3,7 @@
 ghost use Rattle.std.specs.Prelude.{◌≡◌, ℕ, ◌^◌, ◌<◌, IfOk, length, sum};
 ghost use Rattle.std.specs.List.{All};
 ghost use Rattle.std.specs.List.Sorted.{IsStrictlyIncreasing};
-ghost use Rattle.rv_word.specs.MemoryMap.{CODE_SIZE};
+ghost use Rattle.rv_image.specs.MemoryMap.{CODE_SIZE};
 ghost use Rattle.cfi_class.specs.Labels.{AreLabels};
 ghost use Rattle.cfi_leads.specs.Entered.{entered_at};
 ghost use Rattle.cfi_map.specs.LabelOf.{empty_classes, tagged};

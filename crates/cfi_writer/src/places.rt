@@ -1,14 +1,15 @@
 //! The lines of the map that is written.
 
 ghost use Rattle.std.specs.Prelude.{◌≡◌, IfOk};
-ghost use Rattle.rv_word.specs.Form.{profile_for};
+ghost use Rattle.rv_image.specs.Form.{profile_for};
 ghost use Rattle.cfi_map_text.specs.Map.{IsMap};
 ghost use Rattle.cfi_map.specs.LegalMap.{IsLegalMap};
 ghost use Rattle.cfi_writer.specs.MapLines.{map_lines};
 
 use crate::chosen::Chosen;
 use cfi_map_text::{Map, MapLine, MapLines};
-use rv_word::{Form, NoMemory};
+use rv_image::Form;
+use rv_word::NoMemory;
 use std::alloc::Global;
 
 impl<'c, 'a, 'b> Chosen<'c, 'a, 'b> {

@@ -2,7 +2,7 @@
 
 ghost use Rattle.cfi_rules.specs.Lines.{jump_word};
 ghost use Rattle.std.specs.Prelude.{Bool, List, Option, ℕ, false, true, ◌≡◌, ◌<◌, ◌++◌, ◌∷◌, [], if◌then◌else◌, IfOk, OnOk};
-ghost use Rattle.rv_word.specs.declared.version.GraphVersion.TheVariants.{CalleeSaves};
+ghost use Rattle.rv_image.specs.declared.version.GraphVersion.TheVariants.{CalleeSaves};
 ghost use Rattle.obj_input.specs.declared.item_kind.ItemKind.TheVariants as is;
 ghost use Rattle.obj_program.specs.Program.{count};
 ghost use Rattle.cfi_graph.specs.Graph.{has_leaves};
@@ -18,7 +18,8 @@ use cfi_rules::jump_word;
 use cfi_unit::{Mask, SystemOp, Unit};
 use obj_input::ItemKind;
 use rv_instr::{BranchOp, Immediate, Instr};
-use rv_word::{GraphVersion, NoMemory, Numbers};
+use rv_image::GraphVersion;
+use rv_word::{NoMemory, Numbers};
 use std::alloc::Global;
 
 /// The condition that holds where another does not.

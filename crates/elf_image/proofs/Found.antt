@@ -2,7 +2,7 @@
 use Rattle.std.proofs.Common.{◌≡◌, ℕ, ◌+◌, ◌-◌, List, ◌++◌, length, take, drop, None, refl, sym, ap, ◌∙◌, arith}
 use Rattle.std.proofs.Math.Seq.{take-add}
 use Rattle.std.proofs.lemmas.List.{take-append-drop, length-take-le, length-drop}
-use Rattle.rv_word.specs.declared.version.ImageVersion.{ImageVersion}
+use Rattle.rv_image.specs.declared.version.ImageVersion.{ImageVersion}
 use Rattle.elf_image.specs.Header.{fields_of, data_start, elf_header, program_header}
 use Rattle.elf_image.specs.Spelling.{headers, zeros, spelling}
 use Rattle.elf_image.specs.Fault.{version_in, code_of, init_of, fault_of}

@@ -1,10 +1,10 @@
 -- The spelling of an image has no fault, and is read as that image.
 use Rattle.std.proofs.Common.{◌≡◌, ℕ, ◌+◌, ◌-◌, ◌^◌, ◌<◌, ◌≤◌, List, [], ◌++◌, length, take, drop, None, refl, sym, ap, subst, ◌∙◌, arith, lit<, length-append}
 use Rattle.std.proofs.lemmas.List.{append_assoc, take_at, drop_at, length-replicate}
-use Rattle.rv_word.specs.declared.version.ImageVersion.{ImageVersion}
-use Rattle.rv_word.specs.MemoryMap.{Profile, IsProfile, profile_of}
-use Rattle.rv_word.specs.Image.{IsImageSize}
-use Rattle.rv_word.proofs.Profiles.{laid_out, is_profile}
+use Rattle.rv_image.specs.declared.version.ImageVersion.{ImageVersion}
+use Rattle.rv_image.specs.MemoryMap.{Profile, IsProfile, profile_of}
+use Rattle.rv_image.specs.Image.{IsImageSize}
+use Rattle.rv_image.proofs.Profiles.{laid_out, is_profile}
 use Rattle.elf_image.specs.declared.field.Segment.{Segment}
 use Rattle.elf_image.specs.Header.{data_segment, code_segment, shadow_segment, fields_of, data_start, code_length, data_length, elf_header, program_header}
 use Rattle.elf_image.specs.Spelling.{headers, zeros, spelling}

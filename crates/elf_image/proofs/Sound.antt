@@ -3,11 +3,11 @@ use Rattle.std.proofs.Common.{◌≡◌, ℕ, zero, suc, ◌+◌, ◌≤◌, nat
 use Rattle.std.specs.List.{slice_get}
 use Rattle.std.proofs.lemmas.Bool.{cases_lt}
 use borrow.Author.Tests.{lt-ltb, le-ltb}
-use Rattle.rv_word.specs.declared.version.ImageVersion.{ImageVersion}
-use Rattle.rv_word.specs.declared.version.ImageVersion.TheVariants.{OneHart, EightHarts}
+use Rattle.rv_image.specs.declared.version.ImageVersion.{ImageVersion}
+use Rattle.rv_image.specs.declared.version.ImageVersion.TheVariants.{OneHart, EightHarts}
 use Rattle.rv_word.proofs.Cases.{neither, unmapped}
-use Rattle.rv_word.specs.MemoryMap.{profile_of}
-use Rattle.rv_word.specs.Image.{IsImageSize}
+use Rattle.rv_image.specs.MemoryMap.{profile_of}
+use Rattle.rv_image.specs.Image.{IsImageSize}
 use Rattle.elf_bytes.specs.Fields.{number_at}
 use Rattle.elf_image.specs.declared.field.Field.{Field}
 use Rattle.elf_image.specs.declared.refusal.ImageRefusal.TheVariants.{Short, Long}

@@ -1,8 +1,8 @@
 -- The parts that a reader takes of a file without a fault, by the places where code ends and data begin.
 use Rattle.std.proofs.Common.{◌≡◌, ℕ, ◌+◌, ◌-◌, List, length, take, drop, None, ap, ◌∙◌, arith}
 use Rattle.std.proofs.lemmas.List.{length-take-le, length-drop, take_rest}
-use Rattle.rv_word.specs.declared.version.ImageVersion.{ImageVersion}
-use Rattle.rv_word.specs.Image.{IsImageSize}
+use Rattle.rv_image.specs.declared.version.ImageVersion.{ImageVersion}
+use Rattle.rv_image.specs.Image.{IsImageSize}
 use Rattle.elf_image.specs.Header.{data_start}
 use Rattle.elf_image.specs.Spelling.{spelling}
 use Rattle.elf_image.specs.Fault.{version_in, code_of, init_of, fault_of}

@@ -1,9 +1,9 @@
 -- What is wrong with a file that is no image: the first of these in the order of the file, but lengths go before padding.
 use Rattle.std.specs.Prelude.{ℕ, ◌+◌, nat_lt, ◌==◌, not, if◌then◌else◌, Option, Some, None, option_map, List, [], ◌∷◌, length, position, slice_range}
 use Rattle.std.specs.Option.{option_or}
-use Rattle.rv_word.specs.declared.version.ImageVersion.{ImageVersion}
-use Rattle.rv_word.specs.declared.version.ImageVersion.TheVariants.{OneHart, EightHarts}
-use Rattle.rv_word.specs.MemoryMap.{version_2}
+use Rattle.rv_image.specs.declared.version.ImageVersion.{ImageVersion}
+use Rattle.rv_image.specs.declared.version.ImageVersion.TheVariants.{OneHart, EightHarts}
+use Rattle.rv_image.specs.MemoryMap.{version_2}
 use Rattle.elf_bytes.specs.Fields.{number_at}
 use Rattle.elf_image.specs.declared.field.Field.{Field}
 use Rattle.elf_image.specs.declared.refusal.ImageRefusal.{ImageRefusal}

@@ -3,9 +3,9 @@ ghost use Rattle.std.specs.List.{list_all};
 ghost use Rattle.elf_image.specs.Header.{elf_header, program_header, data_segment, code_segment, shadow_segment, data_start, is_inside};
 
 use super::field::{Field, Segment, half, ident, long, word};
-use rv_word::ImageVersion;
-use rv_word::memory_map::{CODE_SIZE, CODE_START, DATA_END, DATA_START, SHADOW_START};
-use rv_word::profile::START;
+use rv_image::ImageVersion;
+use rv_image::memory_map::{CODE_SIZE, CODE_START, DATA_END, DATA_START, SHADOW_START};
+use rv_image::profile::START;
 
 /// How many bytes a page has, on which code and data begin.
 pub(crate) const PAGE: u128 = 0x1000;

@@ -1,7 +1,7 @@
 ghost use Rattle.std.specs.Prelude.{◌≡◌, ◌+◌, ◌<◌, ◌≤◌, ◌^◌, List, ℕ, IsTrue, IsOkAnd, IfOk, OnOk, IfErr, None, Some, IfSome, option_map, length, position, not, ◌==◌};
 ghost use Rattle.std.specs.List.{list_all};
 ghost use Rattle.std.specs.Option.{option_or};
-ghost use Rattle.rv_word.specs.Image.{IsImageSize};
+ghost use Rattle.rv_image.specs.Image.{IsImageSize};
 ghost use Rattle.elf_bytes.specs.Fields.{number_at};
 ghost use Rattle.elf_image.specs.Header.{fields_of, data_start, is_inside};
 ghost use Rattle.elf_image.specs.Spelling.{spelling};
@@ -15,7 +15,7 @@ use super::header::{
 use super::refusal::ImageRefusal;
 use byteorder::{ByteOrder, LittleEndian};
 use elf_bytes::u64_at;
-use rv_word::{Image, ImageVersion};
+use rv_image::{Image, ImageVersion};
 
 /// Where the headers name the length of the code and of the data: `p_filesz` of their segments.
 const CODE_LENGTH: u64 = 152;

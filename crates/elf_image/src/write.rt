@@ -1,7 +1,7 @@
 ghost use Rattle.std.specs.Prelude.{◌≡◌, ◌≤◌, ◌<◌, ◌^◌, ◌+◌, ◌++◌, IsTrue, IfOk, OnOk, length};
 ghost use Rattle.std.specs.List.{flat_map, list_all};
-ghost use Rattle.rv_word.specs.Image.{IsImageSize};
-ghost use Rattle.rv_word.specs.declared.version.ImageVersion.TheVariants.{OneHart};
+ghost use Rattle.rv_image.specs.Image.{IsImageSize};
+ghost use Rattle.rv_image.specs.declared.version.ImageVersion.TheVariants.{OneHart};
 ghost use Rattle.elf_image.specs.Header.{is_inside};
 ghost use Rattle.elf_image.specs.Spelling.{field_bytes, headers, zeros, spelling};
 
@@ -10,7 +10,8 @@ use super::header::{
     HEADERS, PAGE, code_segment, data_offset, data_segment, elf_header, program_header,
     shadow_segment,
 };
-use rv_word::{ImageVersion, NoMemory};
+use rv_image::ImageVersion;
+use rv_word::NoMemory;
 use std::alloc::{AllocError, Global};
 
 /// The file of an image of version 1 with this code and these data.

@@ -4,7 +4,7 @@ use Rattle.std.specs.List.{All, filter_map, flat_map}
 use Rattle.std.proofs.lemmas.Bool.{cases_eq}
 use Rattle.std.proofs.lemmas.List.{get_or-map, length-map}
 use Rattle.std.proofs.lemmas.List.Elements.{All-cons, All-filter, All-get_or, All-head, All-nil, All-tail}
-use Rattle.rv_word.specs.MemoryMap.{DATA_START}
+use Rattle.rv_image.specs.MemoryMap.{DATA_START}
 use Rattle.least.specs.Nearest.{nearest}
 use Rattle.least.proofs.Firsts.{none_first}
 use Rattle.obj_input.specs.declared.parts.Relocation.{Relocation}

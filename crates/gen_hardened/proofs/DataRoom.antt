@@ -2,7 +2,7 @@
 use Rattle.std.proofs.Common.{◌≡◌, ◌≢◌, ℕ, zero, suc, ◌+◌, false, List, [], length, inl, inr, refl, ap, ◌∙◌, arith}
 use Rattle.std.proofs.lemmas.Bool.{cases_eq}
 use Rattle.std.proofs.lemmas.List.{length-replicate}
-use Rattle.rv_word.specs.MemoryMap.{DATA_START}
+use Rattle.rv_image.specs.MemoryMap.{DATA_START}
 use Rattle.obj_input.specs.declared.parts.Block.{Block}
 use Rattle.obj_input.specs.declared.parts.Sort.TheVariants.{Code, Data}
 use Rattle.obj_input.specs.Input.{InputParts, SectionParts, is_code, is_code_sort, is_data_sort, is_zeros_sort, section_count, section_of}

@@ -1,12 +1,12 @@
 -- A generated object without a fault, whose code has room, is not refused.
 use Rattle.std.proofs.Common.{◌≡◌, ℕ, ◌≤◌, Some, None, inl, inr, List, codes, length, refl, sym, ap, subst, ◌∙◌, arith}
 use Rattle.std.proofs.lemmas.List.{length-map}
-use Rattle.rv_word.specs.MemoryMap.{CODE_SIZE}
-use Rattle.rv_word.specs.Form.{graph_version}
+use Rattle.rv_image.specs.MemoryMap.{CODE_SIZE}
+use Rattle.rv_image.specs.Form.{graph_version}
 use Rattle.elf_writer.specs.Object.{object_bytes}
 use Rattle.elf_writer.specs.Holds.{Holds}
-use Rattle.rv_word.specs.declared.form.Form.{Form}
-use Rattle.rv_word.specs.declared.form.Form.TheVariants.{Plain}
+use Rattle.rv_image.specs.declared.form.Form.{Form}
+use Rattle.rv_image.specs.declared.form.Form.TheVariants.{Plain}
 use Rattle.obj_input.specs.Input.{InputParts}
 use Rattle.obj_check.specs.Fault.{fault_of}
 use Rattle.obj_program.specs.Program.{Program}

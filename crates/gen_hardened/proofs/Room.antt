@@ -4,9 +4,9 @@ use Rattle.std.specs.Prelude.{sum}
 use Rattle.std.specs.List.{sum_by}
 use Rattle.std.proofs.lemmas.Bool.{cases_Bool}
 use Rattle.std.proofs.lemmas.List.Sums.{sum_by-cons}
-use Rattle.rv_word.specs.MemoryMap.{CODE_SIZE}
-use Rattle.rv_word.specs.declared.form.Form.TheVariants.{Plain}
-use Rattle.rv_word.specs.declared.version.GraphVersion.TheVariants.{OneLabel}
+use Rattle.rv_image.specs.MemoryMap.{CODE_SIZE}
+use Rattle.rv_image.specs.declared.form.Form.TheVariants.{Plain}
+use Rattle.rv_image.specs.declared.version.GraphVersion.TheVariants.{OneLabel}
 use Rattle.obj_input.specs.declared.item_kind.ItemKind.{ItemKind}
 use Rattle.obj_input.specs.declared.item_kind.ItemKind.TheVariants as is
 use Rattle.obj_input.specs.Input.{InputParts}

@@ -1,6 +1,6 @@
 -- What holds of the generated object of each number: it is hardened, unless memory runs out.
 use Rattle.std.specs.Prelude.{ℕ, None, List, codes}
-use Rattle.rv_word.specs.declared.form.Form.TheVariants.{Plain}
+use Rattle.rv_image.specs.declared.form.Form.TheVariants.{Plain}
 use Rattle.elf_writer.specs.Object.{object_bytes}
 use Rattle.cfi_gen.specs.Demo.{demo_parts}
 use Rattle.refusals.specs.declared.refusal.Refusal.{Refusal}

@@ -8,7 +8,7 @@ use Rattle.obj_input.specs.Input.{InputParts, SectionParts, section_of, is_data_
 use Rattle.obj_input.specs.Listed.{listed}
 use Rattle.obj_input.specs.InOrder.{AreSmall}
 use Rattle.obj_input.specs.DataLayout.{address_by, after, after_if, aligned, block, block_address, blocks_reach, init_end, no_block, reach, section_address, zeros_end}
-use Rattle.rv_word.specs.MemoryMap.{DATA_START}
+use Rattle.rv_image.specs.MemoryMap.{DATA_START}
 
 pub reach_begins : (input : InputParts) (wanted : Sort → Bool) (start : ℕ) → start ≡ reach input wanted start 0
 unfolding reach

@@ -1,7 +1,7 @@
 -- Where data stand: from DATA_START on the sections with bytes in the file, in their order, then those
 -- without, then the blocks, each at its alignment.
 use Rattle.std.specs.Prelude.{ℕ, zero, suc, ◌+◌, ◌-◌, ◌*◌, ◌/◌, max, Bool, if◌then◌else◌, List, length, slice_index_or}
-use Rattle.rv_word.specs.MemoryMap.{DATA_START}
+use Rattle.rv_image.specs.MemoryMap.{DATA_START}
 use Rattle.obj_input.specs.declared.parts.Sort.{Sort}
 use Rattle.obj_input.specs.declared.parts.Sort.TheVariants.{Data, Zeros}
 use Rattle.obj_input.specs.declared.parts.Block.{Block}

@@ -10,7 +10,7 @@ use crate::input::Input;
 use crate::parts::{Block, Sort};
 use crate::section::Section;
 use rv_word::NoMemory;
-use rv_word::memory_map::DATA_START;
+use rv_image::memory_map::DATA_START;
 use std::alloc::Global;
 use std::marker::Model;
 

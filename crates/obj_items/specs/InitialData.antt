@@ -1,7 +1,7 @@
 -- The initialised data of an input before relocations, and the relocations of data.
 use Rattle.std.specs.Prelude.{ℕ, zero, suc, ◌+◌, ◌-◌, if◌then◌else◌, List, [], ◌∷◌, ◌++◌, length, replicate}
 use Rattle.std.specs.List.{flat_map}
-use Rattle.rv_word.specs.MemoryMap.{DATA_START}
+use Rattle.rv_image.specs.MemoryMap.{DATA_START}
 use Rattle.least.specs.Nearest.{joined}
 use Rattle.obj_input.specs.declared.parts.Relocation.{Relocation}
 use Rattle.obj_input.specs.declared.reloc_kind.RelocKind.{RelocKind}

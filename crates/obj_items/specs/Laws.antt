@@ -1,6 +1,6 @@
 -- What holds of the program of an input.
 use Rattle.std.specs.Prelude.{◌≡◌, ◌+◌, ◌<◌, ◌^◌, None, length}
-use Rattle.rv_word.specs.MemoryMap.{DATA_START}
+use Rattle.rv_image.specs.MemoryMap.{DATA_START}
 use Rattle.obj_input.specs.Input.{InputParts}
 use Rattle.obj_input.specs.DataLayout.{init_end}
 use Rattle.obj_check.specs.Fault.{fault_of}

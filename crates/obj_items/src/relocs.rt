@@ -3,7 +3,7 @@
 ghost use Rattle.std.specs.Prelude.{◌≡◌, ◌++◌, ◌+◌, ◌-◌, ◌<◌, ◌^◌, ℕ, IfOk, OnOk, length};
 ghost use Rattle.std.specs.List.{flat_map};
 ghost use Rattle.least.specs.Nearest.{joined};
-ghost use Rattle.rv_word.specs.MemoryMap.{DATA_START};
+ghost use Rattle.rv_image.specs.MemoryMap.{DATA_START};
 ghost use Rattle.obj_input.specs.Input.{InputParts};
 ghost use Rattle.obj_input.specs.DataLayout.{data_layout_of, section_address};
 ghost use Rattle.obj_program.specs.Program.{AreInOrder, place_of};
@@ -16,7 +16,7 @@ use crate::values::use_value;
 use obj_input::{DataLayout, Input, RelocKind, Relocation, Section};
 use obj_program::{DataReloc, PackedItem, PackedReloc};
 use rv_word::NoMemory;
-use rv_word::memory_map::DATA_START;
+use rv_image::memory_map::DATA_START;
 use std::alloc::Global;
 
 /// Where an offset of the section of data with this index stands in initialised data. What needs more bytes than there

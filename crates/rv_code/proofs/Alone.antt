@@ -1,6 +1,6 @@
 -- The run of one hart alone takes its first step, and then is the run from there.
 use Rattle.std.proofs.Common.{◌≡◌, List, [], ◌∷◌, refl, sym, ap, ◌∙◌}
-use Rattle.rv_word.specs.MemoryMap.{Profile}
+use Rattle.rv_image.specs.MemoryMap.{Profile}
 use Rattle.rv_code.specs.Run.{ByteChange, RunAfter, alone, disturbed_step, next_or_stop, run, run_alone, seen_by, stepped}
 use Rattle.rv_code.specs.State.{Hart, Harts, Shared, After}
 use Rattle.rv_code.specs.declared.turn.Turn.{Turn}

@@ -3,7 +3,7 @@ use Rattle.std.proofs.Common.{◌≡◌, ℕ, ◌≤◌, List, [], ◌∷◌, re
 use Rattle.std.specs.Prelude.{◌==◌, if◌then◌else◌}
 use Rattle.std.specs.List.{AllByRecursion}
 use Rattle.std.proofs.lemmas.Bool.{ne_eqb}
-use Rattle.rv_word.specs.MemoryMap.{DATA_END}
+use Rattle.rv_image.specs.MemoryMap.{DATA_END}
 use Rattle.rv_word.specs.Memory.{Memory}
 use Rattle.rv_code.specs.Run.{ByteChange, IsDataChange, changed}
 

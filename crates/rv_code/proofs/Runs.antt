@@ -1,9 +1,9 @@
 -- Worked runs, computed from the definition step by step: how many steps each takes to its stop.
 use Rattle.std.proofs.Common.{◌≡◌, ℕ, List, [], ◌∷◌, ◌++◌, refl, replicate}
-use Rattle.rv_word.specs.declared.version.ImageVersion.TheVariants.{OneHart}
-use Rattle.rv_word.specs.Image.{Contents}
-use Rattle.rv_word.specs.MemoryMap.{version_1}
-use Rattle.rv_word.specs.Memory.{loaded, placed, write}
+use Rattle.rv_image.specs.declared.version.ImageVersion.TheVariants.{OneHart}
+use Rattle.rv_image.specs.Image.{Contents, loaded}
+use Rattle.rv_image.specs.MemoryMap.{version_1}
+use Rattle.rv_word.specs.Memory.{placed, write}
 use Rattle.rv_code.specs.Decode.{decoded}
 use Rattle.rv_code.specs.Run.{run, run_alone, ByteChange}
 use Rattle.rv_code.specs.State.{start_hart, start_shared, last_exit}

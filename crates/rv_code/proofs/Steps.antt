@@ -1,7 +1,7 @@
 -- A step is the execution of the instruction that is fetched.
 use Rattle.std.proofs.Common.{◌≡◌, ℕ, ◌+◌, ◌%◌, ◌≤◌, Some, None, true, arith}
 use Rattle.std.proofs.lemmas.Bool.Decides.{nat_tests}
-use Rattle.rv_word.specs.MemoryMap.{Profile, CODE_START, CODE_SIZE}
+use Rattle.rv_image.specs.MemoryMap.{Profile, CODE_START, CODE_SIZE}
 use Rattle.rv_word.specs.Memory.{read}
 use Rattle.rv_instr.specs.declared.instr.Instr.{Instr}
 use Rattle.rv_code.specs.Decode.{decoded}

@@ -1,6 +1,6 @@
 -- A run in parts: where it has come, it goes on from there, unless it has stopped.
 use Rattle.std.specs.Prelude.{◌≡◌, List, ◌++◌}
-use Rattle.rv_word.specs.MemoryMap.{Profile}
+use Rattle.rv_image.specs.MemoryMap.{Profile}
 use Rattle.rv_code.specs.State.{Hart, Shared, After}
 use Rattle.rv_code.specs.Run.{ByteChange, next_or_stop, run_alone}
 use Rattle.rv_code.specs.declared.event.Event.{Event}

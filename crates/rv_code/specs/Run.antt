@@ -2,7 +2,7 @@
 -- bytes may happen.
 use Rattle.std.specs.Prelude.{ℕ, ◌<◌, ◌^◌, ◌==◌, List, [], ◌∷◌, map, if◌then◌else◌}
 use Rattle.std.specs.List.{AllByRecursion}
-use Rattle.rv_word.specs.MemoryMap.{Profile, DATA_END}
+use Rattle.rv_image.specs.MemoryMap.{Profile, DATA_END}
 use Rattle.rv_word.specs.Memory.{Memory}
 use Rattle.rv_code.specs.State.{Hart, Harts, Shared, After, with_hart}
 use Rattle.rv_code.specs.Step.{step}

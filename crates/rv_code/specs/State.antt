@@ -1,9 +1,9 @@
 -- The machine's state: a hart (its pc and registers), and what harts share (memory, the input
 -- left, the output, the system calls made).
 use Rattle.std.specs.Prelude.{ℕ, ◌%◌, ◌^◌, ◌==◌, ◌||◌, List, [], ◌∷◌, Option, Some, None, if◌then◌else◌}
-use Rattle.rv_word.specs.Image.{Contents}
-use Rattle.rv_word.specs.MemoryMap.{START}
-use Rattle.rv_word.specs.Memory.{Memory, loaded}
+use Rattle.rv_image.specs.Image.{Contents, loaded}
+use Rattle.rv_image.specs.MemoryMap.{START}
+use Rattle.rv_word.specs.Memory.{Memory}
 use Rattle.rv_instr.specs.Registers.{Registers, cleared, set_reg}
 use Rattle.rv_code.specs.declared.event.Event.{Event}
 use Rattle.rv_code.specs.declared.turn.Turn.{Turn}

@@ -3,7 +3,7 @@
 -- multiple of 4 is done, and the fetch after it stops (in the standard the jump itself traps).
 use Rattle.std.specs.Prelude.{ℕ, ◌+◌, ◌*◌, ◌/◌, ◌%◌, ◌^◌, ◌==◌, ◌&&◌, Bool, Option, Some, None, if◌then◌else◌}
 use Rattle.rv_word.specs.Bits.{sign_extended, wrap}
-use Rattle.rv_word.specs.MemoryMap.{Profile, CODE_START, CODE_SIZE, lies_within, can_load, can_store}
+use Rattle.rv_image.specs.MemoryMap.{Profile, CODE_START, CODE_SIZE, lies_within, can_load, can_store}
 use Rattle.rv_word.specs.Memory.{read, write}
 use Rattle.rv_instr.specs.Registers.{Registers, get_reg, set_reg}
 use Rattle.rv_instr.specs.declared.instr.Instr.{Instr}

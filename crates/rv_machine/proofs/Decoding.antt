@@ -6,9 +6,9 @@ use Rattle.std.proofs.lemmas.Option.{slice_get-map, slice_get_past, slice_get-ge
 use Rattle.std.proofs.lemmas.List.{length-append}
 use Rattle.std.proofs.Math.ListN.{get_or-append}
 use Rattle.std.proofs.Math.Seq.{get_or-append_seam}
-use Rattle.rv_word.specs.Image.{Contents}
-use Rattle.rv_word.specs.MemoryMap.{CODE_START, CODE_SIZE, DATA_START, DATA_END, SHADOW_START, can_store, lies_within, Profile}
-use Rattle.rv_word.specs.Memory.{Memory, loaded, placed, read, write, zeros}
+use Rattle.rv_image.specs.Image.{Contents, loaded}
+use Rattle.rv_image.specs.MemoryMap.{CODE_START, CODE_SIZE, DATA_START, DATA_END, SHADOW_START, can_store, lies_within, Profile}
+use Rattle.rv_word.specs.Memory.{Memory, placed, read, write, zeros}
 use Rattle.rv_word.specs.Same.{SameOn}
 use Rattle.rv_instr.specs.declared.instr.Instr.{Instr}
 use Rattle.rv_code.specs.Decode.{decoded}

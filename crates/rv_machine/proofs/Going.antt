@@ -1,7 +1,7 @@
 -- After an instruction that ran the run goes on, where it did before.
 use Rattle.std.proofs.Common.{◌≡◌, None, refl, sym, inl, inr}
 use Rattle.std.proofs.lemmas.Bool.{cases_Bool}
-use Rattle.rv_word.specs.MemoryMap.{Profile, can_load, can_store}
+use Rattle.rv_image.specs.MemoryMap.{Profile, can_load, can_store}
 use Rattle.rv_instr.specs.Registers.{get_reg}
 use Rattle.rv_instr.specs.declared.instr.Instr.{Instr}
 use Rattle.rv_instr.specs.declared.instr.Instr.TheVariants.{Upper, Jal, Jalr, Branch, Load, Store, Immediate, Shift, ShiftWord, Register, Fence, Ecall, Ebreak}

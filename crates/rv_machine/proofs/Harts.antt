@@ -7,7 +7,7 @@ use Rattle.std.proofs.lemmas.Option.{slice_get-get_or, slice_get_past, slice_get
 use Rattle.std.proofs.Math.ListN.{get_or-append}
 use Rattle.std.proofs.Math.Path.{fun_ext}
 use Rattle.std.proofs.Math.Seq.{get_or-append_seam}
-use Rattle.rv_word.specs.MemoryMap.{profile_of}
+use Rattle.rv_image.specs.MemoryMap.{profile_of}
 use Rattle.rv_mem.specs.Cells.{Cells}
 use Rattle.rv_sys.specs.Calls.{Calls, shared_of}
 use Rattle.rv_code.specs.Run.{RunAfter, stepped}

@@ -1,6 +1,6 @@
 -- A step where no instruction stands, and where one does.
 use Rattle.std.proofs.Common.{◌≡◌, ℕ, Bool, true, false, [], Option, Some, None, refl, sym, subst}
-use Rattle.rv_word.specs.MemoryMap.{Profile, profile_of}
+use Rattle.rv_image.specs.MemoryMap.{Profile, profile_of}
 use Rattle.rv_word.specs.Memory.{read}
 use Rattle.rv_instr.specs.declared.instr.Instr.{Instr}
 use Rattle.rv_code.specs.Decode.{decoded}

@@ -1,7 +1,7 @@
 -- The instructions of code, each word decoded before the run. Nothing writes code, so they stay those of memory.
 -- Only private contracts cite this.
 use Rattle.std.specs.Prelude.{◌≡◌, ℕ, ◌+◌, ◌*◌, ◌<◌, ◌≤◌, List, Option, Some, None, length, map, slice_get, option_and_then}
-use Rattle.rv_word.specs.MemoryMap.{CODE_START, CODE_SIZE}
+use Rattle.rv_image.specs.MemoryMap.{CODE_START, CODE_SIZE}
 use Rattle.rv_word.specs.Memory.{Memory, read}
 use Rattle.rv_instr.specs.declared.instr.Instr.{Instr}
 use Rattle.rv_instr.specs.declared.instr.Instr.TheVariants.{Ebreak}

@@ -1,6 +1,6 @@
 -- What a machine is made of, as a hart and what harts share.
 use Rattle.std.specs.Prelude.{◌≡◌, ℕ, Bool, true, false, List, Some, None}
-use Rattle.rv_word.specs.MemoryMap.{Profile, can_store}
+use Rattle.rv_image.specs.MemoryMap.{Profile, can_store}
 use Rattle.rv_word.specs.Memory.{read}
 use Rattle.rv_instr.specs.declared.instr.Instr.{Instr}
 use Rattle.rv_instr.specs.declared.instr.Instr.TheVariants.{Store, Ecall}

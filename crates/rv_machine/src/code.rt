@@ -1,7 +1,7 @@
 //! Code, decoded once.
 
 ghost use Rattle.std.specs.Prelude.{◌≡◌, ◌+◌, ◌*◌, ◌<◌, ◌≤◌, [], ℕ, Some, IfOk, IsSome, length, slice_get};
-ghost use Rattle.rv_word.specs.MemoryMap.{CODE_SIZE, CODE_START};
+ghost use Rattle.rv_image.specs.MemoryMap.{CODE_SIZE, CODE_START};
 ghost use Rattle.rv_word.specs.Memory.{read};
 ghost use Rattle.rv_mem.specs.Cells.{memory_of};
 ghost use Rattle.rv_code.specs.Decode.{decoded};
@@ -13,7 +13,7 @@ use rv_code::decode;
 use rv_instr::Instr;
 use rv_mem::Memory;
 use rv_word::NoMemory;
-use rv_word::memory_map::CODE_START;
+use rv_image::memory_map::CODE_START;
 use std::alloc::Global;
 use std::marker::Model;
 

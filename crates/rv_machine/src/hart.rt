@@ -10,7 +10,7 @@ use rv_instr::{Reg, Regs};
 use rv_mem::Memory;
 use rv_sys::{SysEnd, System};
 use rv_word::NoMemory;
-use rv_word::profile::START;
+use rv_image::profile::START;
 use std::alloc::Global;
 use std::marker::Model;
 

@@ -1,5 +1,5 @@
 ghost use Rattle.std.specs.Prelude.{◌≡◌, ◌+◌, ◌*◌, ◌<◌, ◌≤◌, [], ◌∷◌, is_some, length, None, IfOk, IfSome, OnOk, OnErr, IsTrue};
-ghost use Rattle.rv_word.specs.MemoryMap.{can_store, profile_of, CODE_START};
+ghost use Rattle.rv_image.specs.MemoryMap.{can_store, profile_of, CODE_START};
 ghost use Rattle.rv_instr.specs.Registers.{get_reg};
 ghost use Rattle.rv_code.specs.Run.{disturbed, stepped};
 ghost use Rattle.rv_code.specs.State.{last_exit, start_hart, start_shared};
@@ -16,7 +16,8 @@ use rv_code::{Events, Turn};
 use rv_instr::Reg;
 use rv_mem::{Change, Memory};
 use rv_sys::System;
-use rv_word::{Bytes, Image, NoMemory};
+use rv_image::Image;
+use rv_word::{Bytes, NoMemory};
 use std::alloc::Global;
 use std::marker::Model;
 

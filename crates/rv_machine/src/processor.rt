@@ -1,6 +1,6 @@
 ghost use Rattle.std.specs.Prelude.{◌≡◌, ◌+◌, ◌*◌, ◌/◌, ◌<◌, ◌≤◌, ◌^◌, ◌↔◌, [], ◌∷◌, is_some, length, true, false, ℕ, None, IfOk, IfSome, IsSome, IsErr, IsErrAnd, IsErrOf, OnOk, OnErr, IsTrue};
 ghost use Rattle.rv_word.specs.End.{IsFault};
-ghost use Rattle.rv_word.specs.MemoryMap.{can_load, can_store, profile_of, CODE_START, DATA_START, DATA_END};
+ghost use Rattle.rv_image.specs.MemoryMap.{can_load, can_store, profile_of, CODE_START, DATA_START, DATA_END};
 ghost use Rattle.rv_word.specs.Memory.{placed, read, write, zeros};
 ghost use Rattle.rv_instr.specs.Registers.{get_reg, set_reg};
 ghost use Rattle.rv_code.specs.Arithmetic.{load_result, load_size, store_size};
@@ -25,8 +25,9 @@ use rv_instr::{
 };
 use rv_mem::{Change, LoadFault, Memory, StoreFault};
 use rv_sys::{SysEnd, System};
-use rv_word::memory_map::{CODE_SIZE, CODE_START};
-use rv_word::{Bytes, End, Image, ImageVersion, NoMemory, sext};
+use rv_image::memory_map::{CODE_SIZE, CODE_START};
+use rv_image::{Image, ImageVersion};
+use rv_word::{Bytes, End, NoMemory, sext};
 use std::alloc::Global;
 use std::marker::Model;
 use std::mem;

@@ -4,10 +4,10 @@ use Rattle.std.proofs.lemmas.Bool.{cases_lt, and_parts}
 use Rattle.std.proofs.lemmas.Bool.Decides.{nat_tests}
 use Rattle.std.proofs.lemmas.List.{get_or_past, get_or-drop}
 use Rattle.std.proofs.Math.Path.{fun_ext}
-use Rattle.rv_word.specs.declared.version.ImageVersion.{ImageVersion}
-use Rattle.rv_word.specs.MemoryMap.{CODE_START, CODE_SIZE, DATA_START, DATA_END, lies_within, can_store, profile_of}
+use Rattle.rv_image.specs.declared.version.ImageVersion.{ImageVersion}
+use Rattle.rv_image.specs.MemoryMap.{CODE_START, CODE_SIZE, DATA_START, DATA_END, lies_within, can_store, profile_of}
 use Rattle.rv_word.specs.Memory.{Memory, placed, read, zeros}
-use Rattle.rv_word.proofs.Profiles.{is_profile, laid_out}
+use Rattle.rv_image.proofs.Profiles.{is_profile, laid_out}
 use Rattle.rv_mem.specs.Cells.{Cells, memory_of, has_room, HasRoom, AreBytes, IsWhole, is_paged, place_of, with_byte}
 use Rattle.rv_mem.specs.Pages.{PAGE_SIZE, Paged, AreMade, byte_of, bytes_in, is_made, page_of}
 

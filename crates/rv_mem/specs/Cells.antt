@@ -1,7 +1,7 @@
 -- How memory is kept, and what it holds at each address.
 use Rattle.std.specs.Prelude.{ℕ, ◌+◌, ◌-◌, ◌/◌, ◌≤◌, ◌<◌, ◌^◌, ◌==◌, nat_lt, Bool, ◌||◌, ◌&&◌, if◌then◌else◌, List, slice_index, length, IsTrue}
-use Rattle.rv_word.specs.declared.version.ImageVersion.{ImageVersion}
-use Rattle.rv_word.specs.MemoryMap.{DATA_END, CODE_START, CODE_SIZE, SHADOW_START, lies_within, profile_of}
+use Rattle.rv_image.specs.declared.version.ImageVersion.{ImageVersion}
+use Rattle.rv_image.specs.MemoryMap.{DATA_END, CODE_START, CODE_SIZE, SHADOW_START, lies_within, profile_of}
 use Rattle.rv_word.specs.Memory.{Memory}
 use Rattle.rv_mem.specs.Pages.{PAGE_SIZE, Paged, byte_of, is_made}
 

@@ -1,7 +1,7 @@
 -- Bytes that are kept in pages, each made of zeros at the first write to it.
 use Rattle.std.specs.Prelude.{◌≡◌, ℕ, ◌+◌, ◌-◌, ◌/◌, ◌%◌, ◌≤◌, ◌<◌, ◌==◌, nat_lt, Bool, if◌then◌else◌, List, [], slice_index, slice_index_or, length, IsTrue}
 use Rattle.std.specs.List.{sum_by}
-use Rattle.rv_word.specs.MemoryMap.{DATA_END, version_2}
+use Rattle.rv_image.specs.MemoryMap.{DATA_END, version_2}
 use Rattle.rv_word.specs.Memory.{Memory}
 use Rattle.rv_mem.specs.declared.page.TheConstants as page
 

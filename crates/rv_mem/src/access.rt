@@ -1,11 +1,11 @@
 //! Which addresses may be read and written.
 
 ghost use Rattle.std.specs.Prelude.{◌≡◌, ◌≤◌, ◌+◌, ◌<◌, ◌^◌};
-ghost use Rattle.rv_word.specs.MemoryMap.{can_load, can_store, lies_within, profile_of, region_of};
+ghost use Rattle.rv_image.specs.MemoryMap.{can_load, can_store, lies_within, profile_of, region_of};
 ghost use Rattle.rv_mem.specs.Cells.{is_paged};
 
-use rv_word::memory_map::{CODE_SIZE, CODE_START, CODE_TAIL, DATA_END, SHADOW_START};
-use rv_word::{ImageVersion, Region};
+use rv_image::memory_map::{CODE_SIZE, CODE_START, CODE_TAIL, DATA_END, SHADOW_START};
+use rv_image::{ImageVersion, Region};
 
 /// Whether the `n` bytes from `addr` on lie whole in the `size` bytes from `start` on.
 pub(crate) fn is_within(start: u64, size: u64, addr: u64, n: u64) -> bool

@@ -1,7 +1,7 @@
 ghost use Rattle.std.specs.Prelude.{◌≡◌, ◌<◌, ◌^◌, ◌↔◌, IfSome, IsSome};
-ghost use Rattle.rv_word.specs.MemoryMap.{DATA_END};
+ghost use Rattle.rv_image.specs.MemoryMap.{DATA_END};
 
-use rv_word::memory_map::DATA_END;
+use rv_image::memory_map::DATA_END;
 use std::marker::Model;
 
 /// A data byte that is changed from outside: its address and what it becomes.
@@ -13,7 +13,7 @@ pub struct Change {
 
 impl Model for Change {
     ghost use Rattle.std.specs.Prelude.{ℕ, ◌<◌};
-    ghost use Rattle.rv_word.specs.MemoryMap.{DATA_END};
+    ghost use Rattle.rv_image.specs.MemoryMap.{DATA_END};
 
     ghost Value = { ℕ × ℕ };
 

@@ -1,8 +1,9 @@
 ghost use Rattle.std.specs.Prelude.{◌≡◌, ℕ, ◌+◌, ◌%◌, ◌≤◌, ◌<◌, ◌^◌, ◌↔◌, nat_le, IfOk, OnOk, OnErr, IsErr, IsErrAnd, IsErrOf, IsTrue, true, false, length, Result, slice_index};
-ghost use Rattle.rv_word.specs.MemoryMap.{can_load, can_store, profile_of, DATA_START, DATA_END, CODE_START, CODE_SIZE};
+ghost use Rattle.rv_image.specs.MemoryMap.{can_load, can_store, profile_of, DATA_START, DATA_END, CODE_START, CODE_SIZE};
 ghost use Rattle.rv_word.specs.End.{IsFault};
-ghost use Rattle.rv_word.specs.Memory.{placed, read, write, zeros, loaded};
-ghost use Rattle.rv_word.specs.declared.version.ImageVersion.TheVariants.{OneHart};
+ghost use Rattle.rv_word.specs.Memory.{placed, read, write, zeros};
+ghost use Rattle.rv_image.specs.Image.{loaded};
+ghost use Rattle.rv_image.specs.declared.version.ImageVersion.TheVariants.{OneHart};
 ghost use Rattle.rv_mem.specs.Access.{IsAccessSize};
 ghost use Rattle.rv_mem.specs.Cells.{memory_of, has_room, HasRoom, with_byte, AreBytes, place_of};
 ghost use Rattle.rv_mem.specs.Pages.{PAGE_SIZE};
@@ -13,8 +14,9 @@ use crate::fault::{LoadFault, StoreFault};
 use crate::little_endian::{double_word_at, half_word_at, rest, word_at};
 use crate::page::PAGE_SIZE;
 use crate::pages::Pages;
-use rv_word::memory_map::{CODE_SIZE, CODE_START, DATA_END, DATA_START, SHADOW_START};
-use rv_word::{End, Image, ImageVersion, NoMemory};
+use rv_image::memory_map::{CODE_SIZE, CODE_START, DATA_END, DATA_START, SHADOW_START};
+use rv_image::{Image, ImageVersion};
+use rv_word::{End, NoMemory};
 use std::alloc::Global;
 use std::marker::Model;
 

@@ -4,8 +4,8 @@ ghost use Rattle.rv_mem.specs.Pages.{PAGE_COUNT, PAGE_SIZE, AreMade, byte_of, en
 
 use crate::page::{PAGE_SIZE, Page};
 use rv_word::NoMemory;
-use rv_word::memory_map::DATA_END;
-use rv_word::profile::SHADOW_SIZE_OF_HARTS;
+use rv_image::memory_map::DATA_END;
+use rv_image::profile::SHADOW_SIZE_OF_HARTS;
 use std::alloc::Global;
 use std::marker::Model;
 

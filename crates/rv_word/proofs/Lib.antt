@@ -3,5 +3,4 @@ pub mod Arrays
 pub mod Cases
 pub mod Products
 pub mod Division
-pub mod Profiles
 pub mod SameNumbers

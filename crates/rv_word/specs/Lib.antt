@@ -1,11 +1,7 @@
 pub mod Bits
-pub mod MemoryMap
 pub mod End
-pub mod Version
-pub mod Form
 pub mod Numbers
 pub mod Memory
-pub mod Image
 pub mod Same
 pub mod Multiply
 pub mod Divide

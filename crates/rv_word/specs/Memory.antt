@@ -1,7 +1,5 @@
 -- Memory as a function from addresses to bytes, little-endian reads and writes.
 use Rattle.std.specs.Prelude.{ℕ, zero, suc, ◌+◌, ◌-◌, ◌*◌, ◌/◌, ◌%◌, ◌^◌, nat_lt, nat_le, ◌&&◌, if◌then◌else◌, List, slice_index, length}
-use Rattle.rv_word.specs.MemoryMap.{CODE_START, DATA_START}
-use Rattle.rv_word.specs.Image.{Contents}
 
 abbrev pub Memory : Type 0
 Memory = ℕ → ℕ
@@ -22,7 +20,3 @@ placed m a bytes = λ k. if nat_le a k && nat_lt k (a + length bytes) then slice
 -- a memory of zeros
 abbrev pub zeros : Memory
 zeros = λ k. 0
-
--- the memory in which a run of an image starts
-unfoldable pub loaded : Contents → Memory
-loaded image = placed (placed zeros DATA_START image.init) CODE_START image.code

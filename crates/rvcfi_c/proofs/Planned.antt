@@ -1,8 +1,8 @@
 -- Where the parts of an image stand in its file.
 use Rattle.std.proofs.Common.{◌≡◌, ℕ, ◌+◌, ◌-◌, ◌≤◌, List, length, take, drop, ap, ◌∙◌, arith}
 use Rattle.std.proofs.Math.Seq.{take-length}
-use Rattle.rv_word.specs.declared.version.ImageVersion.{ImageVersion}
-use Rattle.rv_word.specs.Image.{IsImageSize}
+use Rattle.rv_image.specs.declared.version.ImageVersion.{ImageVersion}
+use Rattle.rv_image.specs.Image.{IsImageSize}
 use Rattle.elf_image.specs.Header.{data_start}
 use Rattle.elf_image.specs.Spelling.{spelling}
 use Rattle.elf_image.proofs.Only.{read_as}

@@ -1,6 +1,6 @@
 -- What the library answers of two texts.
 use Rattle.std.specs.Prelude.{◌≡◌, ◌⊎◌, ℕ, List, Some, Result, Ok, Err}
-use Rattle.rv_word.specs.Image.{Contents}
+use Rattle.rv_image.specs.Image.{Contents}
 use Rattle.elf_image.specs.Fault.{fault_of}
 use Rattle.elf_image.specs.declared.refusal.ImageRefusal.{ImageRefusal}
 use Rattle.cfi_graph.specs.Graph.{GraphParts}

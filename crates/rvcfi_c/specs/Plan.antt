@@ -1,8 +1,8 @@
 -- What a loader maps of an image.
 use Rattle.std.specs.Prelude.{◌≡◌, ℕ, ◌+◌, List, length, take, drop}
-use Rattle.rv_word.specs.Image.{Contents, IsImageSize}
-use Rattle.rv_word.specs.MemoryMap.{CODE_SIZE, CODE_START, DATA_END, DATA_START, SHADOW_START, START, profile_of}
-use Rattle.rv_word.specs.Version.{image_number}
+use Rattle.rv_image.specs.Image.{Contents, IsImageSize}
+use Rattle.rv_image.specs.MemoryMap.{CODE_SIZE, CODE_START, DATA_END, DATA_START, SHADOW_START, START, profile_of}
+use Rattle.rv_image.specs.Version.{image_number}
 use Rattle.elf_image.specs.Spelling.{spelling}
 use Rattle.rvcfi_c.specs.declared.plan.RvcfiPlan.{RvcfiPlan}
 

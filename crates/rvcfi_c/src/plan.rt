@@ -1,12 +1,12 @@
 ghost use Rattle.std.specs.Prelude.{◌≡◌, Some, None, IfOk, IfErr};
 ghost use Rattle.elf_image.specs.Fault.{fault_of};
-ghost use Rattle.rv_word.specs.MemoryMap.{profile_of};
+ghost use Rattle.rv_image.specs.MemoryMap.{profile_of};
 ghost use Rattle.rvcfi_c.specs.Plan.{IsPlanOf};
 
 use elf_image::{ImageRefusal, read_image};
-use rv_word::ImageVersion;
-use rv_word::memory_map::{CODE_SIZE, CODE_START, DATA_END, DATA_START, SHADOW_START};
-use rv_word::profile::{MOST_HARTS, START};
+use rv_image::ImageVersion;
+use rv_image::memory_map::{CODE_SIZE, CODE_START, DATA_END, DATA_START, SHADOW_START};
+use rv_image::profile::{MOST_HARTS, START};
 
 /// Where the code begins in each file of an image.
 const CODE_OFFSET: u64 = 0x1000;

@@ -1,8 +1,8 @@
 -- What the library tells C of a run: the numbers of what it comes to, and what it wrote.
 use Rattle.std.specs.Prelude.{◌≡◌, ◌⊎◌, ℕ, List, [], ◌∷◌, Option, None, Some, Result, Ok, Err, length}
-use Rattle.rv_word.specs.declared.version.ImageVersion.{ImageVersion}
-use Rattle.rv_word.specs.Image.{Contents, image_profile}
-use Rattle.rv_word.specs.MemoryMap.{MayRun}
+use Rattle.rv_image.specs.declared.version.ImageVersion.{ImageVersion}
+use Rattle.rv_image.specs.Image.{Contents, image_profile}
+use Rattle.rv_image.specs.MemoryMap.{MayRun}
 use Rattle.cfi_graph.specs.Graph.{GraphParts}
 use Rattle.cfi_rules.specs.Rules.{IsWellFormed, pair_profile}
 use Rattle.cfi_script.specs.Script.{ScriptParts}

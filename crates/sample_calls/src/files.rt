@@ -1,5 +1,6 @@
 use elf_image::write_image_as;
-use rv_word::{ImageVersion, NoMemory};
+use rv_image::ImageVersion;
+use rv_word::NoMemory;
 use sample_programs::{code, code_of_harts};
 use std::alloc::Global;
 use tool_io::MemFiles;

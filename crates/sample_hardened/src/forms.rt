@@ -1,5 +1,5 @@
 use crate::given::{Given, put};
-use rv_word::Form;
+use rv_image::Form;
 use sample_programs::{PROLOGUE, PROLOGUE_OF_HARTS, add_words};
 use std::alloc::{AllocError, Global};
 

@@ -4,7 +4,7 @@
 
 use crate::given::Objects;
 use crate::worked::Run;
-use rv_word::Form;
+use rv_image::Form;
 
 pub(crate) static FIRST: &[u8] = b"\
     7f454c460201010000000000000000000100f3000100000000000000000000000000000000000000c0050000000000\

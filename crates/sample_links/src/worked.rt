@@ -2,7 +2,7 @@
 //! as tests/objects/make_links.py at the top of the repository prints them.
 
 use crate::given::Objects;
-use rv_word::Form;
+use rv_image::Form;
 
 /// How a run by one hart ends: its steps, the length of its walk and its exit.
 #[derive(Clone, Copy)]

@@ -1,8 +1,8 @@
 //! Reports of runs of programs, and when two are the same.
 
 ghost use Rattle.std.specs.Prelude.{◌≡◌, IfSome, IsTrue};
-ghost use Rattle.rv_word.specs.Image.{image_profile};
-ghost use Rattle.rv_word.specs.MemoryMap.{MayRun, profile_of};
+ghost use Rattle.rv_image.specs.Image.{image_profile};
+ghost use Rattle.rv_image.specs.MemoryMap.{MayRun, profile_of};
 ghost use Rattle.cfi_script.specs.Script.{IsScript};
 
 use cfi_graph::{Graph, read_graph};
@@ -10,7 +10,7 @@ use cfi_script::{Meddler, Script};
 use cfi_step::{HartWalk, RunReport, run};
 use cfi_verify::{Checked, verify};
 use rv_code::{Event, Events};
-use rv_word::{Image, ImageVersion};
+use rv_image::{Image, ImageVersion};
 use sample_programs::{code, code_of_harts};
 use std::alloc::Global;
 

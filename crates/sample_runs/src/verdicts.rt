@@ -2,7 +2,8 @@
 
 use cfi_graph::Graph;
 use cfi_verify::verify;
-use rv_word::{End, Image, ImageVersion};
+use rv_image::{Image, ImageVersion};
+use rv_word::End;
 use sample_programs::is_told_as;
 use std::alloc::Global;
 

@@ -1,7 +1,7 @@
 //! How a run of a source machine ends, as text: the calls it made, its end or the reason against its next step, and its steps.
 ghost use Rattle.std.specs.Prelude.{◌≡◌, ◌+◌, ◌≤◌, true, is_some, IfSome};
-ghost use Rattle.rv_word.specs.Form.{graph_version};
-ghost use Rattle.rv_word.specs.MemoryMap.{DATA_END, DATA_START};
+ghost use Rattle.rv_image.specs.Form.{graph_version};
+ghost use Rattle.rv_image.specs.MemoryMap.{DATA_END, DATA_START};
 ghost use Rattle.obj_program.specs.DataAtMap.{init_size};
 ghost use Rattle.cfi_flow.specs.Policy.{instruction_at};
 
@@ -10,7 +10,8 @@ use cfi_flow::{close, entry_place, raw_graph};
 use cfi_map_text::{Map, read_map};
 use cfi_policy::{Policy, read_policy};
 use obj_program::Items;
-use rv_word::{End, Form};
+use rv_image::Form;
+use rv_word::End;
 use src_machine::{Reason, SourceFault, SourceRun, SourceTurn};
 use std::alloc::{AllocError, Global};
 

@@ -7,9 +7,9 @@ use Rattle.std.proofs.Math.Seq.{get_or-append_seam}
 use Rattle.std.proofs.lemmas.Bool.{and_parts, cases_lt, ltb-true}
 use Rattle.std.proofs.lemmas.List.{get_or_append_left}
 use Rattle.rv_word.specs.Memory.{placed, zeros}
-use Rattle.rv_word.specs.Form.{profile_for}
-use Rattle.rv_word.specs.MemoryMap.{CODE_SIZE, CODE_START, DATA_START}
-use Rattle.rv_word.specs.declared.form.Form.{Form}
+use Rattle.rv_image.specs.Form.{profile_for}
+use Rattle.rv_image.specs.MemoryMap.{CODE_SIZE, CODE_START, DATA_START}
+use Rattle.rv_image.specs.declared.form.Form.{Form}
 use Rattle.rv_instr.specs.Registers.{cleared, set_reg}
 use Rattle.cfi_map_text.specs.declared.map.MapLine.{MapLine}
 use Rattle.cfi_map_text.specs.Map.{IsMap, MapParts, is_gate, map_line_in_range}

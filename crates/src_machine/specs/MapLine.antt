@@ -1,7 +1,7 @@
 -- Whether a line of a map follows from the lines before it. Only private contracts cite this: that it tells legal maps is proved.
 use Rattle.std.specs.Prelude.{ℕ, ◌+◌, ◌-◌, nat_le, nat_lt, Bool, true, false, not, ◌==◌, ◌&&◌, ◌||◌, if◌then◌else◌, List, length, slice_index_or}
-use Rattle.rv_word.specs.Form.{profile_for}
-use Rattle.rv_word.specs.declared.form.Form.{Form}
+use Rattle.rv_image.specs.Form.{profile_for}
+use Rattle.rv_image.specs.declared.form.Form.{Form}
 use Rattle.cfi_map_text.specs.declared.map.MapLine.{MapLine}
 use Rattle.obj_input.specs.declared.item_kind.ItemKind.{ItemKind}
 use Rattle.obj_program.specs.declared.item.Item.{Item}

@@ -1,8 +1,8 @@
 //! A program at a map, made ready to run.
 
 ghost use Rattle.std.specs.Prelude.{◌≡◌, ◌<◌, ◌≤◌, ◌+◌, ◌^◌, ℕ, List, None, Some, true, false, IfOk, IfErr, MatchResult, is_some, length, slice_index};
-ghost use Rattle.rv_word.specs.Form.{graph_version};
-ghost use Rattle.rv_word.specs.MemoryMap.{DATA_END, DATA_START, profile_of};
+ghost use Rattle.rv_image.specs.Form.{graph_version};
+ghost use Rattle.rv_image.specs.MemoryMap.{DATA_END, DATA_START, profile_of};
 ghost use Rattle.rv_code.specs.SameMachine.{IsSameMachine};
 ghost use Rattle.rv_code.specs.Decode.{decoded};
 ghost use Rattle.obj_program.specs.DataAtMap.{init_size};

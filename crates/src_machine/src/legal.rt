@@ -14,7 +14,8 @@ use cfi_map::{Grouping, unit_size};
 use cfi_map_text::{Map, MapLine};
 use obj_input::ItemKind;
 use obj_program::Item;
-use rv_word::{End, Form};
+use rv_image::Form;
+use rv_word::End;
 use std::alloc::Global;
 
 /// Whether an address is so many bytes behind another.

@@ -1,5 +1,5 @@
 ghost use Rattle.std.specs.Prelude.{◌≡◌, ◌<◌, ◌≤◌, ◌^◌, true, false, IfOk, IfSome, Some, is_some, length, option_and_then, slice_index};
-ghost use Rattle.rv_word.specs.Form.{graph_version, profile_for};
+ghost use Rattle.rv_image.specs.Form.{graph_version, profile_for};
 ghost use Rattle.obj_program.specs.DataAtMap.{data_at, init_size};
 ghost use Rattle.obj_program.specs.MapFit.{EndsLast};
 ghost use Rattle.obj_program.specs.Program.{count, is_end, item_of};
@@ -13,7 +13,8 @@ use cfi_map::Mapped;
 use obj_program::Item;
 use rv_code::decode;
 use rv_instr::Instr;
-use rv_word::{Form, GraphVersion, NoMemory, Numbers};
+use rv_image::{Form, GraphVersion};
+use rv_word::{NoMemory, Numbers};
 use std::alloc::Global;
 use std::marker::Model;
 

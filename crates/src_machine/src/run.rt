@@ -1,5 +1,5 @@
 ghost use Rattle.std.specs.Prelude.{◌≡◌, ◌<◌, ◌≤◌, ◌+◌, ◌^◌, IfOk, OnErr, length};
-ghost use Rattle.rv_word.specs.Form.{graph_version, profile_for};
+ghost use Rattle.rv_image.specs.Form.{graph_version, profile_for};
 ghost use Rattle.rv_machine.specs.Parts.{shared_in};
 ghost use Rattle.src_machine.specs.Running.{IsStep, IsUnchanged, counted};
 
@@ -8,7 +8,8 @@ use crate::state::State;
 use crate::step::step;
 use crate::turn::SourceTurn;
 use rv_machine::Processor;
-use rv_word::{Form, NoMemory};
+use rv_image::Form;
+use rv_word::NoMemory;
 use std::marker::Model;
 
 /// A run of a program at a legal map, as the standard says its instructions run.
@@ -21,7 +22,7 @@ pub struct SourceRun<'a, 'b> {
 
 impl<'a, 'b> Model for SourceRun<'a, 'b> {
     ghost use Rattle.std.specs.Prelude.{◌≡◌};
-    ghost use Rattle.rv_word.specs.MemoryMap.{profile_of};
+    ghost use Rattle.rv_image.specs.MemoryMap.{profile_of};
     ghost use Rattle.rv_code.specs.SameMachine.{IsSameMachine};
     ghost use Rattle.obj_program.specs.Program.{count};
     ghost use Rattle.src_machine.specs.Running.{SourceParts};

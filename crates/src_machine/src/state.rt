@@ -1,6 +1,6 @@
 ghost use Rattle.std.specs.Prelude.{◌≡◌, ◌+◌, ◌^◌, ◌<◌, ◌∷◌, ◌≤◌, [], IfOk, OnOk, OnErr, None, Some, length, slice_get};
-ghost use Rattle.rv_word.specs.MemoryMap.{DATA_END, DATA_START, profile_of};
-ghost use Rattle.rv_word.specs.Form.{image_version, profile_for};
+ghost use Rattle.rv_image.specs.MemoryMap.{DATA_END, DATA_START, profile_of};
+ghost use Rattle.rv_image.specs.Form.{image_version, profile_for};
 ghost use Rattle.rv_word.specs.Memory.{placed, zeros};
 ghost use Rattle.rv_instr.specs.Registers.{cleared, get_reg, set_reg};
 ghost use Rattle.rv_code.specs.Step.{exec};
@@ -13,7 +13,8 @@ ghost use Rattle.cfi_map.specs.GraphAtMap.{ProgramAtMap};
 use rv_code::immediate_value;
 use rv_instr::{Immediate, Instr, Reg};
 use rv_machine::{Processor, Turn};
-use rv_word::{Form, NoMemory};
+use rv_image::Form;
+use rv_word::NoMemory;
 use std::alloc::Global;
 use std::marker::Model;
 

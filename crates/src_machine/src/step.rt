@@ -1,6 +1,6 @@
 ghost use Rattle.std.specs.Prelude.{◌≡◌, ◌<◌, ◌+◌, ◌^◌, false, ℕ, IfOk, OnErr, unwrap_or};
 ghost use Rattle.std.specs.List.{All};
-ghost use Rattle.rv_word.specs.MemoryMap.{profile_of};
+ghost use Rattle.rv_image.specs.MemoryMap.{profile_of};
 ghost use Rattle.rv_code.specs.SameMachine.{IsSameMachine};
 ghost use Rattle.obj_program.specs.Program.{Program, count, is_end, item_of};
 ghost use Rattle.src_machine.specs.State.{IsInside, Leaves, source_in};

@@ -5,7 +5,7 @@ use crate::told::told;
 use elf_object::Object;
 use obj_items::items;
 use obj_program::Items;
-use rv_word::Form;
+use rv_image::Form;
 use std::alloc::Global;
 
 /// A table of programs, and how many there are.

@@ -12,7 +12,8 @@ use cfi_graph::SiteKind;
 use cfi_leads::Leads;
 use cfi_policy::{Policy, read_policy};
 use obj_program::Items;
-use rv_word::{End, Form, GraphVersion};
+use rv_image::{Form, GraphVersion};
+use rv_word::End;
 use std::alloc::{AllocError, Global};
 use std::fmt::Write;
 

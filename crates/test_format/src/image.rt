@@ -2,7 +2,8 @@ ghost use Rattle.std.specs.Prelude.{◌≡◌, length};
 
 use crate::common::put;
 use elf_image::{ImageRefusal, read_image, write_image, write_image_as};
-use rv_word::{Image, ImageVersion, NoMemory};
+use rv_image::{Image, ImageVersion};
+use rv_word::NoMemory;
 use sample_programs::{A, code, is_told_as};
 use std::alloc::Global;
 

@@ -2,7 +2,7 @@
 
 use cfi_graph::Graph;
 use cfi_verify::Checked;
-use rv_word::ImageVersion;
+use rv_image::ImageVersion;
 use sample_programs::{PROLOGUE, PROLOGUE_OF_HARTS};
 use sample_runs::{code_with, is_code_told, walks_so};
 use std::alloc::Global;

@@ -7,7 +7,7 @@ use crate::ended::{Ended, ends_alone, ends_in_turns};
 use cfi_graph::{Graph, read_graph};
 use cfi_step::{Handler, RunEnd};
 use cfi_verify::verify;
-use rv_word::{Image, ImageVersion};
+use rv_image::{Image, ImageVersion};
 use sample_programs::{A, BREAK};
 use sample_runs::Program;
 use std::alloc::Global;

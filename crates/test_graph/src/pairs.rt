@@ -3,8 +3,8 @@
 
 use crate::answered::{Words, is_answered};
 use cfi_graph::{Graph, read_graph};
-use rv_word::ImageVersion;
-use rv_word::ImageVersion::{EightHarts, OneHart};
+use rv_image::ImageVersion;
+use rv_image::ImageVersion::{EightHarts, OneHart};
 use sample_programs::{
     A, A_GRAPH, A_OF_HARTS, APART, APART_GRAPH, APART_OF_HARTS, APART_OF_HARTS_GRAPH, JOBS,
     JOBS_GRAPH, JOINED, JOINED_GRAPH, JUMP, JUMP_GRAPH, P, Q, Q_GRAPH, Q_OF_HARTS,

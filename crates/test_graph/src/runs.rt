@@ -3,7 +3,7 @@
 
 use crate::ended::{Ended, ends_alone, ends_in_turns, has_ended};
 use cfi_step::{Handler, Hostile, RunEnd};
-use rv_word::ImageVersion;
+use rv_image::ImageVersion;
 use sample_programs::{
     APART, APART_DATA, APART_GRAPH, APART_OF_HARTS, APART_OF_HARTS_DATA, APART_OF_HARTS_GRAPH,
     JOINED, JOINED_DATA, JOINED_GRAPH, Q, Q_DATA, Q_GRAPH, Q_OF_HARTS, Q_OF_HARTS_DATA,

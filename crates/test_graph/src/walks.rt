@@ -5,7 +5,7 @@ use crate::answered::{Went, are_walked, code_of};
 use cfi_graph::{Graph, SiteKind, read_graph};
 use cfi_unit::TargetWord;
 use cfi_verify::{Asks, Checked, verify};
-use rv_word::{Image, ImageVersion};
+use rv_image::{Image, ImageVersion};
 use sample_programs::{
     APART, APART_GRAPH, APART_OF_HARTS, APART_OF_HARTS_GRAPH, JOINED, JOINED_GRAPH, Q, Q_GRAPH,
     Q_OF_HARTS, Q_OF_HARTS_GRAPH,

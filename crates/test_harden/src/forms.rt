@@ -1,7 +1,8 @@
 //! What `rewrite` and `harden` put and write in each form, byte for byte, and that it is accepted: the objects and what they become
 //! are those of `sample_hardened`.
 
-use rv_word::{Form, NoMemory};
+use rv_image::Form;
+use rv_word::NoMemory;
 use sample_calls::{answers, image_as};
 use sample_hardened::{
     Program, code_in, data_in, file, graph_in, hardened_programs, listed_programs, map_in,

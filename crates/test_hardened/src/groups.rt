@@ -6,7 +6,7 @@ ghost use Rattle.cfi_script.specs.Script.{IsScript};
 
 use cfi_script::Script;
 use cfi_step::{Hostile, RunEnd, RunReport};
-use rv_word::ImageVersion;
+use rv_image::ImageVersion;
 use sample_programs::{GROUPS, GROUPS_DATA, GROUPS_GRAPH};
 use sample_runs::{Program, is_same_again, report};
 use std::alloc::Global;

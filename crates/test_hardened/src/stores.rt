@@ -4,7 +4,8 @@ use cfi_emit::recognise;
 use cfi_graph::{Graph, read_graph};
 use cfi_unit::Unit;
 use cfi_verify::{Reject, Rule, verify};
-use rv_word::{End, Image};
+use rv_image::Image;
+use rv_word::End;
 use sample_programs::{STORES, code};
 use std::alloc::Global;
 

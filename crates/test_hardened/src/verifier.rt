@@ -3,7 +3,8 @@ ghost use Rattle.std.specs.Prelude.{◌≡◌, length};
 use cfi_graph::{Graph, SiteKind, read_graph};
 use cfi_unit::{TargetWord, Unit};
 use cfi_verify::{Asks, Checked, Place, Reject, Rule, verify};
-use rv_word::{End, Image};
+use rv_image::Image;
+use rv_word::End;
 use sample_programs::{B, B_GRAPH, code};
 use std::alloc::Global;
 

@@ -2,7 +2,7 @@ ghost use Rattle.std.specs.Prelude.{◌≡◌, length};
 
 use cfi_graph::{Graph, read_graph};
 use cfi_verify::{Checked, verify};
-use rv_word::Image;
+use rv_image::Image;
 use sample_programs::{P, P_GRAPH, code};
 use sample_runs::{Step, walks_along, walks_so};
 use std::alloc::Global;

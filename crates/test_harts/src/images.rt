@@ -4,8 +4,8 @@
 use cfi_graph::{Graph, read_graph};
 use cfi_unit::{SystemOp, Unit};
 use cfi_verify::{Checked, Place, verify};
-use rv_word::ImageVersion::{EightHarts, OneHart};
-use rv_word::{Image, ImageVersion};
+use rv_image::ImageVersion::{EightHarts, OneHart};
+use rv_image::{Image, ImageVersion};
 use sample_programs::{
     A, A_GRAPH, A_OF_HARTS, A_OF_HARTS_GRAPH, JOBS, JOBS_GRAPH, PROLOGUE, PROLOGUE_OF_HARTS,
     SHARED, SHARED_GRAPH,

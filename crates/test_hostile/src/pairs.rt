@@ -1,6 +1,7 @@
 //! Pairs of an image and a graph, and the line that is printed of each.
 
-use rv_word::{ImageVersion, NoMemory};
+use rv_image::ImageVersion;
+use rv_word::NoMemory;
 use sample_calls::{answers, image_as, image_of, image_of_harts, put};
 use sample_programs::{
     A, A_CLASS_GRAPH, A_GRAPH, A_OF_HARTS, A_OF_HARTS_GRAPH, B, B_GRAPH, GROUPS, GROUPS_GRAPH,

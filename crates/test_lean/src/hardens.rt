@@ -3,7 +3,8 @@
 
 use crate::pairs::image_with;
 use crate::samples::{CALLS_BY_POINTER_DATA, CALLS_LEAF_DATA, JUMPS_BY_POINTER_DATA, Program};
-use rv_word::{ImageVersion, NoMemory};
+use rv_image::ImageVersion;
+use rv_word::NoMemory;
 use sample_calls::{Given, Source, add_object, add_texts, first_wrong};
 use std::alloc::Global;
 use std::process::Abort;

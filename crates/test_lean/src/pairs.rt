@@ -1,7 +1,8 @@
 //! Pairs of a lean image and a graph, and the line that is printed of each.
 
 use crate::samples::Program;
-use rv_word::{ImageVersion, NoMemory};
+use rv_image::ImageVersion;
+use rv_word::NoMemory;
 use sample_calls::{answers, image_as, put};
 use sample_programs::add_words;
 use std::alloc::Global;

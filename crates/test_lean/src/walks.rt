@@ -3,7 +3,7 @@
 use crate::samples::Program;
 use cfi_graph::read_graph;
 use cfi_verify::{Checked, verify};
-use rv_word::{Image, ImageVersion};
+use rv_image::{Image, ImageVersion};
 use sample_runs::{Step, code_with, walks_along, walks_so};
 use std::alloc::Global;
 

@@ -6,7 +6,7 @@ use cfi_rewrite::rewrite_joined;
 use elf_bytes::{bytes_at, u16_at, u64_at};
 use obj_items::Join;
 use obj_program::Items;
-use rv_word::Form;
+use rv_image::Form;
 use sample_hardened::put;
 use sample_links::file;
 use std::alloc::Global;

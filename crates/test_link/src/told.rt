@@ -10,8 +10,9 @@ use obj_input::ItemKind;
 use obj_items::Join;
 use obj_program::Items;
 use refusals::Refusal;
-use rv_word::memory_map::CODE_START;
-use rv_word::{End, Form, Image};
+use rv_image::memory_map::CODE_START;
+use rv_image::{Form, Image};
+use rv_word::End;
 use std::alloc::{AllocError, Global};
 use std::fmt::Write;
 

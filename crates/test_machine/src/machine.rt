@@ -4,7 +4,7 @@ use crate::steps::{LOADS, STEPS, TESTED, code, numbers};
 use rv_instr::Reg;
 use rv_machine::{Change, Machine, Turn};
 use rv_sys::{Event, System};
-use rv_word::{Image, ImageVersion};
+use rv_image::{Image, ImageVersion};
 use sample_programs::numbers::{number, rows, word};
 use std::alloc::Global;
 

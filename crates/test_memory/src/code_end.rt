@@ -1,7 +1,8 @@
 //! Accesses where the region of code ends: loads reach eight bytes past it, which are zero; stores do not.
 use crate::memory::read_of;
 use rv_mem::{Memory, StoreFault, region};
-use rv_word::{End, Image, ImageVersion};
+use rv_image::{Image, ImageVersion};
+use rv_word::End;
 use sample_programs::numbers::{number, rows};
 use std::alloc::{AllocError, Global};
 

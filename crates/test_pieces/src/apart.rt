@@ -2,7 +2,7 @@
 //! are those that the definitions of the rules give.
 
 use crate::pieces::{Row, is_right};
-use rv_word::ImageVersion::OneHart;
+use rv_image::ImageVersion::OneHart;
 use sample_programs::{JUMP, P, Q, Q_GRAPH};
 use sample_runs::SAME;
 

@@ -5,7 +5,8 @@ use crate::near::{FIRST, NEAR, SKIPS};
 use cfi_emit::recognise;
 use cfi_scan::{Entry, Feeder, Listing, Steps};
 use cfi_unit::{Mask, SystemOp, TargetWord, Unit};
-use rv_word::{GraphVersion, ImageVersion, Numbers, Versions};
+use rv_image::{GraphVersion, ImageVersion, Versions};
+use rv_word::Numbers;
 use sample_programs::{
     A, A_OF_HARTS, AIMED, B, BREAK, DEEP, ECHO, EDGE, H, JOBS, JUMP, LOAD, LOOP, NOWHERE, OTHER, P,
     PROLOGUE, PROLOGUE_OF_HARTS, SECOND, SHARED, STATUS, code, code_of_harts,

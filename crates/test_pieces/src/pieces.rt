@@ -5,8 +5,8 @@ ghost use Rattle.std.specs.Prelude.{◌≡◌, ◌<◌};
 use cfi_graph::{Graph, read_graph};
 use cfi_scan::Steps;
 use cfi_verify::Scan;
-use rv_word::ImageVersion;
-use rv_word::ImageVersion::{EightHarts, OneHart};
+use rv_image::ImageVersion;
+use rv_image::ImageVersion::{EightHarts, OneHart};
 use sample_programs::{
     A, A_GRAPH, A_OF_HARTS, A_OF_HARTS_GRAPH, B, B_GRAPH, H, H_GRAPH, JOBS, JOBS_GRAPH, JUMP,
     JUMP_GRAPH, LOOP, LOOP_GRAPH, NARROW, NARROW_GRAPH, NOWHERE, NOWHERE_GRAPH, P, P_GRAPH,

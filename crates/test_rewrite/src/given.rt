@@ -1,6 +1,7 @@
 use cfi_rewrite::{Hardened, rewrite, rewrite_as};
 use refusals::Refusal;
-use rv_word::{End, Form};
+use rv_image::Form;
+use rv_word::End;
 use sample_hardened::Given;
 use std::alloc::Global;
 

@@ -5,7 +5,7 @@ use cfi_map_text::{Map, write_map};
 use cfi_rewrite::Hardened;
 use cfi_verify::verify;
 use elf_image::read_image;
-use rv_word::{Form, Image};
+use rv_image::{Form, Image};
 use sample_hardened::{
     Program, file, graph_in, hardened_programs, listed_programs, map_in, storing_programs,
 };

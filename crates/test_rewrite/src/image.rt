@@ -1,5 +1,6 @@
 use elf_image::write_image_as;
-use rv_word::{Form, NoMemory};
+use rv_image::Form;
+use rv_word::NoMemory;
 use sample_hardened::{Program, code_in, data_in, data_size};
 use std::alloc::Global;
 

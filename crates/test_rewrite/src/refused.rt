@@ -1,5 +1,6 @@
 use crate::given::{FORMS, answer};
-use rv_word::{End, Form};
+use rv_image::Form;
+use rv_word::End;
 use sample_hardened::{Given, Source, file};
 use sample_programs::is_told_as;
 use std::alloc::Global;

@@ -5,7 +5,7 @@ use cfi_script::Script;
 use cfi_step::{Handler, RunEnd, RunReport, run};
 use cfi_verify::{Checked, verify};
 use elf_image::read_image;
-use rv_word::{Form, Image};
+use rv_image::{Form, Image};
 use sample_hardened::{Given, Source, file};
 use std::alloc::Global;
 

@@ -1,5 +1,6 @@
 use cfi_graph::{Graph, GraphLine, GraphLines, SiteKind, Sort, read_graph, write_graph};
-use rv_word::{GraphVersion, NoMemory, Numbers, Places};
+use rv_image::GraphVersion;
+use rv_word::{NoMemory, Numbers, Places};
 use sample_programs::{P_GRAPH, Q_GRAPH, is_told_as, rows};
 use std::alloc::{AllocError, Global};
 

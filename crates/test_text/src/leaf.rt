@@ -2,7 +2,8 @@
 
 use crate::graph::{is_made_and_written, is_right};
 use cfi_graph::{Graph, GraphLine, GraphLines, Sort, read_graph};
-use rv_word::{GraphVersion, NoMemory, Numbers, Places};
+use rv_image::GraphVersion;
+use rv_word::{NoMemory, Numbers, Places};
 use sample_programs::rows;
 use std::alloc::Global;
 

@@ -2,7 +2,8 @@ ghost use Rattle.std.specs.Prelude.{◌≡◌, ◌∷◌, [], IfOk};
 ghost use Rattle.test_text.specs.declared.map.TheConstants as constants;
 
 use cfi_map_text::{Map, MapLine, MapLines, read_map, write_map};
-use rv_word::{Form, NoMemory};
+use rv_image::Form;
+use rv_word::NoMemory;
 use sample_programs::{is_told_as, rows};
 use std::alloc::{AllocError, Global};
 

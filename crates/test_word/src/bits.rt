@@ -1,4 +1,5 @@
-use rv_word::{Bytes, Image, Places, add64, field, low32, sext};
+use rv_image::Image;
+use rv_word::{Bytes, Places, add64, field, low32, sext};
 use std::alloc::Global;
 
 /// A number, how many bits of it count, and these sign-extended.

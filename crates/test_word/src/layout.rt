@@ -1,6 +1,7 @@
 use cfi_layout::laws::least_code;
 use cfi_layout::{Placement, Short, are_shorts, place, shorten};
-use rv_word::{End, Form};
+use rv_image::Form;
+use rv_word::End;
 use std::alloc::Global;
 
 /// Where the first unit stands.

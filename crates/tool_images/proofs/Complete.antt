@@ -1,7 +1,7 @@
 -- Each command is complete: where its files are delivered, an outcome that is explained is determined by them.
 use Rattle.std.proofs.Common.{◌≡◌, ℕ, List, Option, None, Ok, refl, subst}
-use Rattle.rv_word.specs.Image.{Contents, image_profile}
-use Rattle.rv_word.specs.MemoryMap.{MayRun}
+use Rattle.rv_image.specs.Image.{Contents, image_profile}
+use Rattle.rv_image.specs.MemoryMap.{MayRun}
 use Rattle.cfi_graph.specs.Graph.{GraphParts}
 use Rattle.cfi_script.specs.Script.{ScriptParts}
 use Rattle.cfi_step.specs.declared.report.RunReport.{RunReport}

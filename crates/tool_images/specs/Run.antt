@@ -1,7 +1,7 @@
 -- `run IMAGE GRAPH SCRIPT INPUT STEPS`: a run of an accepted image. The word `none` for SCRIPT or INPUT
 -- means no file.
 use Rattle.std.specs.Prelude.{◌≡◌, ℕ, List, [], ◌∷◌, Option, Some, None, option_map}
-use Rattle.rv_word.specs.declared.version.ImageVersion.{ImageVersion}
+use Rattle.rv_image.specs.declared.version.ImageVersion.{ImageVersion}
 use Rattle.cfi_step.specs.declared.report.RunReport.{RunReport}
 use Rattle.tool_common.specs.Lines.{with_newline}
 use Rattle.cfi_launch.specs.Launch.{IsLaunchOf}

@@ -1,6 +1,6 @@
 -- `verify IMAGE GRAPH`: whether an image goes with its graph.
 use Rattle.std.specs.Prelude.{◌≡◌, ℕ, List, [], ◌∷◌, ◌++◌, codes, Option, Some, None}
-use Rattle.rv_word.specs.Image.{Contents}
+use Rattle.rv_image.specs.Image.{Contents}
 use Rattle.cfi_graph.specs.Graph.{GraphParts}
 use Rattle.cfi_rules.specs.RejectText.{reject_text}
 use Rattle.cfi_rules.specs.declared.reject.Reject.{Reject}

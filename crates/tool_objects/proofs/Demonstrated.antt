@@ -1,11 +1,11 @@
 -- What a demonstration needs of a hardened program: its program runs at its map, and no run of that differs from the image's.
 use Rattle.std.proofs.Common.{◌≡◌, ◌∙◌, ℕ, List, [], length, None, ap, ap₂, refl, replicate, subst, sym}
-use Rattle.rv_word.specs.declared.version.ImageVersion.{ImageVersion}
-use Rattle.rv_word.specs.Form.{graph_version, image_version}
-use Rattle.rv_word.specs.declared.form.Form.{Form}
+use Rattle.rv_image.specs.declared.version.ImageVersion.{ImageVersion}
+use Rattle.rv_image.specs.Form.{graph_version, image_version}
+use Rattle.rv_image.specs.declared.form.Form.{Form}
 use Rattle.elf_image.specs.Spelling.{spelling}
-use Rattle.rv_word.specs.Image.{Contents, IsImageSize, image_profile}
-use Rattle.rv_word.specs.MemoryMap.{Profile, profile_of}
+use Rattle.rv_image.specs.Image.{Contents, IsImageSize, image_profile}
+use Rattle.rv_image.specs.MemoryMap.{Profile, profile_of}
 use Rattle.rv_code.specs.SameMachine.{IsSameMachine}
 use Rattle.rv_code.specs.State.{After, start_hart, start_shared}
 use Rattle.rv_code.proofs.FormMachine.{form_machine}

@@ -1,12 +1,12 @@
 -- A program at the map that a text spells, and what comes of it and of a file that should be an image.
 use Rattle.std.proofs.Common.{◌≡◌, ◌+◌, ◌≤◌, ℕ, List, MatchResult, Option, Some, None, Result, Ok, Err, inl, inr, sym, ap, subst, ◌∙◌, arith}
-use Rattle.rv_word.specs.Form.{graph_version}
-use Rattle.rv_word.specs.Image.{image_profile}
+use Rattle.rv_image.specs.Form.{graph_version}
+use Rattle.rv_image.specs.Image.{image_profile}
 use Rattle.rv_word.proofs.Cases.{cases_Option}
-use Rattle.rv_word.specs.MemoryMap.{DATA_END, DATA_START}
+use Rattle.rv_image.specs.MemoryMap.{DATA_END, DATA_START}
 use Rattle.rv_word.specs.declared.end.End.{End}
 use Rattle.rv_word.specs.declared.end.End.TheVariants.{Fault, NoMemory}
-use Rattle.rv_word.specs.declared.form.Form.{Form}
+use Rattle.rv_image.specs.declared.form.Form.{Form}
 use Rattle.text_lines.specs.declared.reason.Reason.{Reason}
 use Rattle.text_lines.specs.Answers.{line_fault}
 use Rattle.obj_program.specs.DataAtMap.{init_size}

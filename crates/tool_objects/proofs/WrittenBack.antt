@@ -1,6 +1,6 @@
 -- What `rewrite` and `harden` write is read back.
 use Rattle.std.proofs.Common.{◌∙◌, ap, refl, subst}
-use Rattle.rv_word.specs.Form.{image_version}
+use Rattle.rv_image.specs.Form.{image_version}
 use Rattle.cfi_graph.specs.Graph.{GraphParts}
 use Rattle.cfi_map_text.specs.MapText.{map_of}
 use Rattle.cfi_map_text.proofs.MapLaws.{map_of-map_text}

@@ -2,11 +2,11 @@
 -- program at the map, in the map's form. The word `none` for POLICY or INPUT means no file. `compare-link ENTRY POLICY IMAGE MAP INPUT
 -- STEPS OBJECT ..` compares an image with several objects, which are joined.
 use Rattle.std.specs.Prelude.{◌≡◌, ℕ, List, [], ◌∷◌, ◌++◌, codes, ⊤, Option, Some, None, option_map, Result, Ok, Err}
-use Rattle.rv_word.specs.Image.{Contents, image_profile}
+use Rattle.rv_image.specs.Image.{Contents, image_profile}
 use Rattle.rv_word.specs.declared.end.End.{End}
 use Rattle.rv_word.specs.declared.end.End.TheVariants.{Fault, NoMemory}
-use Rattle.rv_word.specs.declared.form.Form.{Form}
-use Rattle.rv_word.specs.declared.form.Form.TheVariants.{Plain}
+use Rattle.rv_image.specs.declared.form.Form.{Form}
+use Rattle.rv_image.specs.declared.form.Form.TheVariants.{Plain}
 use Rattle.text_lines.specs.Answers.{line_fault}
 use Rattle.text_lines.specs.declared.fault.LineFault.{LineFault}
 use Rattle.elf_image.specs.Fault.{fault_of}

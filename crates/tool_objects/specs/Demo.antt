@@ -2,8 +2,8 @@
 -- in memory.
 use Rattle.std.specs.Prelude.{◌≡◌, ℕ, List, [], ◌∷◌, ◌++◌, length, codes, count_by, ⊤, Option, None}
 use Rattle.std.specs.Fmt.{decimal}
-use Rattle.rv_word.specs.Image.{Contents, image_profile}
-use Rattle.rv_word.specs.declared.version.ImageVersion.TheVariants.{OneHart}
+use Rattle.rv_image.specs.Image.{Contents, image_profile}
+use Rattle.rv_image.specs.declared.version.ImageVersion.TheVariants.{OneHart}
 use Rattle.elf_image.specs.Spelling.{spelling}
 use Rattle.elf_writer.specs.Object.{object_bytes}
 use Rattle.cfi_graph.specs.Graph.{is_class, is_site}

@@ -1,8 +1,8 @@
 -- Words of private contracts: a generated object as a request, and a map at which its program runs.
 use Rattle.std.specs.Prelude.{◌≡◌, ℕ, List, [], length, ⊤, None}
-use Rattle.rv_word.specs.declared.version.ImageVersion.{ImageVersion}
-use Rattle.rv_word.specs.Form.{graph_version, image_version}
-use Rattle.rv_word.specs.Image.{Contents, IsImageSize, image_profile}
+use Rattle.rv_image.specs.declared.version.ImageVersion.{ImageVersion}
+use Rattle.rv_image.specs.Form.{graph_version, image_version}
+use Rattle.rv_image.specs.Image.{Contents, IsImageSize, image_profile}
 use Rattle.elf_image.specs.Spelling.{spelling}
 use Rattle.elf_writer.specs.Object.{object_bytes}
 use Rattle.cfi_map_text.specs.Map.{MapParts}

@@ -1,8 +1,8 @@
 -- What `rewrite`, `harden` and `link` write is read back: `verify` reads its image and its graph, which meet every rule, and
 -- `compare` reads its map, which is legal.
 use Rattle.std.specs.Prelude.{◌≡◌}
-use Rattle.rv_word.specs.Form.{image_version}
-use Rattle.rv_word.specs.Image.{Contents}
+use Rattle.rv_image.specs.Form.{image_version}
+use Rattle.rv_image.specs.Image.{Contents}
 use Rattle.cfi_rules.specs.Rules.{IsWellFormed, pair_profile}
 use Rattle.cfi_writer.specs.Hardened.{HardenedParts}
 use Rattle.cfi_harden.specs.Prepared.{IsPrepared, PreparedParts}

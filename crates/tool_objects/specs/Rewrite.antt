@@ -4,11 +4,11 @@
 use Rattle.std.specs.Prelude.{◌≡◌, ◌≢◌, ℕ, ◌||◌, if◌then◌else◌, List, [], ◌∷◌, ◌++◌, length, count_by, codes, Option, Some, None, option_and_then, option_map}
 use Rattle.std.specs.Fmt.{decimal}
 use Rattle.std.specs.Str.{bytes_eq}
-use Rattle.rv_word.specs.declared.version.ImageVersion.{ImageVersion}
-use Rattle.rv_word.specs.Form.{form_named}
-use Rattle.rv_word.specs.Image.{IsImageSize}
-use Rattle.rv_word.specs.declared.form.Form.{Form}
-use Rattle.rv_word.specs.declared.form.Form.TheVariants.{Plain}
+use Rattle.rv_image.specs.declared.version.ImageVersion.{ImageVersion}
+use Rattle.rv_image.specs.Form.{form_named}
+use Rattle.rv_image.specs.Image.{IsImageSize}
+use Rattle.rv_image.specs.declared.form.Form.{Form}
+use Rattle.rv_image.specs.declared.form.Form.TheVariants.{Plain}
 use Rattle.elf_image.specs.Spelling.{spelling}
 use Rattle.cfi_graph.specs.Graph.{GraphParts, IsGraph, is_class, is_site}
 use Rattle.cfi_map_text.specs.Map.{IsMap}

@@ -1,7 +1,7 @@
 //! What `demo` does, in steps: an object is made, hardened, verified, run and compared.
 
 ghost use Rattle.std.specs.Prelude.{◌≡◌, ℕ, List, [], IfOk, Ok, Some, codes};
-ghost use Rattle.rv_word.specs.declared.version.ImageVersion.TheVariants.{OneHart};
+ghost use Rattle.rv_image.specs.declared.version.ImageVersion.TheVariants.{OneHart};
 ghost use Rattle.cfi_rules.specs.Rules.{IsWellFormed, pair_profile};
 ghost use Rattle.cfi_flow.specs.Entry.{entry_place};
 ghost use Rattle.cfi_harden.specs.Given.{alone};
@@ -27,7 +27,8 @@ use cfi_verify::verify;
 use elf_image::read_image;
 use gen_hardened::laws::demo_is_never_refused;
 use obj_program::Items;
-use rv_word::{End, Form, Image, NoMemory};
+use rv_image::{Form, Image};
+use rv_word::{End, NoMemory};
 use src_machine::SourceRun;
 use src_machine::laws::wrong_is_not_legal;
 use std::alloc::Global;

@@ -1,7 +1,7 @@
 //! The program of objects at a map, as `compare` needs it, or why there is none.
 
 ghost use Rattle.std.specs.Prelude.{◌≡◌, MatchResult, Ok, Some, option_copied};
-ghost use Rattle.rv_word.specs.Form.{graph_version};
+ghost use Rattle.rv_image.specs.Form.{graph_version};
 ghost use Rattle.cfi_flow.specs.Entry.{entry_place};
 ghost use Rattle.cfi_flow.specs.Policy.{instruction_at};
 ghost use Rattle.cfi_harden.specs.Given.{Given};
@@ -17,7 +17,8 @@ use cfi_harden::{Prepared, has_data_room, prepare_program};
 use cfi_map_text::Map;
 use obj_program::Items;
 use refusals::Refusal;
-use rv_word::{End, Form};
+use rv_image::Form;
+use rv_word::End;
 use src_machine::{SourceFault, SourceRun};
 use std::alloc::Global;
 

@@ -1,12 +1,13 @@
 //! The text and the status of a run's report.
 
 ghost use Rattle.std.specs.Prelude.{◌≡◌, ◌++◌, codes, IfOk, OnOk};
-ghost use Rattle.rv_word.specs.declared.version.ImageVersion.TheVariants.{OneHart, EightHarts};
+ghost use Rattle.rv_image.specs.declared.version.ImageVersion.TheVariants.{OneHart, EightHarts};
 ghost use Rattle.text_lines.specs.Hex.{hex_text};
 ghost use Rattle.tool_report.specs.ReportText.{end_status, handler_name, hart_walk_text, hart_walks_text, report_head, report_text, steps_line, stop_lines, trail_text, walk_lines, walk_text, walks_text};
 
 use cfi_step::{Handler, HartWalk, RunEnd, RunReport};
-use rv_word::{ImageVersion, NoMemory};
+use rv_image::ImageVersion;
+use rv_word::NoMemory;
 use std::alloc::Global;
 use std::fmt;
 use text_lines::{Address, LongAddress};

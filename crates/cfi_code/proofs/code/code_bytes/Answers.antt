@@ -1,6 +1,6 @@
 use Rattle.std.proofs.Common.{◌≡◌, ◌+◌, ◌*◌, ◌++◌, List, ℕ, length, arith, ap, ◌∙◌, sym, subst, drop, [], ◌∷◌}
 use Rattle.std.proofs.Math.ListN.{drop_of_length-le}
-use Rattle.rv_word.specs.MemoryMap.{CODE_START, profile_with}
+use Rattle.rv_image.specs.MemoryMap.{CODE_START, profile_with}
 use Rattle.cfi_unit.specs.UnitWords.{Fits, words_of}
 use Rattle.cfi_unit.specs.declared.unit.Unit as U
 use Rattle.cfi_rules.specs.Placed.{placed_code}

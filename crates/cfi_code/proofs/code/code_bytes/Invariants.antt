@@ -1,5 +1,5 @@
 use Rattle.std.proofs.Common.{drop}
-use Rattle.rv_word.specs.MemoryMap.{profile_with}
+use Rattle.rv_image.specs.MemoryMap.{profile_with}
 use Rattle.cfi_rules.specs.Placed.{placed_code}
 use Rattle.cfi_code.proofs.CodeWritten.{IsWritten}
 use Rattle.cfi_code.proofs.code.code_bytes.Given as goal

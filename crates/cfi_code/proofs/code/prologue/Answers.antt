@@ -1,5 +1,5 @@
 use Rattle.std.proofs.Common.{◌+◌, ◌*◌, ◌++◌, ◌<◌, List, ℕ, length, map, arith, ap, subst, sym, ◌∙◌}
-use Rattle.rv_word.specs.MemoryMap.{CODE_SIZE, CODE_START}
+use Rattle.rv_image.specs.MemoryMap.{CODE_SIZE, CODE_START}
 use Rattle.rv_code.specs.Encode.{code_of}
 use Rattle.cfi_unit.specs.UnitWords.{Fits, words_of}
 use Rattle.cfi_unit.specs.declared.unit.Unit as U

@@ -1,8 +1,8 @@
 use Rattle.std.proofs.Common.{ℕ, ◌+◌, ◌*◌, ◌∙◌, ap, length, subst, sym}
-use Rattle.rv_word.specs.Image.{image_profile}
-use Rattle.rv_word.specs.Form.{graph_version}
-use Rattle.rv_word.specs.MemoryMap.{Profile}
-use Rattle.rv_word.specs.declared.version.GraphVersion.{GraphVersion}
+use Rattle.rv_image.specs.Image.{image_profile}
+use Rattle.rv_image.specs.Form.{graph_version}
+use Rattle.rv_image.specs.MemoryMap.{Profile}
+use Rattle.rv_image.specs.declared.version.GraphVersion.{GraphVersion}
 use Rattle.rv_sys.specs.Calls.{Calls}
 use Rattle.rv_machine.specs.Parts.{Parts}
 use Rattle.cfi_map.specs.GraphAtMap.{ProgramAtMap}

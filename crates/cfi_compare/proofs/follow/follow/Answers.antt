@@ -1,5 +1,5 @@
 use Rattle.std.proofs.Common.{◌≡◌, ◌+◌, ◌-◌, ◌∙◌, ap, sym, arith, List, [], append-nil, inl, inr, length}
-use Rattle.rv_word.specs.MemoryMap.{profile_of}
+use Rattle.rv_image.specs.MemoryMap.{profile_of}
 use Rattle.rv_code.specs.State.{After}
 use Rattle.rv_code.specs.declared.event.Event.{Event}
 use Rattle.rv_machine.specs.Parts.{hart_in, shared_in}

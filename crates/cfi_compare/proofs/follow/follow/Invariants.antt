@@ -1,5 +1,5 @@
 use Rattle.std.proofs.Common.{◌≡◌, ◌-◌, ◌≤◌, List, [], length, replicate}
-use Rattle.rv_word.specs.MemoryMap.{profile_of}
+use Rattle.rv_image.specs.MemoryMap.{profile_of}
 use Rattle.rv_code.specs.Run.{ByteChange, run_alone}
 use Rattle.rv_machine.specs.Parts.{hart_in, shared_in}
 use Rattle.cfi_compare.specs.Followed.{Agree}

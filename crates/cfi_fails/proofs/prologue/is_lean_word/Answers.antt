@@ -1,6 +1,6 @@
 use Rattle.std.proofs.Common.{◌∙◌, ap, get_or-set_other, sym}
-use Rattle.rv_word.specs.declared.version.ImageVersion.{ImageVersion}
-use Rattle.rv_word.specs.MemoryMap.{lean_profile_of, lean_version_1, lean_version_2}
+use Rattle.rv_image.specs.declared.version.ImageVersion.{ImageVersion}
+use Rattle.rv_image.specs.MemoryMap.{lean_profile_of, lean_version_1, lean_version_2}
 use Rattle.rv_code.specs.Encode.{code_of}
 use Rattle.cfi_rules.specs.Rules.{prologue_word_fits, prologue_words}
 use Rattle.cfi_fails.specs.declared.prologue.TheConstants as table

@@ -1,6 +1,6 @@
 use Rattle.std.proofs.Common.{ℕ, ◌+◌, ◌<◌, ◌^◌, length, slice_index, List, Bool, Ok, ap, subst, sym, ◌≡◌, ◌∙◌, true, Some, slice_get, arith}
 use Rattle.std.proofs.lemmas.Result.{IfOk-from_err}
-use Rattle.rv_word.specs.Form.{profile_for}
+use Rattle.rv_image.specs.Form.{profile_for}
 use Rattle.cfi_layout.specs.declared.short.Short.{Short}
 use Rattle.cfi_layout.specs.Starts.{flag}
 use Rattle.cfi_layout.specs.LongSet.{IsLongSet, AreShorts}

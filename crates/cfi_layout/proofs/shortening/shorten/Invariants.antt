@@ -1,4 +1,4 @@
-use Rattle.rv_word.specs.Form.{profile_for}
+use Rattle.rv_image.specs.Form.{profile_for}
 use Rattle.cfi_layout.specs.Lengthening.{short_count, Going}
 use Rattle.cfi_layout.proofs.shortening.shorten.Given as goal
 

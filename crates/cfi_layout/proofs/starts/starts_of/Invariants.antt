@@ -1,5 +1,5 @@
 use Rattle.std.proofs.Common.{◌≡◌, ◌+◌, ◌++◌, drop, sum}
-use Rattle.rv_word.specs.Form.{profile_for}
+use Rattle.rv_image.specs.Form.{profile_for}
 use Rattle.cfi_layout.specs.Starts.{starts_from}
 use Rattle.cfi_layout.proofs.starts.starts_of.Given as goal
 

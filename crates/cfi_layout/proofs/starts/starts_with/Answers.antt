@@ -1,6 +1,6 @@
 use Rattle.std.proofs.Common.{ℕ, List, ◌+◌, length, get_or, ap, ◌∙◌, arith}
 use Rattle.std.proofs.lemmas.Result.{IfOk-weaker}
-use Rattle.rv_word.specs.Form.{profile_for}
+use Rattle.rv_image.specs.Form.{profile_for}
 use Rattle.cfi_layout.specs.Starts.{flag, starts_from}
 use Rattle.cfi_layout.specs.LongSet.{sizes_where}
 use Rattle.cfi_layout.proofs.Offsets.{length_starts, length_where, start_most, sum_where}

@@ -1,6 +1,6 @@
 use Rattle.std.proofs.Common.{◌+◌, ◌-◌, ◌<◌, ◌∙◌, ◌≡◌, ℕ, length, refl, ap, sym, subst, arith}
 use Rattle.cfi_rules.specs.Rules.{pair_profile}
-use Rattle.rv_word.specs.MemoryMap.{profile_of}
+use Rattle.rv_image.specs.MemoryMap.{profile_of}
 use Rattle.rv_machine.specs.Harts.{harts_in, harts_share}
 use Rattle.cfi_rules.specs.Split.{code_words}
 use Rattle.cfi_script.specs.Plan.{Plan, planned}

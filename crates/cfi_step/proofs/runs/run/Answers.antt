@@ -1,7 +1,7 @@
 use Rattle.std.proofs.Common.{◌≡◌, ◌∙◌, ap, length, subst, sym}
 use Rattle.cfi_rules.specs.Rules.{pair_profile}
-use Rattle.rv_word.specs.MemoryMap.{profile_of}
-use Rattle.rv_word.specs.declared.version.ImageVersion.{ImageVersion}
+use Rattle.rv_image.specs.MemoryMap.{profile_of}
+use Rattle.rv_image.specs.declared.version.ImageVersion.{ImageVersion}
 use Rattle.rv_code.specs.State.{start_hart, start_shared}
 use Rattle.rv_machine.specs.Harts.{harts_in, harts_share}
 use Rattle.cfi_rules.proofs.Starts.{machine_may_start}

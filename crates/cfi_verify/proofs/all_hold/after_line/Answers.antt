@@ -1,5 +1,5 @@
 use Rattle.std.proofs.Common.{◌≤◌, ◌<◌, ◌∙◌, ◌+◌, ◌-◌, ◌*◌, ◌/◌, ℕ, arith, subst, sym}
-use Rattle.rv_word.specs.MemoryMap.{Profile}
+use Rattle.rv_image.specs.MemoryMap.{Profile}
 use Rattle.cfi_graph.specs.Graph.{IsGraph}
 use Rattle.cfi_verify.specs.Pass.{HasPassed, HoldsAt, NoneStands}
 use Rattle.cfi_starts.specs.Starts.{profile_in}

@@ -1,6 +1,6 @@
 use Rattle.std.proofs.Common.{◌≡◌, ◌*◌, ◌∙◌, ap, inl, inr, sym, true}
 use Rattle.std.proofs.lemmas.Bool.{cases_Bool}
-use Rattle.rv_word.specs.MemoryMap.{Profile}
+use Rattle.rv_image.specs.MemoryMap.{Profile}
 use Rattle.cfi_graph.specs.Graph.{has_leaves}
 use Rattle.cfi_verify.specs.Pass.{ends_in_stop}
 use Rattle.cfi_starts.specs.Starts.{profile_in}

@@ -1,6 +1,6 @@
 use Rattle.std.proofs.Common.{inl, inr, ◌≡◌, ◌+◌, ◌*◌, ℕ, arith, subst}
 use Rattle.std.proofs.lemmas.Bool.{cases_lt}
-use Rattle.rv_word.specs.MemoryMap.{Profile}
+use Rattle.rv_image.specs.MemoryMap.{Profile}
 use Rattle.cfi_verify.specs.Pass.{HoldsAt}
 use Rattle.cfi_starts.specs.Starts.{profile_in}
 use Rattle.cfi_starts.proofs.Laid.{laid_with}

@@ -1,5 +1,5 @@
 use Rattle.std.proofs.Common.{◌≡◌, ◌∙◌, ◌+◌, ◌*◌, ◌≤◌, max, ap, refl, sym, length, arith}
-use Rattle.rv_word.specs.MemoryMap.{Profile}
+use Rattle.rv_image.specs.MemoryMap.{Profile}
 use Rattle.least.proofs.Firsts.{found_parts, first_none}
 use Rattle.cfi_scan.specs.Pieces.{prologue_count}
 use Rattle.cfi_starts.specs.Starts.{profile_in}

@@ -1,5 +1,5 @@
 use Rattle.std.proofs.Common.{rules}
-use Rattle.rv_word.proofs.Profiles.{is_pair_profile}
+use Rattle.rv_image.proofs.Profiles.{is_pair_profile}
 use Rattle.cfi_rules.specs.Rules.{IsWellFormed, pair_profile}
 use Rattle.cfi_rules.proofs.Safety.{well_formed_is_safe}
 use Rattle.cfi_verify.proofs.verifier.verify.Goals as goal

@@ -1,6 +1,6 @@
 use Rattle.std.proofs.Common.{subst}
 use Rattle.cfi_rules.specs.Rules.{pair_profile}
-use Rattle.rv_word.proofs.Profiles.{is_pair_profile}
+use Rattle.rv_image.proofs.Profiles.{is_pair_profile}
 use Rattle.cfi_rules.specs.Split.{code_words}
 use Rattle.cfi_rules.specs.Walks.{WalkState}
 use Rattle.cfi_walk.specs.Trail.{StopAt}

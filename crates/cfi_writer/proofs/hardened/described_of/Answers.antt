@@ -1,5 +1,5 @@
 use Rattle.std.proofs.Common.{◌≡◌, subst, sym}
-use Rattle.rv_word.specs.Form.{profile_for}
+use Rattle.rv_image.specs.Form.{profile_for}
 use Rattle.cfi_map_text.specs.Map.{IsMap}
 use Rattle.cfi_writer.specs.MapLines.{map_lines}
 use Rattle.cfi_writer.specs.Units.{Choice}

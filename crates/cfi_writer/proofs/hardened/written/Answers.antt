@@ -1,6 +1,6 @@
 use Rattle.std.proofs.Common.{◌≡◌, true, List, ℕ, length, subst, sym}
 use Rattle.std.specs.Prelude.{is_some}
-use Rattle.rv_word.specs.Image.{IsImageSize}
+use Rattle.rv_image.specs.Image.{IsImageSize}
 use Rattle.obj_program.specs.DataAtMap.{data_at, init_size}
 use Rattle.cfi_map.specs.GraphAtMap.{ProgramAtMap}
 use Rattle.cfi_writer.specs.Writing.{IsImageWith}

@@ -1,6 +1,6 @@
 use Rattle.std.proofs.Common.{arith, ◌∙◌}
 use Rattle.obj_input.specs.Input.{is_data_sort}
-use Rattle.rv_word.specs.MemoryMap.{DATA_START}
+use Rattle.rv_image.specs.MemoryMap.{DATA_START}
 use Rattle.obj_input.proofs.Reach.{reach_begins, reach_next}
 use Rattle.obj_input.proofs.layout.init_end.Goals as goal
 

@@ -1,7 +1,7 @@
 use Rattle.std.proofs.Common.{◌≡◌, ◌≤◌, ◌+◌, ◌*◌, ◌^◌}
 use Rattle.obj_input.specs.Input.{is_data_sort}
 use Rattle.obj_input.specs.DataLayout.{reach}
-use Rattle.rv_word.specs.MemoryMap.{DATA_START}
+use Rattle.rv_image.specs.MemoryMap.{DATA_START}
 use Rattle.obj_input.proofs.layout.init_end.Given as goal
 
 abbrev pub invariant-loop-k : goal.invariant-loop-k

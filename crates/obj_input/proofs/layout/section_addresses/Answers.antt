@@ -1,7 +1,7 @@
 use Rattle.std.proofs.Common.{arith, ◌∙◌}
 use Rattle.obj_input.specs.Input.{is_data_sort, is_zeros_sort}
 use Rattle.obj_input.specs.DataLayout.{init_end, section_address}
-use Rattle.rv_word.specs.MemoryMap.{DATA_START}
+use Rattle.rv_image.specs.MemoryMap.{DATA_START}
 use Rattle.obj_input.proofs.Reach.{listed_begins, listed_next, reach_begins, reach_next, section_address_is, none_small, small_next}
 use Rattle.obj_input.proofs.layout.section_addresses.Goals as goal
 

@@ -3,7 +3,7 @@ use Rattle.obj_input.specs.Input.{is_data_sort, is_zeros_sort}
 use Rattle.obj_input.specs.Listed.{listed}
 use Rattle.obj_input.specs.InOrder.{AreSmall}
 use Rattle.obj_input.specs.DataLayout.{init_end, reach, section_address}
-use Rattle.rv_word.specs.MemoryMap.{DATA_START}
+use Rattle.rv_image.specs.MemoryMap.{DATA_START}
 use Rattle.obj_input.proofs.layout.section_addresses.Given as goal
 
 abbrev pub invariant-loop-k : goal.invariant-loop-k

@@ -1,8 +1,8 @@
 use Rattle.std.proofs.Common.{◌≡◌, ◌∙◌, ap, sym, subst, IfOk, Some}
 use Rattle.std.proofs.lemmas.Result.{IfOk-weaker}
-use Rattle.rv_word.specs.Form.{image_version, profile_for}
-use Rattle.rv_word.specs.MemoryMap.{Profile, profile_of}
-use Rattle.rv_word.specs.declared.version.ImageVersion.{ImageVersion}
+use Rattle.rv_image.specs.Form.{image_version, profile_for}
+use Rattle.rv_image.specs.MemoryMap.{Profile, profile_of}
+use Rattle.rv_image.specs.declared.version.ImageVersion.{ImageVersion}
 use Rattle.rv_code.specs.SameMachine.{IsSameMachine}
 use Rattle.rv_code.proofs.FormMachine.{form_machine}
 use Rattle.cfi_map.specs.GraphAtMap.{words_at}

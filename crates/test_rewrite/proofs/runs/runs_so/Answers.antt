@@ -1,5 +1,5 @@
 use Rattle.std.proofs.Common.{arith}
-use Rattle.rv_word.proofs.Profiles.{is_profile, laid_out}
+use Rattle.rv_image.proofs.Profiles.{is_profile, laid_out}
 use Rattle.test_rewrite.proofs.runs.runs_so.Goals as goal
 
 pub run-requires : goal.run-requires

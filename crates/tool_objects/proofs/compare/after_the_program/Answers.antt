@@ -1,6 +1,6 @@
 use Rattle.std.proofs.Common.{ap, subst, sym}
 use Rattle.std.specs.Prelude.{option_copied}
-use Rattle.rv_word.specs.declared.form.Form.TheVariants.{Plain}
+use Rattle.rv_image.specs.declared.form.Form.TheVariants.{Plain}
 use Rattle.cfi_harden.specs.Request.{Request}
 use Rattle.tool_objects.specs.Compare.{IsRoomy, IsRoomyEnd, asked_at, form_told}
 use Rattle.tool_objects.proofs.Sources.{asked_form, wrong_text}

@@ -1,6 +1,6 @@
 use Rattle.std.proofs.Common.{◌∙◌, List, [], ℕ, ap, rules, subst, sym}
-use Rattle.rv_word.specs.Form.{image_version}
-use Rattle.rv_word.specs.Image.{Contents}
+use Rattle.rv_image.specs.Form.{image_version}
+use Rattle.rv_image.specs.Image.{Contents}
 use Rattle.cfi_rules.specs.Rules.{IsWellFormed, pair_profile}
 use Rattle.cfi_writer.specs.Hardened.{HardenedParts}
 use Rattle.cfi_harden.specs.Request.{program_request}

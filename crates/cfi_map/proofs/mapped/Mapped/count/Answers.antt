@@ -1,6 +1,6 @@
 use Rattle.std.proofs.Common.{◌≡◌, length, subst}
-use Rattle.rv_word.proofs.Profiles.{is_form_profile}
-use Rattle.rv_word.specs.MemoryMap.{IsProfile}
+use Rattle.rv_image.proofs.Profiles.{is_form_profile}
+use Rattle.rv_image.specs.MemoryMap.{IsProfile}
 use Rattle.obj_program.specs.Program.{count}
 use Rattle.cfi_map.specs.GraphAtMap.{ProgramAtMap, words_at}
 use Rattle.cfi_map.proofs.Placing.{words_kept}

@@ -1,5 +1,5 @@
 use Rattle.std.proofs.Common.{◌≡◌, ◌+◌, ◌/◌, ℕ, List, ◌++◌, length, take}
-use Rattle.rv_word.specs.MemoryMap.{profile_with}
+use Rattle.rv_image.specs.MemoryMap.{profile_with}
 use Rattle.cfi_scan.specs.Pieces.{HasSeen, Sight}
 use Rattle.cfi_scan.proofs.feeder.Feeder.bytes.Given as goal
 

@@ -1,7 +1,7 @@
 use Rattle.std.proofs.Common.{◌≡◌, ℕ, ◌/◌, min, sym, subst, length, take, drop, arith}
 use Rattle.std.proofs.lemmas.List.{length-drop}
-use Rattle.rv_word.specs.declared.version.Versions.{Versions}
-use Rattle.rv_word.specs.MemoryMap.{Profile, profile_with}
+use Rattle.rv_image.specs.declared.version.Versions.{Versions}
+use Rattle.rv_image.specs.MemoryMap.{Profile, profile_with}
 use Rattle.cfi_scan.specs.Pieces.{HasSeen, IsOf, Listed, Sight, prologue_count}
 use Rattle.cfi_scan.proofs.Pieces.{ended, seen_count}
 use Rattle.cfi_scan.proofs.feeder.Feeder.finish.Goals as goal

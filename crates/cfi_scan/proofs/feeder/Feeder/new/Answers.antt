@@ -1,6 +1,6 @@
 use Rattle.std.proofs.Common.{ℕ, List, [], refl, sym, subst, arith}
-use Rattle.rv_word.specs.declared.version.Versions.{Versions}
-use Rattle.rv_word.specs.MemoryMap.{profile_with}
+use Rattle.rv_image.specs.declared.version.Versions.{Versions}
+use Rattle.rv_image.specs.MemoryMap.{profile_with}
 use Rattle.cfi_scan.specs.Carry.{Taken}
 use Rattle.cfi_scan.specs.Pieces.{HasSeen, ends}
 use Rattle.cfi_scan.proofs.Pieces.{KeepsUnder, seen_from, sight}

@@ -1,6 +1,6 @@
 use Rattle.std.proofs.Common.{ℕ, [], arith}
 use Rattle.std.proofs.lemmas.List.{drop_all}
-use Rattle.rv_word.specs.MemoryMap.{profile_with}
+use Rattle.rv_image.specs.MemoryMap.{profile_with}
 use Rattle.cfi_scan.specs.Pieces.{prologue_count}
 use Rattle.cfi_scan.proofs.Pieces.{keeps_none, splits_none}
 use Rattle.cfi_scan.proofs.kept.Kept.new.Goals as goal

@@ -1,6 +1,6 @@
 use Rattle.std.proofs.Common.{◌≡◌, ℕ, ◌-◌, ◌≤◌, List, [], ◌∷◌, ◌++◌, length, drop, sym, subst, arith}
 use Rattle.std.proofs.lemmas.List.{drop-append-le, drop_all, length-drop, length_push}
-use Rattle.rv_word.specs.MemoryMap.{profile_with}
+use Rattle.rv_image.specs.MemoryMap.{profile_with}
 use Rattle.cfi_scan.specs.Pieces.{prologue_count}
 use Rattle.cfi_scan.specs.Stream.{Splits}
 use Rattle.cfi_scan.proofs.Pieces.{keeps_after, keeps_prologue}

@@ -1,6 +1,6 @@
 use Rattle.std.proofs.Common.{◌≡◌, ◌-◌, ℕ, List, [], ◌∷◌, ◌++◌, ◌∙◌, subst, sym, ap, length, drop, arith}
 use Rattle.std.proofs.lemmas.List.{append-nil, append_assoc, length-drop, length_push, take_all}
-use Rattle.rv_word.specs.MemoryMap.{profile_with}
+use Rattle.rv_image.specs.MemoryMap.{profile_with}
 use Rattle.cfi_scan.proofs.Pieces.{KeepsUnder, first_cut, moved, none_cut}
 use Rattle.cfi_scan.proofs.kept.Kept.take_words.Goals as goal
 

@@ -1,5 +1,5 @@
 use Rattle.std.proofs.Common.{◌≡◌, ◌+◌, ◌/◌, ◌<◌, ◌^◌, ℕ, List, [], ◌++◌, length}
-use Rattle.rv_word.specs.MemoryMap.{profile_with}
+use Rattle.rv_image.specs.MemoryMap.{profile_with}
 use Rattle.cfi_scan.specs.Pieces.{IsCut}
 use Rattle.cfi_scan.specs.declared.kept.Kept.{Kept}
 use Rattle.cfi_scan.proofs.Pieces.{KeepsWords}

@@ -1,5 +1,5 @@
 use Rattle.std.proofs.Common.{rules, ◌+◌, ◌<◌, ℕ, [], ◌∷◌, ◌++◌, length, ap, sym, ◌∙◌, arith}
-use Rattle.rv_word.specs.MemoryMap.{profile_with}
+use Rattle.rv_image.specs.MemoryMap.{profile_with}
 use Rattle.cfi_reader.specs.PlainWord.{IsPlainWord}
 use Rattle.cfi_scan.proofs.Ended.{as_ended, splits_plain}
 use Rattle.cfi_scan.proofs.splitter.Splitter.begin.Goals as goal

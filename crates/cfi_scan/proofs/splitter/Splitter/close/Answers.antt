@@ -1,5 +1,5 @@
 use Rattle.std.proofs.Common.{ℕ, ◌+◌, ◌*◌, ◌≤◌, length, sym, ◌∙◌, arith}
-use Rattle.rv_word.specs.MemoryMap.{profile_with}
+use Rattle.rv_image.specs.MemoryMap.{profile_with}
 use Rattle.cfi_scan.specs.Stream.{width}
 use Rattle.cfi_scan.proofs.Ended.{as_split_up, up_open, up_whole}
 use Rattle.cfi_scan.proofs.splitter.Splitter.close.Goals as goal

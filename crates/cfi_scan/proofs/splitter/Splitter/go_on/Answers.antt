@@ -1,6 +1,6 @@
 use Rattle.std.proofs.Common.{◌≡◌, ◌+◌, ◌*◌, ◌<◌, ◌≤◌, ℕ, List, [], ◌∷◌, ◌++◌, length, ap, sym, ◌∙◌, subst, arith}
-use Rattle.rv_word.specs.declared.version.Versions.{Versions}
-use Rattle.rv_word.specs.MemoryMap.{profile_with}
+use Rattle.rv_image.specs.declared.version.Versions.{Versions}
+use Rattle.rv_image.specs.MemoryMap.{profile_with}
 use Rattle.cfi_reader.specs.declared.reader.Step.TheVariants.{Before, Done, More}
 use Rattle.cfi_reader.specs.Reading.{LeadsOn}
 use Rattle.cfi_scan.specs.Stream.{Splits}

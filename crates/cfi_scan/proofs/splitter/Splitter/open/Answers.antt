@@ -1,5 +1,5 @@
 use Rattle.std.proofs.Common.{◌≡◌, ◌+◌, ◌*◌, ◌<◌, ℕ, [], ◌∷◌, ◌++◌, length, ap, sym, ◌∙◌, subst, arith}
-use Rattle.rv_word.specs.MemoryMap.{profile_with}
+use Rattle.rv_image.specs.MemoryMap.{profile_with}
 use Rattle.cfi_reader.specs.declared.first.First.TheVariants.{Done, More}
 use Rattle.cfi_reader.specs.Reading.{Opened}
 use Rattle.cfi_scan.proofs.Ended.{as_ended, opened_done, opened_more, splits_on, splits_unit}

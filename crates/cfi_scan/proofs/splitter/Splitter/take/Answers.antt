@@ -1,6 +1,6 @@
 use Rattle.std.proofs.Common.{◌≡◌, ◌+◌, ◌*◌, ℕ, true, refl, subst, sym, arith, length, []}
-use Rattle.rv_word.specs.MemoryMap.{profile_with}
-use Rattle.rv_word.proofs.Profiles.{is_pair_profile, laid_out}
+use Rattle.rv_image.specs.MemoryMap.{profile_with}
+use Rattle.rv_image.proofs.Profiles.{is_pair_profile, laid_out}
 use Rattle.cfi_unit.specs.Opens.{InCode}
 use Rattle.cfi_reader.specs.Reading.{LeadsOn, is_stuck}
 use Rattle.cfi_reader.specs.declared.reader.Step.TheVariants.{More}

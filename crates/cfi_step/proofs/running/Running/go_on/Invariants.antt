@@ -1,5 +1,5 @@
 use Rattle.std.proofs.Common.{◌≡◌, ◌≤◌, ◌<◌, ◌-◌, ℕ, List, None, length}
-use Rattle.rv_word.specs.MemoryMap.{Profile}
+use Rattle.rv_image.specs.MemoryMap.{Profile}
 use Rattle.rv_code.specs.State.{last_exit}
 use Rattle.rv_machine.specs.Harts.{harts_share}
 use Rattle.cfi_step.specs.Starts.{AreStartsOf}

@@ -1,7 +1,7 @@
 use Rattle.std.proofs.Common.{◌≡◌, ◌++◌, ◌∷◌, [], ℕ, arith, sym, ◌∙◌, ap, subst}
 use Rattle.std.specs.Prelude.{IfOk, length}
 use Rattle.cfi_rules.specs.Rules.{pair_profile}
-use Rattle.rv_word.specs.MemoryMap.{profile_of}
+use Rattle.rv_image.specs.MemoryMap.{profile_of}
 use Rattle.rv_code.specs.Run.{RunAfter}
 use Rattle.rv_machine.specs.Harts.{MachineParts, harts_in, harts_share, run_after}
 use Rattle.cfi_rules.specs.Split.{code_words}

@@ -2,7 +2,7 @@ use Rattle.std.proofs.Common.{◌+◌, ◌*◌, ◌∷◌, [], ap, ◌∙◌, le
 use Rattle.std.specs.Prelude.{is_some}
 use Rattle.std.proofs.lemmas.List.{length-append}
 use Rattle.cfi_rules.specs.Rules.{pair_profile}
-use Rattle.rv_word.specs.MemoryMap.{CODE_START}
+use Rattle.rv_image.specs.MemoryMap.{CODE_START}
 use Rattle.cfi_rules.specs.Split.{code_words, place_at}
 use Rattle.cfi_step.proofs.Started.{one_more}
 use Rattle.cfi_step.proofs.starts.Starts.of.Goals as goal

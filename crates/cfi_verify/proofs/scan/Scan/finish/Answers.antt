@@ -1,5 +1,5 @@
 use Rattle.std.proofs.Common.{◌≡◌, ◌∙◌, ap, subst, sym}
-use Rattle.rv_word.specs.MemoryMap.{Profile, profile_with}
+use Rattle.rv_image.specs.MemoryMap.{Profile, profile_with}
 use Rattle.cfi_graph.specs.Graph.{GraphParts, has_leaves}
 use Rattle.cfi_verify.specs.Scan.{Scanned, Tells, numbers_in}
 use Rattle.cfi_rules.specs.Rules.{Holds, IsFirst}

@@ -1,6 +1,6 @@
 use Rattle.std.proofs.Common.{◌∙◌, ap, sym}
-use Rattle.rv_word.specs.declared.version.Versions.{Versions}
-use Rattle.rv_word.specs.MemoryMap.{profile_with}
+use Rattle.rv_image.specs.declared.version.Versions.{Versions}
+use Rattle.rv_image.specs.MemoryMap.{profile_with}
 use Rattle.cfi_rules.specs.Rules.{pair_profile}
 use Rattle.cfi_verify.specs.Scan.{Pair}
 use Rattle.cfi_rules.specs.Split.{code_words, entry_of}

@@ -1,5 +1,5 @@
 use Rattle.std.proofs.Common.{ap, subst}
-use Rattle.rv_word.proofs.Profiles.{is_pair_profile}
+use Rattle.rv_image.proofs.Profiles.{is_pair_profile}
 use Rattle.cfi_graph.specs.Graph.{IsGraph}
 use Rattle.cfi_rules.specs.Laws.{AreBytes}
 use Rattle.cfi_verify.specs.Scan.{Pair}

@@ -1,7 +1,7 @@
 use Rattle.std.proofs.Common.{◌∙◌, ap, arith, sym}
 use Rattle.std.specs.Prelude.{is_some}
-use Rattle.rv_word.specs.declared.version.Versions.{Versions}
-use Rattle.rv_word.specs.MemoryMap.{profile_with}
+use Rattle.rv_image.specs.declared.version.Versions.{Versions}
+use Rattle.rv_image.specs.MemoryMap.{profile_with}
 use Rattle.cfi_starts.specs.Entries.{starts_at}
 use Rattle.cfi_rules.specs.Rules.{pair_profile}
 use Rattle.cfi_verify.specs.Scan.{Pair}

@@ -1,6 +1,6 @@
 use Rattle.std.proofs.Common.{◌-◌, ◌/◌, ◌∙◌, ap, arith, drop, sym}
-use Rattle.rv_word.specs.declared.version.Versions.{Versions}
-use Rattle.rv_word.specs.MemoryMap.{CODE_START, profile_with}
+use Rattle.rv_image.specs.declared.version.Versions.{Versions}
+use Rattle.rv_image.specs.MemoryMap.{CODE_START, profile_with}
 use Rattle.cfi_unit.specs.Recognise.{recognised}
 use Rattle.cfi_starts.specs.Entries.{starts_at}
 use Rattle.cfi_rules.specs.Rules.{pair_profile}

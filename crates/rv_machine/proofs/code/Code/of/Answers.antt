@@ -1,6 +1,6 @@
 use Rattle.std.proofs.Common.{◌∙◌, ◌+◌, ◌*◌, ◌++◌, ◌∷◌, [], ap, arith, refl, sym, length, length-append, map}
 use Rattle.std.proofs.lemmas.List.{map-append}
-use Rattle.rv_word.specs.MemoryMap.{CODE_START}
+use Rattle.rv_image.specs.MemoryMap.{CODE_START}
 use Rattle.rv_word.specs.Memory.{read}
 use Rattle.rv_mem.specs.Cells.{memory_of}
 use Rattle.rv_code.specs.Decode.{decoded}

@@ -1,5 +1,5 @@
 use Rattle.std.proofs.Common.{◌∙◌, ap, sym}
-use Rattle.rv_word.specs.MemoryMap.{profile_of}
+use Rattle.rv_image.specs.MemoryMap.{profile_of}
 use Rattle.rv_code.specs.State.{After, last_exit}
 use Rattle.rv_machine.specs.Parts.{hart_at, shared_in}
 use Rattle.rv_machine.specs.Ready.{instr_of}

@@ -1,5 +1,5 @@
 use Rattle.std.proofs.Common.{rules}
-use Rattle.rv_word.specs.MemoryMap.{profile_of}
+use Rattle.rv_image.specs.MemoryMap.{profile_of}
 use Rattle.rv_mem.specs.Cells.{memory_of}
 use Rattle.rv_machine.proofs.Decoding.{code_same, code_stored}
 use Rattle.rv_machine.proofs.processor.Processor.store.Goals.{in-Err-Fault, in-Err-NoMemory, in-Ok}

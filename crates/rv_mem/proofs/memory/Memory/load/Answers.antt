@@ -1,4 +1,4 @@
-use Rattle.rv_word.specs.Memory.{loaded}
+use Rattle.rv_image.specs.Image.{loaded}
 use Rattle.rv_mem.proofs.memory.Memory.load.Goals as goal
 
 pub returns-clause-memory : goal.returns-clause-memory

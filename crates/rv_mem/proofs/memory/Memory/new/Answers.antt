@@ -1,5 +1,5 @@
 use Rattle.std.proofs.Common.{[]}
-use Rattle.rv_word.specs.MemoryMap.{CODE_START, DATA_START}
+use Rattle.rv_image.specs.MemoryMap.{CODE_START, DATA_START}
 use Rattle.rv_word.specs.Memory.{placed, zeros}
 use Rattle.rv_mem.proofs.Placed.{placed-none}
 use Rattle.rv_mem.proofs.memory.Memory.new.Goals as goal

@@ -1,6 +1,6 @@
 use Rattle.std.proofs.Common.{sym, ◌∙◌, ap, subst, IsTrue}
 use Rattle.rv_word.specs.Memory.{Memory}
-use Rattle.rv_word.specs.MemoryMap.{can_store, profile_of}
+use Rattle.rv_image.specs.MemoryMap.{can_store, profile_of}
 use Rattle.rv_mem.specs.Cells.{Cells, AreBytes, HasRoom, has_room, memory_of, place_of}
 use Rattle.rv_mem.specs.Pages.{AreMade}
 use Rattle.rv_mem.proofs.InMemory.{made_for_room, paged_same, room_for_made, room_kept}

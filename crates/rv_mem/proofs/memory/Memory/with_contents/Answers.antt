@@ -1,5 +1,5 @@
 use Rattle.std.proofs.Common.{◌∙◌, ap}
-use Rattle.rv_word.specs.MemoryMap.{DATA_START}
+use Rattle.rv_image.specs.MemoryMap.{DATA_START}
 use Rattle.rv_word.specs.Memory.{Memory, placed}
 use Rattle.rv_mem.proofs.InMemory.{placed-swap}
 use Rattle.rv_mem.proofs.memory.Memory.with_contents.Goals as goal

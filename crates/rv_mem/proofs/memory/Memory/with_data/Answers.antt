@@ -1,4 +1,4 @@
-use Rattle.rv_word.specs.MemoryMap.{CODE_START, DATA_START}
+use Rattle.rv_image.specs.MemoryMap.{CODE_START, DATA_START}
 use Rattle.rv_word.specs.Memory.{placed, zeros}
 use Rattle.rv_mem.proofs.Placed.{placed-none}
 use Rattle.rv_mem.proofs.memory.Memory.with_data.Goals as goal

@@ -1,6 +1,6 @@
 use Rattle.std.proofs.Common.{◌≡◌, ◌/◌, sym, ◌∙◌, ap, subst, arith, length, IsTrue, inl, inr}
 use Rattle.rv_word.specs.Memory.{Memory, placed}
-use Rattle.rv_word.specs.MemoryMap.{can_store, profile_of}
+use Rattle.rv_image.specs.MemoryMap.{can_store, profile_of}
 use Rattle.rv_mem.specs.Cells.{Cells, AreBytes, HasRoom, has_room, memory_of, place_of}
 use Rattle.rv_mem.specs.Pages.{PAGE_SIZE, byte_of, is_made}
 use Rattle.rv_mem.proofs.InMemory.{bytes_placed, made_for_room, memory_of-put_in, paged_same, room_kept}

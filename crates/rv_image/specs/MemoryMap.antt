@@ -1,15 +1,15 @@
 -- The machine's memory map: three regions, and what each allows. Its addresses and sizes are the
 -- constants of `src/memory_map.rt` and `src/profile.rt`, under the same names.
 use Rattle.std.specs.Prelude.{◌≡◌, ℕ, ◌+◌, ◌*◌, ◌≤◌, nat_le, ◌⊎◌, Bool, ◌&&◌, ◌||◌, true, false, Option, Some, None, if◌then◌else◌}
-use Rattle.rv_word.specs.declared.version.ImageVersion.{ImageVersion}
-use Rattle.rv_word.specs.declared.version.ImageVersion.TheVariants.{OneHart, EightHarts}
-use Rattle.rv_word.specs.declared.version.GraphVersion.{GraphVersion}
-use Rattle.rv_word.specs.declared.version.GraphVersion.TheVariants.{OneLabel, TwoLabels, CalleeSaves}
-use Rattle.rv_word.specs.declared.version.Versions.{Versions}
-use Rattle.rv_word.specs.declared.region.Region.{Region}
-use Rattle.rv_word.specs.declared.region.Region.TheVariants.{Data, Code, Shadow}
-use Rattle.rv_word.specs.declared.memory_map.TheConstants as map
-use Rattle.rv_word.specs.declared.profile.TheConstants as profile
+use Rattle.rv_image.specs.declared.version.ImageVersion.{ImageVersion}
+use Rattle.rv_image.specs.declared.version.ImageVersion.TheVariants.{OneHart, EightHarts}
+use Rattle.rv_image.specs.declared.version.GraphVersion.{GraphVersion}
+use Rattle.rv_image.specs.declared.version.GraphVersion.TheVariants.{OneLabel, TwoLabels, CalleeSaves}
+use Rattle.rv_image.specs.declared.version.Versions.{Versions}
+use Rattle.rv_image.specs.declared.region.Region.{Region}
+use Rattle.rv_image.specs.declared.region.Region.TheVariants.{Data, Code, Shadow}
+use Rattle.rv_image.specs.declared.memory_map.TheConstants as map
+use Rattle.rv_image.specs.declared.profile.TheConstants as profile
 
 -- data, which begin at 0: where they end, and where an image's initialised data begin
 abbrev pub DATA_END : ℕ

@@ -1,6 +1,6 @@
 ghost use Rattle.std.specs.Prelude.{◌≡◌, ◌+◌, ◌≤◌, ◌<◌, ◌^◌};
-ghost use Rattle.rv_word.specs.Form.{form_name, form_named, form_of, graph_version, image_version, profile_for};
-ghost use Rattle.rv_word.specs.MemoryMap.{CODE_START, profile_with};
+ghost use Rattle.rv_image.specs.Form.{form_name, form_named, form_of, graph_version, image_version, profile_for};
+ghost use Rattle.rv_image.specs.MemoryMap.{CODE_START, profile_with};
 
 use crate::version::{GraphVersion, ImageVersion, Versions};
 

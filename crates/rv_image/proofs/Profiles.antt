@@ -1,12 +1,12 @@
 -- What all profiles have: the facts about their addresses that proofs about any of them need.
 use Rattle.std.proofs.Common.{◌≡◌, ◌+◌, ◌*◌, ◌%◌, ◌≤◌, inl, inr, refl, sym, subst, arith, true, false}
-use Rattle.rv_word.specs.declared.version.ImageVersion.{ImageVersion}
-use Rattle.rv_word.specs.declared.version.ImageVersion.TheVariants.{OneHart, EightHarts}
-use Rattle.rv_word.specs.declared.version.GraphVersion.{GraphVersion}
-use Rattle.rv_word.specs.declared.version.GraphVersion.TheVariants.{OneLabel, TwoLabels, CalleeSaves}
-use Rattle.rv_word.specs.Form.{graph_version, image_version, profile_for}
-use Rattle.rv_word.specs.declared.form.Form.{Form}
-use Rattle.rv_word.specs.MemoryMap.{CODE_START, PART_SIZE, Profile, IsFullProfile, IsLeanProfile, IsProfile, lean_profile_of, lean_version_1, lean_version_2, profile_of, profile_under, version_1, version_2}
+use Rattle.rv_image.specs.declared.version.ImageVersion.{ImageVersion}
+use Rattle.rv_image.specs.declared.version.ImageVersion.TheVariants.{OneHart, EightHarts}
+use Rattle.rv_image.specs.declared.version.GraphVersion.{GraphVersion}
+use Rattle.rv_image.specs.declared.version.GraphVersion.TheVariants.{OneLabel, TwoLabels, CalleeSaves}
+use Rattle.rv_image.specs.Form.{graph_version, image_version, profile_for}
+use Rattle.rv_image.specs.declared.form.Form.{Form}
+use Rattle.rv_image.specs.MemoryMap.{CODE_START, PART_SIZE, Profile, IsFullProfile, IsLeanProfile, IsProfile, lean_profile_of, lean_version_1, lean_version_2, profile_of, profile_under, version_1, version_2}
 
 pub record LaidOut (p : Profile) : Type 0 where
   pub call : p.opening_call + 4 ≡ p.closing

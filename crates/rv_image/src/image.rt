@@ -14,7 +14,7 @@ pub struct Image<'a> {
 
 impl<'a> Model for Image<'a> {
     ghost use Rattle.std.specs.Prelude.{length};
-    ghost use Rattle.rv_word.specs.Image.{Contents, IsImageSize};
+    ghost use Rattle.rv_image.specs.Image.{Contents, IsImageSize};
 
     ghost Value = { Contents };
 
@@ -24,8 +24,8 @@ impl<'a> Model for Image<'a> {
 }
 
 impl<'a> Image<'a> {
-    ghost use Rattle.rv_word.specs.Image.{IsImageSize};
-    ghost use Rattle.rv_word.specs.declared.version.ImageVersion.TheVariants.{OneHart};
+    ghost use Rattle.rv_image.specs.Image.{IsImageSize};
+    ghost use Rattle.rv_image.specs.declared.version.ImageVersion.TheVariants.{OneHart};
 
     /// The image of version 1, for one hart, of these bytes: 4 to 2^20 bytes of code, a multiple of 4,
     /// and at most 2^25 of data.

@@ -1,8 +1,8 @@
 //! The versions of images and of graphs, and what those of images differ in.
 
 ghost use Rattle.std.specs.Prelude.{◌≡◌, ◌+◌, ◌≤◌, ◌^◌};
-ghost use Rattle.rv_word.specs.MemoryMap.{CODE_START, profile_of, profile_with};
-ghost use Rattle.rv_word.specs.Version.{image_number};
+ghost use Rattle.rv_image.specs.MemoryMap.{CODE_START, profile_of, profile_with};
+ghost use Rattle.rv_image.specs.Version.{image_number};
 
 use crate::memory_map::SHADOW_SIZE;
 use crate::profile::{

@@ -1,0 +1,4 @@
+pub mod MemoryMap
+pub mod Version
+pub mod Form
+pub mod Image
