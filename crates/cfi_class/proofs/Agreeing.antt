@@ -42,7 +42,7 @@ agree_all targets numbers set number i past each range agree = record {
   only = λ a b ha hb e. inl e;
 }
 
-none_at : (n i : ℕ) → get_or (replicate n false) i false ≡ false
+pub none_at : (n i : ℕ) → get_or (replicate n false) i false ≡ false
 none_at n i = elim (cases_lt i n) [
   | inl lt ↦ get_or-replicate n i false false lt
   | inr past ↦ get_or-eq_default (replicate n false) false (omega (arith, length-replicate n false))

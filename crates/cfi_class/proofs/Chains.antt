@@ -6,7 +6,7 @@ use Rattle.cfi_class.specs.Passes.{AreGroups, AreNumbers}
 use Rattle.cfi_class.proofs.Agreeing.{at_index}
 use Rattle.cfi_class.proofs.Sets.{list_there}
 
-first_in : (sets : List (List ℕ)) (a b : ℕ) → Joined sets a b → IsInSome sets a
+pub first_in : (sets : List (List ℕ)) (a b : ℕ) → Joined sets a b → IsInSome sets a
 first_in sets a b (here (k, p, q)) = (k, p)
 first_in sets a b (on (k, p, q) rest) = (k, p)
 

@@ -8,16 +8,16 @@ use Rattle.cfi_class.specs.Classes.{IsIn, AreInOne, Joined, here, on}
 use Rattle.cfi_class.specs.Passes.{AreJoined, AreNumbers, IsMarked, IsRepeated}
 
 -- chains: one after another, and backwards
-pub after : (sets : List (List ℕ)) (a b c : ℕ) → Joined sets a b → Joined sets b c → Joined sets a c
-after sets a b c (here one) q = on one q
-after sets a b c (on one rest) q = on one (after sets _ b c rest q)
+pub chained : (sets : List (List ℕ)) (a b c : ℕ) → Joined sets a b → Joined sets b c → Joined sets a c
+chained sets a b c (here one) q = on one q
+chained sets a b c (on one rest) q = on one (chained sets _ b c rest q)
 
 back : (sets : List (List ℕ)) (a b : ℕ) → AreInOne sets a b → AreInOne sets b a
 back sets a b (k, p, q) = (k, q, p)
 
 pub backwards : (sets : List (List ℕ)) (a b : ℕ) → Joined sets a b → Joined sets b a
 backwards sets a b (here one) = here (back sets a b one)
-backwards sets a b (on one rest) = after sets b _ a (backwards sets _ b rest) (here (back sets a _ one))
+backwards sets a b (on one rest) = chained sets b _ a (backwards sets _ b rest) (here (back sets a _ one))
 
 -- each target has a number of its own
 pub own_numbers : (sets : List (List ℕ)) (targets numbers : List ℕ) → length numbers ≡ length targets →
@@ -33,7 +33,7 @@ own_numbers sets targets numbers each own = record {
 on_to : (sets : List (List ℕ)) (targets : List ℕ) (i j c : ℕ) → (i ≡ j) ⊎ Joined sets (get_or targets i 0) (get_or targets j 0) → Joined sets (get_or targets j 0) c → Joined sets (get_or targets i 0) c
 on_to sets targets i j c (inl e) q =
     subst (λ (m : ℕ). Joined sets (get_or targets m 0) c) (sym e) q
-on_to sets targets i j c (inr p) q = after sets _ _ c p q
+on_to sets targets i j c (inr p) q = chained sets _ _ c p q
 
 step_to : (sets : List (List ℕ)) (targets : List ℕ) (a i j : ℕ) → AreInOne sets a (get_or targets i 0) → (i ≡ j) ⊎ Joined sets (get_or targets i 0) (get_or targets j 0) → Joined sets a (get_or targets j 0)
 step_to sets targets a i j one (inl e) =

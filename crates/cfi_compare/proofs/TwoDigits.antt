@@ -1,8 +1,9 @@
 -- A byte in two hexadecimal digits, as `{:02x}` prints it.
-use Rattle.std.proofs.Common.{◌≡◌, true, false, ℕ, zero, suc, ◌-◌, ◌/◌, ◌%◌, ◌^◌, ◌==◌, ◌<◌, List, [], ◌∷◌, ◌++◌, length, replicate, refl, sym, ◌∙◌, ap, append-nil, arith, eq-eqb}
+use Rattle.std.proofs.Common.{◌≡◌, true, false, ℕ, zero, suc, ◌-◌, ◌/◌, ◌%◌, ◌^◌, ◌==◌, ◌<◌, List, [], ◌∷◌, ◌++◌, length, replicate, refl, ◌∙◌, ap, append-nil, arith, eq-eqb}
 use borrow.Author.Tests.{ne_eqb}
 use Rattle.std.specs.Fmt.{digits, digits_onto, padded_integral, format_spec, char_count}
 use Rattle.text_lines.specs.Hex.{hex_digit, hex_text}
+use Rattle.text_lines.proofs.Printed.{digits_are}
 
 -- what is written where one digit is left, and where there are more
 last_digit : (fuel n : ℕ) (acc : List ℕ) → (n / 16 == 0) ≡ true → digits_onto (suc fuel) 16 false n acc ≡ hex_digit (n % 16) ∷ acc
@@ -10,10 +11,6 @@ last_digit fuel n acc none = rw none refl
 
 more_digits : (fuel n : ℕ) (acc : List ℕ) → (n / 16 == 0) ≡ false → digits_onto (suc fuel) 16 false n acc ≡ digits_onto fuel 16 false (n / 16) (hex_digit (n % 16) ∷ acc)
 more_digits fuel n acc some = rw some refl
-
-digits_are : (fuel n : ℕ) → fuel ≡ 64 → digits 16 false n ≡ digits_onto fuel 16 false n []
-unfolding digits
-digits_are fuel n e = ap (λ k. digits_onto k 16 false n []) (sym e)
 
 filled : (numeral : List ℕ) → padded_integral (format_spec 32 0 4 2 (2 ^ 64 - 1)) false [] numeral ≡ replicate (2 - length numeral) 48 ++ numeral
 unfolding padded_integral char_count

@@ -3,7 +3,7 @@
 use Rattle.std.proofs.Common.{◌≡◌, ℕ, suc, ◌+◌, ◌*◌, ◌<◌, ◌≤◌, ◌⊎◌, inl, inr, Bool, true, false, List, [], ◌∷◌, refl, sym, ap, subst, ◌∙◌, Option, Some, None, arith}
 use Rattle.std.specs.Prelude.{◌==◌, ◌&&◌, not, is_some, option_and_then}
 use Rattle.std.specs.List.{Contains}
-use Rattle.std.proofs.lemmas.Bool.{and_parts, cases_eq, eqb-true, ne_eqb, or_parts, false≢true}
+use Rattle.std.proofs.lemmas.Bool.{and_parts, cases_eq, eqb-true, ne_eqb, or_parts, false≢true, not-false}
 use Rattle.std.proofs.lemmas.Option.{none-some, same_Some, slice_get-get_or}
 use Rattle.rv_image.specs.Image.{Contents}
 use Rattle.rv_image.specs.MemoryMap.{IsProfile, Profile}
@@ -35,7 +35,7 @@ use Rattle.cfi_rules.proofs.Find.{UnitHere, no_unit}
 use Rattle.cfi_rules.proofs.LineOrder.{line_at-with, with_key}
 use Rattle.cfi_rules.proofs.Leading.{class_parts}
 use Rattle.cfi_rules.proofs.Places.{place_facts}
-use Rattle.cfi_rules.proofs.RuleFacts.{not_false, unit_stands_in}
+use Rattle.cfi_rules.proofs.RuleFacts.{unit_stands_in}
 use Rattle.cfi_rules.proofs.Served.{served}
 use Rattle.cfi_confined.specs.Confined.{IsSiteTo, NoSite, class_line, past_target}
 
@@ -166,13 +166,13 @@ module _ (p : Profile) (profile : IsProfile p) (image : Contents) (graph : Graph
     pub edge_listed : (t : ℕ) → edge_of place ≡ Some t → Contains graph.lines (Edge a t)
     edge_listed t edge =
         let rule = (transfers_listed a).0 in
-        let (line, there, at, is) = listed_by graph.lines a (λ o. is_edge_to o t) refl (not_false (is_edge_to (line_at graph.lines a) t) (rw (here, edge) at rule)) in
+        let (line, there, at, is) = listed_by graph.lines a (λ o. is_edge_to o t) refl (not-false (is_edge_to (line_at graph.lines a) t) (rw (here, edge) at rule)) in
         subst (Contains graph.lines) (edge_is a line t at is) there
 
     pub call_listed : (t : ℕ) → call_of place ≡ Some t → Contains graph.lines (Call a t)
     call_listed t call =
         let rule = (transfers_listed a).1 in
-        let (line, there, at, is) = listed_by graph.lines a (λ o. is_call_to o t) refl (not_false (is_call_to (line_at graph.lines a) t) (rw (here, call) at rule)) in
+        let (line, there, at, is) = listed_by graph.lines a (λ o. is_call_to o t) refl (not-false (is_call_to (line_at graph.lines a) t) (rw (here, call) at rule)) in
         subst (Contains graph.lines) (call_is a line t at is) there
 
     -- a computed transfer to where a target of its class leads
@@ -180,7 +180,7 @@ module _ (p : Profile) (profile : IsProfile p) (image : Contents) (graph : Graph
         to ≡ v + past_target graph.version asked.kind → IsSiteTo graph.version graph.lines asked.kind a to
     site_to asked v to site inside behind =
         let rule = (sites_listed a).0 in
-        let both = not_false (is_site_with (line_at graph.lines a) asked && is_some (targets_for graph.lines asked.kind asked.which asked.label)) (rw (here, site) at rule) in
+        let both = not-false (is_site_with (line_at graph.lines a) asked && is_some (targets_for graph.lines asked.kind asked.which asked.label)) (rw (here, site) at rule) in
         let (line_a, there_a, at, is) = listed_by graph.lines a (λ o. is_site_with o asked) refl (and_parts _ _ both).0 in
         let (ts, class, among) = class_parts graph.lines asked.kind asked.which asked.label v inside in
         let s = served graph.lines asked.kind asked.which asked.label ts class in
@@ -205,7 +205,7 @@ module _ (p : Profile) (profile : IsProfile p) (image : Contents) (graph : Graph
       ∙ with_key graph.lines (Address a) ordered.order k (Site a kind label) (slice_get-get_or graph.lines k (Site a kind label) within ∙ ap Some is) refl in
       let rule = (sites_listed a).1 in
       let site : is_some (option_and_then site_of (place_at p W a)) ≡ true =
-      not_false _ (sym (ap (λ o. holds_of o (is_lone_site (place_at p W a))) there) ∙ rule) in
+      not-false _ (sym (ap (λ o. holds_of o (is_lone_site (place_at p W a))) there) ∙ rule) in
       elim (cases_Option (place_at p W a)) [
         | inl none ↦ false≢true (sym (ap (λ o. is_some (option_and_then site_of o)) none) ∙ site)
         | inr (place, some) ↦

@@ -20,6 +20,7 @@ use Rattle.rv_code.specs.Step.{exec, step}
 use Rattle.rv_code.specs.declared.turn.Turn.{Turn}
 use Rattle.rv_code.specs.declared.turn.Turn.TheVariants.{Ran, Exit, Break, LoadFault, StoreFault, FetchFault, Illegal}
 use Rattle.rv_code.proofs.Frames.{read_same}
+use Rattle.rv_code.proofs.Changes.{changed_above}
 use Rattle.cfi_graph.specs.Graph.{GraphParts, IsGraph, calls_in}
 use Rattle.cfi_unit.specs.Context.{Context, IsCodeOf}
 use Rattle.cfi_unit.specs.EventLaw.{MayCall}
@@ -52,7 +53,6 @@ use Rattle.cfi_rules.proofs.ListedRuns.{act_listed, admitted}
 use Rattle.cfi_rules.proofs.Moves.{Arrived, SitesStand, Stage, most_at}
 use Rattle.cfi_rules.proofs.Places.{PlaceFacts, at_opening, handler_is, nothing_inside, place_facts, prologue}
 use Rattle.cfi_rules.proofs.RuleFacts.{unit_stands_in}
-use Rattle.cfi_rules.proofs.Safety.{changed_above}
 use Rattle.cfi_rules.proofs.StartKinds.{full_there, stands_there, start_there}
 use Rattle.cfi_rules.proofs.Steps.{InOpens, InUnitNow, Inside, Now, Ready, are_sites, arrived, begins, full_opens, inside_kept, lean_opens, opens_at, starting, step_on, within}
 use Rattle.cfi_confined.specs.Confined.{ConfinedAlong, IsAllowed, IsHandler, MayEcall, MayStop, Moves, Pending, Writes, fetched, most_calls, with_pending}

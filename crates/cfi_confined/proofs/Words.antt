@@ -46,6 +46,7 @@ use Rattle.cfi_unit.proofs.MemberWords.{member_at}
 use Rattle.cfi_unit.proofs.PlaceWords.{lone_word, own_word}
 use Rattle.cfi_unit.proofs.Parts.{call_site, opening_parts, set_up_length}
 use Rattle.cfi_unit.proofs.StoreUnit.{member_address}
+use Rattle.cfi_unit.proofs.LeanUnits.{arrives_beyond}
 use Rattle.cfi_pending.specs.Opening.{InLone, InOwn, InSetUp}
 use Rattle.cfi_pending.specs.Opening as lean
 use Rattle.cfi_pending.specs.StartLaw.{stands_in}
@@ -79,11 +80,6 @@ AreNewest (site ∷ stacked) x1 x31 = (x1 ≡ site) × (x31 ≡ site)
 pub caller_saves : (callee_saves : Bool) (unit : U.Unit) → is_lean unit ≡ false → stands_in callee_saves unit ≡ true → callee_saves ≡ false
 caller_saves false unit full stands = refl
 caller_saves true unit full stands = absurd (cc)
-
--- eight bytes past x31, where that is a legal destination
-arrives_beyond : {image : Memory} {which : TargetWord} {label : ℕ} (h : Hart) (v : ℕ) → h.regs 31 ≡ v → HasLabel image which label v →
-    address h 31 8 / 2 * 2 ≡ v + 8
-arrives_beyond h v is legal = let round = legal.round in let high = legal.high in omega arith
 
 -- no branch, no jump and no store
 abbrev is_quiet : Instr → Bool

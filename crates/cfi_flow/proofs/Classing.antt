@@ -1,12 +1,10 @@
 -- Lists that join the same targets as the sets of the sites have the same classes.
-use Rattle.std.proofs.Common.{◌≡◌, ℕ, ◌+◌, ◌<◌, List, [], ◌∷◌, length, map, get_or, Option, Some, None, IfSome, inl, inr, refl, sym, ap, subst, arith, add-one}
+use Rattle.std.proofs.Common.{◌≡◌, ℕ, ◌+◌, ◌<◌, List, [], ◌∷◌, length, map, get_or, Option, Some, None, IfSome, refl, sym, ap, subst, arith, add-one}
 use Rattle.std.specs.List.{All, Contains}
-use Rattle.std.proofs.Math.ListN.{get_or-eq_default}
-use Rattle.std.proofs.lemmas.Bool.{cases_lt}
 use Rattle.std.proofs.lemmas.List.{get_or-map, length-map}
 use Rattle.std.proofs.lemmas.List.Elements.{All-contains, All-from_get_or, Contains-get_or}
 use Rattle.std.proofs.lemmas.List.Quantifiers.{position-Some}
-use Rattle.cfi_class.specs.Classes.{AreInOne, IsIn, IsInSome, Joined, here, on, class_with, has}
+use Rattle.cfi_class.specs.Classes.{AreInOne, IsInSome, Joined, here, on, class_with, has}
 use Rattle.cfi_closed.specs.declared.side.Site.{Site}
 use Rattle.cfi_flow.specs.Closing.{AreClasses, class_reached, sets_of, with_class}
 use Rattle.cfi_flow.specs.Found.{by_table, first_entry}
@@ -14,29 +12,13 @@ use Rattle.cfi_flow.specs.Joins.{JoinAs}
 use Rattle.cfi_flow.specs.Raw.{IsThere, RawGraph, no_site}
 use Rattle.cfi_flow.specs.Sites.{RawSite}
 use Rattle.cfi_class.specs.Tables.{IsTable}
-
--- only a list that is there has a member
-pub list_there : (lists : List (List ℕ)) (k a : ℕ) → IsIn lists k a → k < length lists
-list_there lists k a h = elim (cases_lt k (length lists)) [
-  | inl less ↦ less
-  | inr past ↦
-      let none : Contains [] a = subst (λ (xs : List ℕ). Contains xs a) (get_or-eq_default lists [] past) h in
-      let below = none.1 in
-      absurd (omega arith)
-]
-
--- chains whose links are chains
-pub chained : (s : List (List ℕ)) (a b c : ℕ) → Joined s a b → Joined s b c → Joined s a c
-chained s a b c (here h) rest = on h rest
-chained s a b c (on {b = m} h more) rest = on h (chained s m b c more rest)
+use Rattle.cfi_class.proofs.Chains.{first_in}
+use Rattle.cfi_class.proofs.Numbers.{chained}
+use Rattle.cfi_class.proofs.Sets.{list_there}
 
 pub joined_along : (s t : List (List ℕ)) → ((a b : ℕ) → AreInOne s a b → Joined t a b) → (a b : ℕ) → Joined s a b → Joined t a b
 joined_along s t f a b (here h) = f a b h
 joined_along s t f a c (on {b = b} h rest) = chained t a b c (f a b h) (joined_along s t f b c rest)
-
-first_in : (s : List (List ℕ)) (a b : ℕ) → Joined s a b → IsInSome s a
-first_in s a b (here h) = (h.0, h.1)
-first_in s a b (on h rest) = (h.0, h.1)
 
 -- the classes of lists that join the same are those of the sets
 pub classes_of : (sets lists classes : List (List ℕ)) → JoinAs sets lists → AreClasses lists classes → AreClasses sets classes

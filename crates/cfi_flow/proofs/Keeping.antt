@@ -1,12 +1,12 @@
 -- Sites that are kept with the indexes of their lists or with spans, as they grow by one.
-use Rattle.std.proofs.Common.{◌≡◌, ℕ, ◌+◌, ◌<◌, Bool, List, [], ◌∷◌, ◌++◌, length, map, get_or, take, Option, IfSome, inl, inr, refl, sym, ap, subst, ◌∙◌, arith, add-one}
+use Rattle.std.proofs.Common.{◌≡◌, ℕ, ◌+◌, ◌<◌, Bool, List, [], ◌∷◌, ◌++◌, length, map, get_or, Option, IfSome, inl, inr, refl, sym, ap, subst, ◌∙◌, arith, add-one}
 use Rattle.std.specs.Prelude.{filter}
 use Rattle.std.specs.List.{All, slice_get}
 use Rattle.std.proofs.Math.ListN.{get_or-append}
 use Rattle.std.proofs.Math.Seq.{get_or-append_seam}
 use Rattle.std.proofs.lemmas.Bool.{cases_Bool}
 use Rattle.std.proofs.lemmas.List.Elements.{All-filter}
-use Rattle.std.proofs.lemmas.List.{get_or-map, length-map, map-append, take_more}
+use Rattle.std.proofs.lemmas.List.{get_or-map, length-map, map-append}
 use Rattle.cfi_graph.specs.declared.line.SiteKind.{SiteKind}
 use Rattle.cfi_graph.specs.declared.line.Sort.{Sort}
 use Rattle.cfi_closed.specs.Closed.{is_of}
@@ -92,13 +92,6 @@ pub first_there : (d : Drawing) → AreKept d → (a : Aim) → IsAimed (length 
 first_there d is a aimed n many o first =
     subst (λ (m : ℕ). IfSome o (λ t. t < m)) many
     (first_bound _ (length d.taken.items) (aimed_there d.lists.items d.taken.items d.begun.items a aimed is.lists) o first)
-
--- what is told of the first members of a list, and of one more
-pub map_more : {A B : Type 0} (told : A → B) (xs : List A) (i : ℕ) (d : A) (now next : List B) (y : B) → i < length xs
-    → now ≡ map told (take i xs) → y ≡ told (get_or xs i d) → next ≡ now ++ y ∷ [] → next ≡ map told (take (i + 1) xs)
-map_more told xs i d now next y below here is e =
-    e ∙ ap (λ ys. ys ++ y ∷ []) here ∙ ap (λ z. map told (take i xs) ++ z ∷ []) is
-    ∙ sym (map-append told (take i xs) (get_or xs i d ∷ [])) ∙ ap (map told) (sym (take_more xs i d below))
 
 -- the sites of a sort alone
 abbrev pub kept_for : Sort → List KeptSite → List KeptSite

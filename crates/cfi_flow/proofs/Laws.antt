@@ -18,7 +18,7 @@ use Rattle.cfi_flow.specs.Raw.{RawGraph, no_site}
 use Rattle.cfi_flow.specs.Sites.{RawSite, site_at, site_kind, sites_below}
 use Rattle.cfi_policy.specs.declared.policy.PolicyLine.{PolicyLine}
 use Rattle.cfi_policy.specs.Policy.{PolicyParts}
-use Rattle.cfi_flow.proofs.Classing.{list_there}
+use Rattle.cfi_class.proofs.Sets.{list_there}
 use Rattle.cfi_flow.proofs.Listing.{all_none, all_with, below_all}
 
 -- a computed transfer of a sort

@@ -7,13 +7,14 @@ use Rattle.std.proofs.lemmas.Bool.{and_from, and_parts, cases_lt, or_cases, or_l
 use Rattle.std.proofs.lemmas.List.{get_or_default, length-append}
 use Rattle.std.proofs.lemmas.List.Elements.{Contains-append_cases, Contains-append_left}
 use Rattle.cfi_class.specs.Classes.{AreInOne, IsIn, Joined, here}
+use Rattle.cfi_class.proofs.Numbers.{chained}
+use Rattle.cfi_class.proofs.Sets.{list_there}
 use Rattle.cfi_flow.specs.declared.span.Span.{Span}
 use Rattle.cfi_flow.specs.Below.{where_below}
 use Rattle.cfi_flow.specs.Joins.{AreJoining, JoinAs}
 use Rattle.cfi_flow.specs.Kept.{is_open, mark_at, open_targets}
 use Rattle.cfi_flow.specs.Pointed.{is_start}
 use Rattle.cfi_flow.specs.Spans.{in_span}
-use Rattle.cfi_flow.proofs.Classing.{chained, list_there}
 use Rattle.cfi_flow.proofs.Pointing.{found}
 use Rattle.cfi_flow.proofs.Rising.{below_found}
 use Rattle.cfi_flow.proofs.Spanning.{in_parts, in_yes}

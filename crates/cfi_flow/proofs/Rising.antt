@@ -49,7 +49,7 @@ below_found p (suc n) t less holds = elim (cases_lt t n) [
       rw at (Contains-append_right (where_below p n) (n ∷ []) t (0, omega arith, same))
 ]
 
-tail_rises : (x : ℕ) (xs : List ℕ) → IsStrictlyIncreasing (x ∷ xs) → IsStrictlyIncreasing xs
+pub tail_rises : (x : ℕ) (xs : List ℕ) → IsStrictlyIncreasing (x ∷ xs) → IsStrictlyIncreasing xs
 tail_rises x xs rising k inside =
     let step = rising (suc k) (omega arith) in
     rw add-one (rw add-one at step)

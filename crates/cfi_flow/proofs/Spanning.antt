@@ -9,6 +9,7 @@ use Rattle.std.specs.Prelude.{set}
 use Rattle.std.proofs.lemmas.List.{get_or-replicate, get_or-set_other, get_or_default, length-append, length-replicate, length-set, take_all, take_more_set}
 use Rattle.std.proofs.lemmas.List.Folds.{list_any-append, list_any_more, list_any_none}
 use Rattle.std.proofs.lemmas.Option.{get_or_from_slice_get, slice_get_within}
+use Rattle.std.proofs.Math.Bool.{or-false, and-false, and_comm}
 use Rattle.obj_input.specs.declared.parts.Func.{Func}
 use Rattle.obj_program.specs.Program.{Program, count, item_of}
 use Rattle.cfi_flow.specs.declared.span.Span.{Span}
@@ -24,10 +25,6 @@ in_parts s t h = let p = and_parts (nat_le s.from t) (nat_lt t s.to) h in (leb-t
 
 pub in_no : (s : Span) (t : ℕ) → (s.from ≤ t → t < s.to → ⊥) → in_span s t ≡ false
 in_no s t away = false_from_ne_true (in_span s t) (λ h. let p = in_parts s t h in away p.0 p.1)
-
-pub or_false : (b : Bool) → (b || false) ≡ b
-or_false true = refl
-or_false false = refl
 
 pub any_same : {X : Type 0} (p q : X → Bool) → ((x : X) → p x ≡ q x) → (xs : List X) → list_any p xs ≡ list_any q xs
 any_same p q same [] = refl
@@ -51,7 +48,7 @@ pub spans_more : (program : Program) (j : ℕ) (f : Func) (s : Span) (old : List
 spans_more program j f s old there same so_far a b below_a below_b =
     let both : Func → Bool = λ g. covers (item_of program a) g && covers (item_of program b) g in
     list_any-append (λ (r : Span). in_span r a && in_span r b) old (s ∷ [])
-    ∙ ap (λ (c : Bool). are_in_span old a b || c) (or_false (in_span s a && in_span s b))
+    ∙ ap (λ (c : Bool). are_in_span old a b || c) (or-false (in_span s a && in_span s b))
     ∙ ap (λ (c : Bool). c || (in_span s a && in_span s b)) (so_far a b below_a below_b)
     ∙ ap (λ (c : Bool). list_any both (take j program.funcs) || (c && in_span s b)) (same a below_a)
     ∙ ap (λ (c : Bool). list_any both (take j program.funcs) || (covers (item_of program a) f && c)) (same b below_b)
@@ -167,7 +164,7 @@ raised_all ends now n end whole h =
 -- a span that begins at a place or before it
 up_to : (f k : ℕ) (c : Bool) → ((nat_lt f k && c) || ((f == k) && c)) ≡ (nat_lt f (k + 1) && c)
 up_to f k c = elim (cases_lt f k) [
-  | inl less ↦ rw (lt-ltb f k less, lt-ltb f (k + 1) (omega arith), ne_eqb f k (λ same. omega arith)) (or_false c)
+  | inl less ↦ rw (lt-ltb f k less, lt-ltb f (k + 1) (omega arith), ne_eqb f k (λ same. omega arith)) (or-false c)
   | inr more ↦ rw (le-ltb f k more) (elim (cases_eq f k) [
     | inl same ↦ rw (eq-eqb f k same, lt-ltb f (k + 1) (omega arith)) refl
     | inr other ↦ rw (ne_eqb f k other, le-ltb f (k + 1) (omega arith)) refl
@@ -192,10 +189,6 @@ before places spans ends are t (suc k) few =
     ∙ any_or (begins_before k t) (begins_past k t) spans
     ∙ any_same (λ (s : Span). begins_before k t s || begins_past k t s) (begins_before (k + 1) t) (λ s. up_to s.from k (nat_lt t s.to)) spans)
 
-and_no : (b : Bool) → (b && false) ≡ false
-and_no true = refl
-and_no false = refl
-
 in_both : (s : Span) (a b : ℕ) → a ≤ b → begins_before (a + 1) b s ≡ (in_span s a && in_span s b)
 in_both s a b order = elim (cases_lt s.from (a + 1)) [
   | inl less ↦ elim (cases_lt b s.to) [
@@ -203,8 +196,8 @@ in_both s a b order = elim (cases_lt s.from (a + 1)) [
         and_from (nat_lt s.from (a + 1)) (nat_lt b s.to) (lt-ltb s.from (a + 1) less) (lt-ltb b s.to inside)
         ∙ sym (and_from (in_span s a) (in_span s b) (in_yes s a (omega arith) (omega arith)) (in_yes s b (omega arith) inside))
     | inr past ↦
-        ap (λ (c : Bool). nat_lt s.from (a + 1) && c) (le-ltb b s.to past) ∙ and_no (nat_lt s.from (a + 1))
-        ∙ sym (ap (λ (c : Bool). in_span s a && c) (in_no s b (λ low high. omega arith)) ∙ and_no (in_span s a))
+        ap (λ (c : Bool). nat_lt s.from (a + 1) && c) (le-ltb b s.to past) ∙ and-false (nat_lt s.from (a + 1))
+        ∙ sym (ap (λ (c : Bool). in_span s a && c) (in_no s b (λ low high. omega arith)) ∙ and-false (in_span s a))
   ]
   | inr more ↦
       ap (λ (c : Bool). c && nat_lt b s.to) (le-ltb s.from (a + 1) more)
@@ -224,16 +217,10 @@ reach_is program spans ends reach are of far = record {
       ∙ are a b (omega arith) below;
 }
 
-and_swap : (a b : Bool) → (a && b) ≡ (b && a)
-and_swap true true = refl
-and_swap true false = refl
-and_swap false true = refl
-and_swap false false = refl
-
 in_one_swap : (program : Program) (a b : ℕ) → are_in_one program (item_of program a) (item_of program b) ≡ are_in_one program (item_of program b) (item_of program a)
 in_one_swap program a b =
     any_same (λ (f : Func). covers (item_of program a) f && covers (item_of program b) f) (λ (f : Func). covers (item_of program b) f && covers (item_of program a) f)
-    (λ f. and_swap (covers (item_of program a) f) (covers (item_of program b) f)) program.funcs
+    (λ f. and_comm (covers (item_of program a) f) (covers (item_of program b) f)) program.funcs
 
 -- from the first place that reaches past a place, up to where that place reaches
 pub spanned : (program : Program) (reach : List ℕ) (k from : ℕ) → k < length reach → ((i : ℕ) → i < from → get_or reach i 0 ≤ k)

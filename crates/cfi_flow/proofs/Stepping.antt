@@ -3,6 +3,7 @@ use Rattle.std.proofs.Common.{◌≡◌, ℕ, ◌+◌, ◌<◌, Bool, false, ◌
 use Rattle.std.proofs.lemmas.List.{append-nil, get_or-map, length-map}
 use Rattle.std.proofs.lemmas.List.Quantifiers.{position-Some}
 use Rattle.std.proofs.lemmas.Option.{slice_get-get_or}
+use Rattle.std.proofs.Math.Bool.{or-false}
 use Rattle.obj_program.specs.declared.item.Item.{Item}
 use Rattle.obj_program.specs.Program.{Program, count, item_of, no_item}
 use Rattle.cfi_graph.specs.declared.line.SiteKind.{SiteKind}
@@ -18,7 +19,7 @@ use Rattle.cfi_flow.specs.Sites.{RawSite, is_function, reached, may_reach, site_
 use Rattle.cfi_flow.specs.Spans.{goes_inside, in_span}
 use Rattle.cfi_class.proofs.Finding.{find_none, find_some}
 use Rattle.cfi_flow.proofs.Listing.{below_same}
-use Rattle.cfi_flow.proofs.Spanning.{or_false}
+
 
 module _ (program : Program) (lines : List PolicyLine) (k : ℕ) where
   pub by_line : (kind : SiteKind) (j : ℕ) → Some j ≡ line_for program lines k → allowed program (get_or lines j no_line) ≡ targets_under program lines kind k
@@ -34,7 +35,7 @@ module _ (program : Program) (lines : List PolicyLine) (k : ℕ) where
 
 one_reached : (program : Program) (kind : SiteKind) (k t : ℕ)
     → ((item_of program t).taken && (is_function program (item_of program t) || goes_inside program kind k t)) ≡ may_reach program kind (item_of program k) (item_of program t)
-one_reached program site.Call k t = ap (λ (b : Bool). (item_of program t).taken && b) (or_false (is_function program (item_of program t)))
+one_reached program site.Call k t = ap (λ (b : Bool). (item_of program t).taken && b) (or-false (is_function program (item_of program t)))
 one_reached program site.Jump k t = refl
 
 -- what a site may go to that has no line

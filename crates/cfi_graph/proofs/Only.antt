@@ -2,7 +2,7 @@
 use Rattle.std.proofs.Common.{◌≡◌, ℕ, ◌+◌, ◌%◌, ◌^◌, ◌<◌, ◌≤◌, ◌==◌, ◌&&◌, nat_lt, not, Bool, true, false, List, [], ◌∷◌, ◌++◌, codes, map, position, Option, Some, None, Ok, inl, inr, refl, sym, ◌∙◌, ap, arith}
 use Rattle.std.specs.List.{list_all}
 use Rattle.std.specs.Str.{bytes_eq}
-use Rattle.std.proofs.lemmas.Bool.{and_from, and_parts, cases_Bool, leb-true, ltb-true}
+use Rattle.std.proofs.lemmas.Bool.{and_from, and_parts, cases_Bool, leb-true, ltb-true, not-true}
 use Rattle.std.proofs.lemmas.Slice.Eq.{bytes_eq-Decides}
 use Rattle.std.proofs.Math.Dec.{leb, ltb}
 use Rattle.rv_image.specs.declared.version.GraphVersion.TheVariants.{OneLabel, TwoLabels, CalleeSaves}
@@ -118,15 +118,11 @@ line_words_back (Edge from to) other =
 line_words_back (Call from to) other =
     words_back (codes "call") (hex_text 8 from ∷ hex_text 8 to ∷ []) (words_plain (Call from to) refl)
 
-no_list : (b : Bool) → not b ≡ true → b ≡ false
-no_list false e = refl
-no_list true e = absurd cc
-
 lines_lack : (lines : List GraphLine) → list_all (λ l. not (is_list l)) lines ≡ true → list_all (lacks 10) (spellings lines ++ [] ∷ []) ≡ true
 lines_lack [] others = refl
 lines_lack (l ∷ lines) others =
     let p = and_parts (not (is_list l)) (list_all (λ l. not (is_list l)) lines) others in
-    and_from _ _ (spaced_line (words_of_line l) (words_plain l (no_list (is_list l) p.0))) (lines_lack lines p.1)
+    and_from _ _ (spaced_line (words_of_line l) (words_plain l (not-true (is_list l) p.0))) (lines_lack lines p.1)
 
 order_first : (before : Option Key) (l : GraphLine) (keys : List Key) → targets_rise l ≡ true → rises_after before (key_of l ∷ keys) ≡ true → (in_order before l ≡ true) × (rises_after (Some (key_of l)) keys ≡ true)
 order_first None l keys t e = (t, e)
@@ -145,7 +141,7 @@ module _ (version : GraphVersion) (len : ℕ) (small : len ≤ 0x100000) where
   accepts before [] n f r t o = end_only
   accepts before (l ∷ lines) n f r t o =
       let other = and_parts (not (is_list l)) (list_all (λ l. not (is_list l)) lines) n in
-      let no = no_list (is_list l) other.0 in
+      let no = not-true (is_list l) other.0 in
       let fits = and_parts (fits_version version l) (list_all (fits_version version) lines) f in
       let p = and_parts (line_in_range len l) (list_all (line_in_range len) lines) r in
       let q = and_parts (targets_rise l) (list_all targets_rise lines) t in

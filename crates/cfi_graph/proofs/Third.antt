@@ -1,5 +1,5 @@
 -- The third line of a graph's text, which may be a list of system calls.
-use Rattle.std.proofs.Common.{◌≡◌, ℕ, ◌==◌, Bool, not, true, false, List, [], ◌∷◌, ◌++◌, codes, Option, Some, None, Result, Ok, Err, refl, sym, ◌∙◌, ap, inl, inr}
+use Rattle.std.proofs.Common.{◌≡◌, ℕ, ◌==◌, not, true, false, List, [], ◌∷◌, ◌++◌, codes, Option, Some, None, Result, Ok, Err, refl, sym, ◌∙◌, ap, inl, inr}
 use Rattle.std.specs.List.{join_with_byte, starts_with}
 use Rattle.std.specs.Option.{option_map}
 use Rattle.std.specs.Str.{bytes_eq}
@@ -71,6 +71,3 @@ module _ (rest : List ℕ) {parts : List (List ℕ)} {line : List ℕ} (p : part
         mapped small_in (calls_of (words_of line)) numbers (sym is) (λ ns found small.
         is_listed ∙ ap (λ o. listed o parts (lines_of rest)) found ∙ rw (sym (judges ns small) ∙ e) refl)
 
-pub is_false : (b : Bool) → not b ≡ true → b ≡ false
-is_false false e = refl
-is_false true e = absurd cc

@@ -1,11 +1,9 @@
 -- Lists of sizes and of starts, while a loop makes them.
-use Rattle.std.proofs.Common.{◌≡◌, ℕ, ◌+◌, ◌-◌, ◌<◌, ◌≤◌, Bool, List, [], ◌∷◌, ◌++◌, length, get_or, drop, refl, sym, ◌∙◌, add-one, append_assoc, drop-cons, if◌then◌else◌}
+use Rattle.std.proofs.Common.{◌≡◌, ℕ, ◌+◌, ◌-◌, ◌<◌, ◌≤◌, Bool, List, [], ◌∷◌, ◌++◌, length, get_or, drop, sym, ◌∙◌, append_assoc, if◌then◌else◌}
 use Rattle.std.proofs.lemmas.List.{append-nil, drop_all}
+use Rattle.rv_word.proofs.Lists.{drop_step}
 use Rattle.cfi_layout.specs.Starts.{starts_from}
 use Rattle.cfi_layout.specs.LongSet.{sizes_where}
-
-drop_step : (xs : List ℕ) (k : ℕ) → k < length xs → drop k xs ≡ get_or xs k 0 ∷ drop (k + 1) xs
-drop_step xs k lt = rw (add-one, drop-cons xs k 0) refl
 
 pub sizes_more : (whole : ℕ → Bool) (k : ℕ) (sizes made all : List ℕ) (size : ℕ) → k < length sizes →
     size ≡ (if whole k then get_or sizes k 0 else get_or sizes k 0 - 4) →

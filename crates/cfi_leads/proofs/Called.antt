@@ -1,19 +1,20 @@
 -- Which places are direct targets of calls, while a loop marks them.
-use Rattle.std.proofs.Common.{◌≡◌, ◌==◌, ℕ, ◌+◌, ◌<◌, ◌≤◌, Bool, true, false, List, length, take, Option, Some, None, get_or, replicate, inl, inr, refl, sym, ap, ◌∙◌, arith, get_or-set_same, get_or-set_other}
+use Rattle.std.proofs.Common.{◌≡◌, ◌==◌, ℕ, ◌+◌, ◌<◌, ◌≤◌, Bool, true, false, List, length, take, Option, Some, None, get_or, replicate, inl, inr, refl, sym, ap, ◌∙◌, get_or-set_same, get_or-set_other}
 use Rattle.std.specs.Prelude.{◌||◌, IfSome, set}
 use Rattle.std.specs.List.{list_any}
-use Rattle.std.proofs.lemmas.Bool.{and_parts, cases_eq, cases_lt, eq-eqb, ltb-true, ne_eqb, or_right}
-use Rattle.std.proofs.lemmas.List.{get_or-replicate, get_or_past, length-replicate, length-set, take_all}
+use Rattle.std.proofs.lemmas.Bool.{and_parts, cases_eq, eq-eqb, ltb-true, ne_eqb, or_right}
+use Rattle.std.proofs.lemmas.List.{length-replicate, length-set, take_all}
 use Rattle.std.proofs.lemmas.List.Folds.{list_any_more}
 use Rattle.obj_input.specs.declared.item_kind.ItemKind.{ItemKind}
 use Rattle.obj_program.specs.declared.item.Item.{Item}
 use Rattle.obj_program.specs.Program.{Program, count, item_of, no_item}
 use Rattle.obj_program.specs.Sound.{IsSound, aims, is_direct}
+use Rattle.cfi_class.proofs.Agreeing.{none_at}
 use Rattle.cfi_leads.specs.Entries.{aims_at, call_target, if_kind, is_called}
 use Rattle.cfi_leads.specs.Marks.{AreFlags, marked}
 
 -- direct targets of a sound program are places
-inside_if : (program : Program) (kind : ItemKind) (o : Option ℕ) → aims program kind o ≡ true → IfSome o (λ (t : ℕ). t < count program)
+pub inside_if : (program : Program) (kind : ItemKind) (o : Option ℕ) → aims program kind o ≡ true → IfSome o (λ (t : ℕ). t < count program)
 inside_if program kind None aim = tt
 inside_if program kind (Some t) aim = ltb-true t (count program) (and_parts (is_direct kind) _ (and_parts _ _ aim).0).1
 
@@ -53,16 +54,10 @@ pub record AreMarked (program : Program) (k : ℕ) (flags : List Bool) : Type 0 
   pub size : length flags ≡ count program
   pub each : (j : ℕ) → get_or flags j false ≡ list_any (λ (i : Item). aims_at j (call_target i)) (take k program.items)
 
-pub clear_at : (n j : ℕ) → get_or (replicate n false) j false ≡ false
-clear_at n j = elim (cases_lt j n) [
-  | inl below ↦ get_or-replicate n j false false below
-  | inr past ↦ let size = length-replicate n false in get_or_past (replicate n false) j false (omega arith)
-]
-
 pub marked_begin : (program : Program) (n : ℕ) (flags : List Bool) → n ≡ count program → flags ≡ replicate n false → AreMarked program 0 flags
 marked_begin program n flags size is = record {
   size = ap length is ∙ length-replicate n false ∙ size;
-  each = λ j. ap (λ (l : List Bool). get_or l j false) is ∙ clear_at n j;
+  each = λ j. ap (λ (l : List Bool). get_or l j false) is ∙ none_at n j;
 }
 
 pub call_inside : (program : Program) (k size : ℕ) → IsSound program → k < count program → size ≡ count program →

@@ -4,11 +4,12 @@ use Rattle.std.specs.Prelude.{◌&&◌, ◌||◌, IfSome, is_some, nat_lt, not}
 use Rattle.std.proofs.lemmas.Bool.{eqb-false, eqb-true, lt-ltb, ne_eqb}
 use Rattle.std.proofs.lemmas.List.{length-replicate}
 use Rattle.obj_program.specs.Program.{count, item_of}
+use Rattle.cfi_class.proofs.Agreeing.{none_at}
 use Rattle.cfi_leads.specs.Entered.{Entered}
 use Rattle.cfi_leads.specs.Entries.{aims_at, if_kind}
 use Rattle.cfi_leads.specs.Leaves.{crosses_to, edge_target, ends_before, head, is_spoilt_by, parts_them, spoils, spoils_inside}
 use Rattle.cfi_leads.specs.Marks.{AreFlags, crossed, followed, marked}
-use Rattle.cfi_leads.proofs.Called.{clear_at, marked_at, marked_length}
+use Rattle.cfi_leads.proofs.Called.{marked_at, marked_length}
 
 aims_if : (b : Bool) (h e : ℕ) → aims_at e (if_kind b (Some h)) ≡ (b && (h == e))
 aims_if true h e = refl
@@ -124,7 +125,7 @@ unfolding is_spoilt_by
 none_spoilt of n flags size is = record {
   most = omega arith;
   counted = ap length is ∙ length-replicate n false ∙ size;
-  each = λ e below. ap (λ (l : List Bool). get_or l e false) is ∙ clear_at n e;
+  each = λ e below. ap (λ (l : List Bool). get_or l e false) is ∙ none_at n e;
 }
 
 next_spoilt : (of : Entered) (e k : ℕ) → is_spoilt_by of e (suc k) ≡ (is_spoilt_by of e k || spoils of e k)

@@ -62,7 +62,7 @@ pub firsts_begin : (of : Entered) (flags : List Bool) → flags ≡ [] → AreFi
 unfolding members_before
 firsts_begin of flags is = record { size = ap length is; greedy = λ k below store. absurd (omega arith); before_is = refl }
 
-members_step : (items : ℕ → Item) (whole : ℕ → Bool) (k : ℕ) → members_before items whole (suc k) ≡ members_after (items k).kind (whole k) (members_before items whole k)
+pub members_step : (items : ℕ → Item) (whole : ℕ → Bool) (k : ℕ) → members_before items whole (suc k) ≡ members_after (items k).kind (whole k) (members_before items whole k)
 unfolding members_before
 members_step items whole k = refl
 

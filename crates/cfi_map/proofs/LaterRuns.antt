@@ -60,9 +60,9 @@ read_quiet program gates words k is.Store patch None store of = absurd (cc)
 read_quiet program gates words k is.Store patch (Some i) store of = patched_quiet program gates words k i patch (and_parts _ _ (and_parts _ _ of).0).0
 read_quiet program gates words k other patch o store of = absurd (cc)
 
-no_end : (kind : ItemKind) → is_store kind ≡ true → is_end kind ≡ false
-no_end is.Store store = refl
-no_end other store = absurd (cc)
+pub store_no_end : (kind : ItemKind) → is_store kind ≡ true → is_end kind ≡ false
+store_no_end is.Store store = refl
+store_no_end other store = absurd (cc)
 
 -- the place of a store has one
 store_quiet : (layout : ProgramAtMap) (k : ℕ) → IsSound layout.program → is_store (item_of layout.program k).kind ≡ true → is_quiet (instr_here layout k) ≡ true
@@ -71,7 +71,7 @@ store_quiet layout k sound store = elim (cases_lt k (count layout.program)) [
   | inl below ↦
       let item = item_of layout.program k in
       read_quiet layout.program layout.gates (words_at layout) k item.kind item.patch (decoded item.word) store
-      (read_there layout.program k sound below (no_end item.kind store))
+      (read_there layout.program k sound below (store_no_end item.kind store))
   | inr past ↦
       let none : item_of layout.program k ≡ no_item = get_or_past layout.program.items k no_item past in
       let wrong : false ≡ true = sym (ap (λ (item : Item). is_store item.kind) none) ∙ store in
@@ -134,7 +134,7 @@ unfolding source_step
 step_quiet layout k st sound store at = ended_quiet (last_exit st.shared.events) st _ (place_quiet layout k st.place st sound store at)
 
 -- the last of some steps
-gone_on : (turn : StepTurn) (s st : Source) → going_on turn s ≡ Some st → (turn ≡ ran) × (s ≡ st)
+pub gone_on : (turn : StepTurn) (s st : Source) → going_on turn s ≡ Some st → (turn ≡ ran) × (s ≡ st)
 gone_on ran s st e = (refl, same_Some s st e)
 gone_on (exits status) s st e = absurd (cc)
 gone_on (breaks k) s st e = absurd (cc)

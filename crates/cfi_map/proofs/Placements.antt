@@ -80,7 +80,7 @@ firsts_same of firsts whole same are k store =
     sym (same k store) ∙ are k store
     ∙ ap (λ (n : ℕ). not (joins_in of k n)) (stores_same (item_of of.program) (whole_at firsts) (whole_at whole) k same)
 
-no_store : (kind : ItemKind) → is_branch kind ≡ true → is_store kind ≡ false
+pub no_store : (kind : ItemKind) → is_branch kind ≡ true → is_store kind ≡ false
 no_store is.Branch branch = refl
 no_store other branch = absurd (cc)
 

@@ -1,7 +1,7 @@
 -- Branches of a program that are written short: its parts then have the sizes of their units, and each reaches.
 use Rattle.std.proofs.Common.{◌≡◌, ℕ, suc, ◌+◌, ◌-◌, ◌<◌, ◌≤◌, ◌^◌, Bool, true, false, not, Option, List, [], ◌∷◌, length, get_or, take, Some, refl, sym, ap, subst, ◌∙◌, arith, if◌then◌else◌, inl, inr}
 use Rattle.std.specs.Prelude.{◌||◌, nat_le, slice_get, sum}
-use Rattle.std.proofs.lemmas.Bool.{cases_Bool, leb-true, and_parts, or_parts}
+use Rattle.std.proofs.lemmas.Bool.{cases_Bool, leb-true, and_parts, or_parts, not-false}
 use Rattle.std.proofs.lemmas.List.{get_or-take}
 use Rattle.std.proofs.lemmas.Option.{slice_get_within, get_or_from_slice_get, slice_get-get_or}
 use Rattle.rv_image.specs.Form.{profile_for}
@@ -123,10 +123,6 @@ pub starts_are : (form : Form) (of : Entered) (whole : List Bool) → IsSound of
     starts_under (profile_for form).units_from (whole_at whole) (shorts_of of) (grouped_parts of whole) ≡ starts_from (profile_for form).units_from (part_sizes of whole 0 of.program.items)
 starts_are form of whole sound = ap (starts_from (profile_for form).units_from) (sizes_are of whole sound)
 
-negated : (b : Bool) → not b ≡ false → b ≡ true
-negated true e = refl
-negated false e = absurd (cc)
-
 -- a branch that is not long reaches, where the long ones are closed
 pub branch_reaches : (form : Form) (of : Entered) (whole : List Bool) → IsSound of.program →
     HoldsAllForced (profile_for form).units_from (shorts_of of) (grouped_parts of whole) (whole_at whole) →
@@ -149,7 +145,7 @@ branch_reaches form of whole sound set k target lt yes_branch short aim =
     ] in
     let forced = subst (λ (xs : List ℕ). is_forced xs b ≡ false) (starts_are form of whole sound) free in
     let parts = or_parts b.keep (not (is_in_reach starts b)) forced in
-    let both = and_parts (nat_le (word starts b) (get_or starts target 0 + 4096)) (nat_le (get_or starts target 0) (word starts b + 4092)) (negated (is_in_reach starts b) parts.1) in
+    let both = and_parts (nat_le (word starts b) (get_or starts target 0 + 4096)) (nat_le (get_or starts target 0) (word starts b + 4092)) (not-false (is_in_reach starts b) parts.1) in
     let back : word starts b ≤ get_or starts target 0 + 4096 = leb-true _ _ both.0 in
     let ahead : get_or starts target 0 ≤ word starts b + 4092 = leb-true _ _ both.1 in
     let gate = get_or-take (count of.program) starts k 0 lt in

@@ -8,9 +8,7 @@ use Rattle.obj_program.specs.Program.{count, item_of, no_item}
 use Rattle.cfi_map.specs.GraphAtMap.{entered_in, gate, word}
 use Rattle.cfi_map.specs.Groups.{is_store}
 use Rattle.cfi_map.specs.Placement.{size_of, whole_at}
-use Rattle.cfi_unit.specs.declared.mask.Mask.{Mask}
-use Rattle.cfi_unit.specs.declared.mask.Mask.TheVariants.{Shifts, Short, Long}
-use Rattle.cfi_unit.specs.UnitWords.{mask_words}
+use Rattle.cfi_unit.proofs.RegisterLaw.{mask_some}
 use Rattle.cfi_writer.specs.Accepted.{IsAccepted}
 use Rattle.cfi_writer.specs.Units.{Choice, is_later_at, mask_at}
 use Rattle.cfi_writer.proofs.Plain.{size_first, size_later}
@@ -19,11 +17,6 @@ use Rattle.cfi_meaning.specs.LaterStores.{is_at_later}
 use Rattle.cfi_meaning.specs.PlaceSteps.{Linked, holds_store}
 use Rattle.cfi_meaning.proofs.Names.{store_is_place}
 use Rattle.cfi_meaning.proofs.Places.{place_behind}
-
-mask_some : (mask : Mask) → 1 ≤ mask_words mask
-mask_some Shifts = omega arith
-mask_some Short = omega arith
-mask_some Long = omega arith
 
 -- a store with a mask has more than a word
 sized : (m : Choice) (k : ℕ) → holds_store m k ≡ true →

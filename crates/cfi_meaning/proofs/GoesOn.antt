@@ -13,10 +13,8 @@ use Rattle.obj_input.specs.declared.item_kind.ItemKind.TheVariants as is
 use Rattle.obj_program.specs.declared.item.Item.{Item}
 use Rattle.obj_program.specs.Program.{item_of}
 use Rattle.cfi_graph.specs.Graph.{has_leaves}
-use Rattle.cfi_leads.specs.Entries.{is_call}
-use Rattle.cfi_leads.specs.Leads.{enters}
 use Rattle.cfi_leads.specs.Leaves.{in_leaf}
-use Rattle.cfi_map.specs.GraphAtMap.{ProgramAtMap, aim_of, arrival_by, arrival_to, entered_in, gate, gate_to, word}
+use Rattle.cfi_map.specs.GraphAtMap.{aim_of, entered_in, gate, gate_to, word}
 use Rattle.cfi_map.specs.LabelOf.{site_label}
 use Rattle.cfi_map.specs.Placement.{whole_at}
 use Rattle.cfi_unit.specs.declared.unit.Unit as U
@@ -29,6 +27,7 @@ use Rattle.cfi_rules.specs.Lines.{jump_word}
 use Rattle.cfi_writer.specs.Units.{Choice, Group, group_at, instr_of, unit_by, unit_here, unit_of}
 use Rattle.cfi_writer.proofs.FreshStarts.{here_is, lean_here}
 use Rattle.cfi_writer.proofs.Standing.{next_after}
+use Rattle.cfi_writer.proofs.PlaceUnits.{full_aim}
 use Rattle.cfi_meaning.specs.Bounds as bounds
 use Rattle.cfi_meaning.specs.ImageOf.{IsImageOf}
 use Rattle.cfi_meaning.specs.Matches.{gate_of, is_outside, shown_of}
@@ -55,24 +54,6 @@ full_unit : (version : GraphVersion) (calls : Option (List ℕ)) (inside : Bool)
 full_unit OneLabel calls inside kind i whole target label group full = refl
 full_unit TwoLabels calls inside kind i whole target label group full = refl
 full_unit CalleeSaves calls inside kind i whole target label group full = absurd (cc)
-
-full_arrival : (version : GraphVersion) (saves : Bool) (gate word : ℕ) → has_leaves version ≡ false → arrival_by version saves gate word ≡ gate
-full_arrival OneLabel saves gate word full = refl
-full_arrival TwoLabels saves gate word full = refl
-full_arrival CalleeSaves saves gate word full = absurd (cc)
-
-full_arrivals : (layout : ProgramAtMap) (to : Option ℕ) → has_leaves layout.closed.version ≡ false → arrival_to layout to ≡ gate_to layout to
-full_arrivals layout None full = refl
-full_arrivals layout (Some t) full = full_arrival layout.closed.version (enters (entered_in layout) t) (gate layout t) (word layout t) full
-
-full_aim : (layout : ProgramAtMap) (item : Item) → has_leaves layout.closed.version ≡ false → aim_of layout item ≡ gate_to layout item.target
-full_aim layout item full =
-    ap (λ (a : ℕ). if is_call item.kind then a else gate_to layout item.target) (full_arrivals layout item.target full)
-    ∙ either (is_call item.kind) (gate_to layout item.target)
-  where
-    either : (b : Bool) (a : ℕ) → (if b then a else a) ≡ a
-    either true a = refl
-    either false a = refl
 
 module _ (m : Choice) (image : Contents) (k : ℕ) (next : Option ℕ) (o : Own) (of : IsImageOf m image) (other : holds_store m k ≡ false) (now : TamePlace m image k o)
     (going : (place_step m k o).turn ≡ Ran) (on : (place_step m k o).state.pc ≡ gate_of m.layout next) where

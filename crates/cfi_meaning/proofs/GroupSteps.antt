@@ -15,7 +15,6 @@ use Rattle.cfi_graph.specs.Graph.{has_leaves}
 use Rattle.cfi_map.specs.GraphAtMap.{gate, gate_to, word}
 use Rattle.cfi_map.specs.Groups.{base_of, is_short}
 use Rattle.cfi_unit.specs.declared.mask.Mask.{Mask}
-use Rattle.cfi_unit.specs.declared.mask.Mask.TheVariants.{Short}
 use Rattle.cfi_unit.specs.declared.members.Member.{Member}
 use Rattle.cfi_unit.specs.declared.unit.Unit as U
 use Rattle.cfi_unit.specs.declared.unit.Unit.TheVariants as V
@@ -29,7 +28,7 @@ use Rattle.cfi_runs.specs.OwnRuns.{words_along}
 use Rattle.cfi_runs.specs.Tame.{IsTame, touched}
 use Rattle.cfi_runs.proofs.GroupPlaces.{IsStoreAt, group_step}
 use Rattle.cfi_writer.specs.Units.{Choice, behind, instr_of, is_later_at, low_at, mask_at, mask_by, member_at, member_for, offset_at, offset_of, unit_here}
-use Rattle.cfi_writer.proofs.GroupUnit.{IsStore, bases, inside, many, masked, most_members, store_at}
+use Rattle.cfi_writer.proofs.GroupUnit.{IsStore, bases, inside, many, masked, most_members, store_at, short_by}
 use Rattle.cfi_writer.proofs.LeanUnits.{stores_go_on}
 use Rattle.cfi_writer.proofs.NextPlaces.{IsNext, next_there}
 use Rattle.cfi_meaning.specs.ImageOf.{IsImageOf, IsPlace}
@@ -56,13 +55,6 @@ member_distance low other store = let e = store.is in absurd (cc)
 base_held : (i : Instr) (r : Registers) → IsStore i → base_value i r ≡ get_reg r (base_of (Some i))
 base_held (I.Store op rs1 rs2 imm) r store = refl
 base_held other r store = let e = store.is in absurd (cc)
-
--- a short mask is one of version 3, for a first store with an offset of its own that is not negative
-short_by : (version : GraphVersion) (short : Bool) → mask_by version short ≡ Short → (has_leaves version ≡ true) × (short ≡ true)
-short_by OneLabel short e = absurd (cc)
-short_by TwoLabels short e = absurd (cc)
-short_by CalleeSaves true e = (refl, refl)
-short_by CalleeSaves false e = absurd (cc)
 
 -- whose masks have two words at most
 lean_mask : (version : GraphVersion) (short : Bool) → has_leaves version ≡ true → mask_words (mask_by version short) ≤ 2

@@ -18,7 +18,7 @@ use Rattle.cfi_leads.specs.Leads.{enters}
 use Rattle.cfi_leads.specs.Leaves.{in_leaf, is_leaf}
 use Rattle.cfi_leads.proofs.Ends.{entry_begins}
 use Rattle.cfi_leads.proofs.Tables.{head_of_first}
-use Rattle.cfi_map.specs.GraphAtMap.{ProgramAtMap, arrival, arrival_by, entered_in, gate, word}
+use Rattle.cfi_map.specs.GraphAtMap.{ProgramAtMap, arrival, entered_in, gate, word}
 use Rattle.cfi_unit.specs.declared.unit.Unit as U
 use Rattle.cfi_unit.specs.declared.unit.Unit.TheVariants as V
 use Rattle.cfi_unit.specs.Shadow.{MOST_PENDING}
@@ -28,9 +28,9 @@ use Rattle.cfi_runs.specs.OwnRuns.{OwnRuns, words_along}
 use Rattle.cfi_runs.specs.Tame.{IsTame, NamesNoReserved, TameStep}
 use Rattle.cfi_writer.specs.Units.{Choice, lead, lead_of_entry, lead_unit}
 use Rattle.cfi_writer.proofs.Entering.{call_enters, in_leaf_passed}
-use Rattle.cfi_writer.proofs.FreshStarts.{word_there}
-use Rattle.cfi_writer.proofs.LeadWords.{lead_cases, lean_lead, words_in}
-use Rattle.cfi_writer.proofs.LeanWords.{IsLeanWord, before_enter, before_jump, before_unit, jumps_over, lead_word_count, saves_site}
+use Rattle.cfi_writer.proofs.FreshStarts.{word_there, arrives_by}
+use Rattle.cfi_writer.proofs.LeadWords.{lead_cases, lean_lead, words_in, lead_word_count}
+use Rattle.cfi_writer.proofs.LeanWords.{IsLeanWord, before_enter, before_jump, before_unit, jumps_over, saves_site}
 use Rattle.cfi_writer.proofs.Standing.{at_gate, word_is}
 use Rattle.cfi_meaning.specs.ImageOf.{IsImageOf}
 use Rattle.cfi_meaning.specs.Matches.{home_by, saved_by, shown_of}
@@ -76,12 +76,6 @@ shown_by CalleeSaves gate word inside o lean = refl
 pub lean_is : (layout : ProgramAtMap) (k : ℕ) (o : Own) → has_leaves layout.closed.version ≡ true →
     shown_of layout (Some k) o ≡ record o { pc = word layout k; pending = saved_by CalleeSaves (in_leaf (entered_in layout) k) o.pending }
 lean_is layout k o = shown_by layout.closed.version (gate layout k) (word layout k) (in_leaf (entered_in layout) k) o
-
--- where nothing saves a site calls come to the unit
-arrives_by : (version : GraphVersion) (saves : Bool) (from at : ℕ) → has_leaves version ≡ true → saves ≡ false → arrival_by version saves from at ≡ at
-arrives_by OneLabel saves from at lean passed = absurd (cc)
-arrives_by TwoLabels saves from at lean passed = absurd (cc)
-arrives_by CalleeSaves saves from at lean passed = rw passed refl
 
 -- behind the word for computed jumps and the jump stands the gate of computed calls, and behind that what saves their sites
 second : (word : ℕ) (jumps calls : Option ℕ) (target saves : Bool) → target ≡ true → saves ≡ true → is_some calls ≡ true →

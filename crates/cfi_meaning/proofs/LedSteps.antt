@@ -8,9 +8,9 @@ use Rattle.obj_input.specs.declared.item_kind.ItemKind.TheVariants as is
 use Rattle.obj_program.specs.Program.{item_of}
 use Rattle.cfi_map.specs.Placement.{whole_at}
 use Rattle.cfi_map.specs.Source.{Source, source_start}
-use Rattle.cfi_map.specs.SourceStep.{SourceAfter, StepTurn, after_steps, breaks, closes, exits, going_on, ran, source_step, untame}
+use Rattle.cfi_map.specs.SourceStep.{SourceAfter, StepTurn, after_steps, closes, exits, going_on, ran, source_step}
 use Rattle.cfi_map.proofs.LaterPlaces.{NoneLater, entry_is, stepped as steps_to}
-use Rattle.cfi_map.proofs.LaterRuns.{Reached, reached}
+use Rattle.cfi_map.proofs.LaterRuns.{Reached, reached, gone_on}
 use Rattle.cfi_runs.specs.Own.{Own, OwnAfter}
 use Rattle.cfi_writer.specs.Units.{Choice, is_later_at}
 use Rattle.cfi_meaning.specs.ImageOf.{IsImageOf}
@@ -29,12 +29,6 @@ one_more m image [] k o middle last same now is =
     subst (λ (x : Own). PlacesRun m image (k ∷ []) x last) same
     (now, ap (λ (a : OwnAfter). a.turn) is, sym (ap (λ (a : OwnAfter). a.state) is))
 one_more m image (j ∷ places) k o middle last on now is = (on.0, on.1, one_more m image places k (place_step m j o).state middle last on.2 now is)
-
-went_on : (turn : StepTurn) (next st : Source) → going_on turn next ≡ Some st → (turn ≡ ran) × (next ≡ st)
-went_on ran next st e = (refl, same_Some next st e)
-went_on (exits status) next st e = absurd (cc)
-went_on (breaks k) next st e = absurd (cc)
-went_on (untame why k) next st e = absurd (cc)
 
 -- the closing exits
 closes_turn : (m : Choice) (st : Source) → (closes m.layout st).turn ≡ exits (st.regs 10 % 2 ^ 8)
@@ -101,7 +95,7 @@ module _ (m : Choice) (image : Contents) (of : IsImageOf m image) (input : List 
       let wrong : None ≡ Some st =
       sym (ap (λ (a : SourceAfter). going_on a.turn a.state) is ∙ ap (λ (t : StepTurn). going_on t (closes m.layout s).state) (closes_turn m s)) ∙ on in absurd (cc)
   led_on n s st before led on (at_place k at now own goes_fit) =
-      let went = went_on (source_step m.layout s).turn (source_step m.layout s).state st on in
+      let went = gone_on (source_step m.layout s).turn (source_step m.layout s).state st on in
       let moved : IsOwn m.layout (place_step m k (own_of m.layout s)) ran (source_step m.layout s).state =
       subst (λ (t : StepTurn). IsOwn m.layout (place_step m k (own_of m.layout s)) t (source_step m.layout s).state) went.0 own in
       let is : place_step m k (own_of m.layout s) ≡ record { state = own_of m.layout st; turn = Ran } =

@@ -17,6 +17,7 @@ use Rattle.cfi_map.specs.GraphAtMap.{aim_of, entered_in, words_at}
 use Rattle.cfi_map.specs.Groups.{base_of, is_store}
 use Rattle.cfi_map.specs.LabelOf.{site_label}
 use Rattle.cfi_map.specs.Placement.{whole_at}
+use Rattle.cfi_map.proofs.LaterRuns.{store_no_end}
 use Rattle.cfi_unit.specs.declared.target_word.TargetWord.{TargetWord}
 use Rattle.cfi_unit.specs.declared.unit.Unit.TheVariants as V
 use Rattle.cfi_runs.specs.Tame.{NamesNoReserved}
@@ -129,11 +130,6 @@ pub stores_unit : (m : Choice) (k : ℕ) → is_store (item_of m.layout.program 
 stores_unit m k =
     stores_by m.layout.closed.version m.layout.closed.calls (in_leaf (entered_in m.layout) k) (item_of m.layout.program k).kind (instr_of m k) (whole_at m.whole k)
     (aim_of m.layout (item_of m.layout.program k)) (site_label m.labels m.layout.closed.sides k) (group_at m k)
-
--- the place of a store is no section's end
-store_no_end : (kind : ItemKind) → is_store kind ≡ true → is_end kind ≡ false
-store_no_end is.Store store = refl
-store_no_end other store = absurd (cc)
 
 pub store_is_place : (m : Choice) (k : ℕ) → k < count m.layout.program → is_store (item_of m.layout.program k).kind ≡ true → IsPlace m k
 store_is_place m k below store = record { below = below; no_end = store_no_end (item_of m.layout.program k).kind store }

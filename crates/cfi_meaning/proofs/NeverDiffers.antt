@@ -1,7 +1,8 @@
 -- Nothing differs: where the program's run goes on its trace is the beginning of the image's, and where
 -- it has ended both are the same.
 use Rattle.std.proofs.Common.{◌≡◌, ℕ, zero, suc, ◌+◌, ◌-◌, ◌≤◌, ◌==◌, Bool, true, List, [], ◌∷◌, ◌++◌, length, map, Option, Some, None, append-nil, append_assoc, replicate, refl, sym, ap, subst, ◌∙◌, arith}
-use Rattle.std.proofs.lemmas.Bool.{eq-eqb, le-ltb}
+use Rattle.std.proofs.lemmas.Bool.{le-ltb}
+use Rattle.rv_word.proofs.Booleans.{is_self}
 use Rattle.rv_image.specs.Image.{Contents}
 use Rattle.rv_image.specs.MemoryMap.{Profile}
 use Rattle.rv_image.proofs.Profiles.{laid_out}
@@ -29,19 +30,16 @@ use Rattle.cfi_map.proofs.LaterRuns.{AtLeader, reached}
 use Rattle.cfi_meaning.proofs.PlacesKept.{steps_rise}
 use Rattle.cfi_meaning.proofs.AtLater.{at_no_later}
 
-self : (n : ℕ) → (n == n) ≡ true
-self n = eq-eqb n n refl
-
 bytes_self : (xs : List ℕ) → same_bytes xs xs ≡ true
 bytes_self [] = refl
-bytes_self (x ∷ xs) = rw (self x, bytes_self xs) refl
+bytes_self (x ∷ xs) = rw (is_self x, bytes_self xs) refl
 
 event_self : (e : Event) → same_event e e ≡ true
-event_self e = rw (self e.number, self e.a0, self e.a1, self e.a2, self e.a3, self e.a4, self e.a5, bytes_self e.bytes, self e.answer) refl
+event_self e = rw (is_self e.number, is_self e.a0, is_self e.a1, is_self e.a2, is_self e.a3, is_self e.a4, is_self e.a5, bytes_self e.bytes, is_self e.answer) refl
 
 item_self : (x : TraceItem) → same_item x x ≡ true
 item_self (called e) = event_self e
-item_self (exited s) = self s
+item_self (exited s) = is_self s
 item_self broke = refl
 item_self stopped = refl
 item_self running = refl

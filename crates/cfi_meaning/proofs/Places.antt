@@ -15,7 +15,7 @@ use Rattle.obj_program.specs.Program.{count, is_end, item_of}
 use Rattle.cfi_graph.specs.Graph.{has_leaves}
 use Rattle.cfi_leads.specs.Leads.{enters}
 use Rattle.cfi_leads.specs.Leaves.{in_leaf}
-use Rattle.cfi_map.specs.GraphAtMap.{arrival, arrival_by, entered_in, gate, word}
+use Rattle.cfi_map.specs.GraphAtMap.{arrival, entered_in, gate, word}
 use Rattle.cfi_unit.specs.declared.mask.Mask.TheVariants.{Shifts, Short, Long}
 use Rattle.cfi_unit.specs.declared.unit.Unit as U
 use Rattle.cfi_unit.specs.declared.unit.Unit.TheVariants as V
@@ -24,7 +24,7 @@ use Rattle.cfi_unit.specs.Leaving.{SameRegisters}
 use Rattle.cfi_unit.specs.Stand.{Stand}
 use Rattle.cfi_unit.specs.Templates.{Asks, is_lean}
 use Rattle.cfi_unit.specs.UnitWords.{Fits, instrs_of, word_count}
-use Rattle.cfi_unit.proofs.Flows.{full_asks}
+use Rattle.cfi_unit.proofs.EffectRows.{full_asked}
 use Rattle.cfi_pending.specs.StartLaw.{stands_in}
 use Rattle.cfi_runs.specs.Mask.{HoldsMask}
 use Rattle.cfi_runs.specs.Own.{Own, OwnAfter, own_step}
@@ -37,9 +37,8 @@ use Rattle.cfi_rules.proofs.Standing.{unit_stands}
 use Rattle.cfi_writer.specs.Accepted.{IsAccepted}
 use Rattle.cfi_writer.specs.Units.{Choice, behind, is_later_at, lead, lead_unit, unit_here}
 use Rattle.cfi_writer.proofs.Grouping.{later_behind, later_below, later_store, other_first}
-use Rattle.cfi_writer.proofs.LeadWords.{IsLeadWord, from_lead, labels_there, lead_few, over, saver, saver_last, side_word, words_in}
-use Rattle.cfi_writer.proofs.LeanWords.{lead_word_count}
-use Rattle.cfi_writer.proofs.Standing.{gate_after, word_is}
+use Rattle.cfi_writer.proofs.LeadWords.{IsLeadWord, from_lead, labels_there, lead_few, over, saver, saver_last, side_word, words_in, lead_word_count}
+use Rattle.cfi_writer.proofs.Standing.{gate_after, word_is, arrival_saves}
 use Rattle.cfi_writer.proofs.WholeCode.{written_units}
 use Rattle.cfi_meaning.specs.PlaceLaws as law
 use Rattle.cfi_meaning.specs.ImageOf.{IsImageOf, IsPlace}
@@ -67,12 +66,6 @@ lean_shown : (m : Choice) (k : ℕ) (o : Own) → has_leaves m.layout.closed.ver
 lean_shown m k o leaves =
     ap (λ (a : ℕ). record (shown m k o) { pc = a }) (sym (lean_home m.layout.closed.version (gate m.layout k) (word m.layout k) leaves))
 
--- what saves the sites of calls stands right before the unit
-arrival_by_saver : (version : GraphVersion) (gate word : ℕ) (saves : Bool) → has_leaves version ≡ true → saves ≡ true → arrival_by version saves gate word ≡ word - 20
-arrival_by_saver OneLabel gate word saves leaves is = absurd (cc)
-arrival_by_saver TwoLabels gate word saves leaves is = absurd (cc)
-arrival_by_saver CalleeSaves gate word saves leaves is = rw is refl
-
 -- a tame step tells what its unit asks: a pending site, and of the registers what they hold
 tame_site : (image : Memory) (u : U.Unit) (pending : List ℕ) (r : Registers) → IsTame image u pending r → AsksSite u pending
 tame_site image V.Return [] r tame = absurd tame
@@ -90,7 +83,7 @@ lean_asks image other pending own r lean tame same held = tt
 asks_by : (masked : Bool) (image : Memory) (u : U.Unit) (pending : List ℕ) (own r : Registers) → stands_in masked u ≡ true → IsTame image u pending own →
     SameRegisters own r → HoldsMask masked r → Asks u r
 asks_by true image u pending own r stands tame same held = lean_asks image u pending own r stands tame same held
-asks_by false image u pending own r stands tame same held = full_asks u r stands
+asks_by false image u pending own r stands tame same held = full_asked u r stands
 
 -- a word of a side names no reserved register, is tame and does nothing but go on
 pub lead_free : (o : Option ℕ) → NamesNoReserved (lead_unit o)
@@ -199,7 +192,7 @@ module _ (m : Choice) (image : Contents) (of : IsImageOf m image) where
       let (j, is) = saver_last m (labels_there m of.accepted) leaves k saves in
       let behind = is.behind in
       let own = word_is m of.accepted k in
-      let arrives = arrival_by_saver m.layout.closed.version (gate m.layout k) (word m.layout k) (enters (entered_in m.layout) k) leaves saves in
+      let arrives = arrival_saves m.layout.closed.version (gate m.layout k) (word m.layout k) (enters (entered_in m.layout) k) leaves saves in
       let at : gate m.layout k + 4 * j ≡ arrival m.layout k = omega arith in
       (subst (λ (a : ℕ). unit_at m.layout.profile (code_words image.code) a ≡ Some V.Enter) at (lead_written k j V.Enter below is.there), omega arith)
 

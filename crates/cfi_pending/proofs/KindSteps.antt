@@ -2,8 +2,9 @@
 use Rattle.std.proofs.Common.{◌≡◌, ◌+◌, ◌==◌, ℕ, Bool, true, false, not, ◌&&◌, ◌||◌, List, [], ◌∷◌, Option, Some, None, inl, inr, refl, sym, subst, ap, ◌∙◌, arith, nat_lt}
 use Rattle.std.specs.Prelude.{is_some}
 use Rattle.std.specs.List.{list_any}
-use Rattle.std.proofs.lemmas.Bool.{and_from, and_parts, cases_Bool, eqb-true, le-leb, or_cases}
+use Rattle.std.proofs.lemmas.Bool.{and_from, and_parts, cases_Bool, eqb-true, le-leb, or_cases, not-true}
 use Rattle.rv_word.proofs.Cases.{cases_Option}
+use Rattle.rv_word.proofs.Booleans.{or_right}
 use Rattle.cfi_unit.specs.declared.unit.SystemOp.TheVariants as S
 use Rattle.cfi_unit.specs.declared.unit.Unit as U
 use Rattle.cfi_unit.specs.declared.unit.Unit.TheVariants as V
@@ -82,17 +83,9 @@ begun_found (x ∷ leaves) t e = elim (cases_Bool (in_leaf t x)) [
   ])
 ]
 
-pub is_false : (b : Bool) → not b ≡ true → b ≡ false
-is_false false e = refl
-is_false true e = absurd cc
-
 or_false : (b c : Bool) → b ≡ false → b || c ≡ true → c ≡ true
 or_false false c is e = e
 or_false true c is e = absurd cc
-
-or_right : (b c : Bool) → c ≡ true → b || c ≡ true
-or_right true c e = refl
-or_right false c e = e
 
 module _ (unit_at : ℕ → Option U.Unit) (leaves : List Leaf) where
   -- a start is fresh in a leaf, and at what saves a site
@@ -144,7 +137,7 @@ module _ (unit_at : ℕ → Option U.Unit) (leaves : List Leaf) where
       saved_behind : is_gate unit && is_enter (unit_at (a + 4)) ≡ false → goes_on unit ≡ true → start_at unit_at leaves (after_unit unit a) ≡ saved
       saved_behind other on =
           start_is (after_unit unit a) false
-          (is_false (is_fresh unit_at leaves (after_unit unit a)) (or_false _ _ other (behind_out on)))
+          (not-true (is_fresh unit_at leaves (after_unit unit a)) (or_false _ _ other (behind_out on)))
 
 or_left : (b c : Bool) → c ≡ false → b || c ≡ true → b ≡ true
 or_left true c none e = refl
@@ -190,7 +183,7 @@ module _ (unit_at : ℕ → Option U.Unit) (leaves : List Leaf) (a v : ℕ) wher
   module _ (none : leaf_of leaves a ≡ None) where
     reached_out : (t : ℕ) → may_be_reached unit_at leaves (leaf_of leaves a) t ≡ true → start_at unit_at leaves t ≡ saved
     reached_out t e =
-        start_is unit_at leaves t false (is_false (is_fresh unit_at leaves t) (subst (λ (o : Option Leaf). may_be_reached unit_at leaves o t ≡ true) none e))
+        start_is unit_at leaves t false (not-true (is_fresh unit_at leaves t) (subst (λ (o : Option Leaf). may_be_reached unit_at leaves o t ≡ true) none e))
 
     agrees_out : (unit : U.Unit) → unit_at a ≡ Some unit → IsOfItsKind unit_at leaves a unit → saves (flow_of unit).sites ≡ false →
         is_gate unit && is_enter (unit_at (a + 4)) ≡ false → Agrees saved unit

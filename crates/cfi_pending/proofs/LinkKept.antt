@@ -2,7 +2,7 @@
 -- words writes.
 use Rattle.std.proofs.Common.{◌≡◌, ℕ, zero, suc, ◌==◌, Bool, true, false, not, inl, inr, List, [], ◌∷◌, ◌++◌, Option, Some, None, refl, ap, ◌∙◌, arith}
 use Rattle.std.specs.Prelude.{map, slice_get}
-use Rattle.std.proofs.lemmas.Bool.{or_parts}
+use Rattle.std.proofs.lemmas.Bool.{or_parts, not-true}
 use Rattle.std.proofs.lemmas.Bool.Decides.{nat_tests}
 use Rattle.std.proofs.lemmas.Option.{slice_get_cases}
 use Rattle.rv_image.specs.MemoryMap.{Profile}
@@ -35,13 +35,9 @@ use Rattle.cfi_unit.proofs.PlaceWords.{place_word}
 use Rattle.cfi_unit.proofs.RegisterLaw.{exec_sets}
 use Rattle.cfi_pending.specs.Starts.{fresh, is_link, may_stand}
 
-is_false : (b : Bool) → not b ≡ true → b ≡ false
-is_false false e = refl
-is_false true e = absurd cc
-
 unlinked : (o : Option ℕ) → not (is_link o) ≡ true → is_this o 1 ≡ false
 unlinked None may = refl
-unlinked (Some rd) may = is_false (rd == 1) may
+unlinked (Some rd) may = not-true (rd == 1) may
 
 plain_spares : (i : Instr) → not (is_link (written i)) ≡ true → is_this (result_register i) 1 ≡ false
 plain_spares (Upper op rd imm) may = unlinked (Some rd) may

@@ -2,7 +2,7 @@
 use Rattle.std.proofs.Common.{◌≡◌, ℕ, zero, suc, ◌+◌, ◌<◌, ◌==◌, ◌||◌, Bool, true, false, not, inl, inr, List, [], ◌∷◌, ◌++◌, length, replicate, refl, ap, sym, subst, ◌∙◌, arith, lit<, length-append}
 use Rattle.std.specs.Prelude.{is_none, nat_le}
 use Rattle.std.specs.List.{AllByRecursion}
-use Rattle.std.proofs.lemmas.Bool.{and_parts, leb-false}
+use Rattle.std.proofs.lemmas.Bool.{and_parts, leb-false, not-false}
 use Rattle.rv_instr.specs.declared.instr.BranchOp.{BranchOp}
 use Rattle.rv_code.specs.Decode.{decoded}
 use Rattle.cfi_unit.specs.declared.mask.Mask.{Mask}
@@ -51,10 +51,6 @@ pub record Further (u : U.Unit) (at word here : ℕ) : Type 0 where
   pub opens : Opens shaped.words (words_of u at) at (by ∷ [])
   pub fits : matches by word here ≡ true
 
-not_false : (b : Bool) → not b ≡ false → b ≡ true
-not_false true e = refl
-not_false false e = absurd (cc)
-
 branch_among : Among (shape D.Branch (P.Skip ∷ P.Jump ∷ [])) SHAPES
 unfolding Among
 branch_among = inr (inr (inr (inr (inr (inr (inr (inl refl)))))))
@@ -63,7 +59,7 @@ near_further : (op : BranchOp) (rs1 rs2 target at here word : ℕ) → Fits (V.N
     not (skips_jump (near_offset at target) (decoded word)) ≡ false → Further (V.Near op rs1 rs2 target) at word here
 near_further op rs1 rs2 target at here word f e =
     let u : U.Unit = V.Near op rs1 rs2 target in
-    let two = and_parts (near_offset at target == skip_offset) (is_jump (decoded word)) (not_false (skips_jump (near_offset at target) (decoded word)) e) in
+    let two = and_parts (near_offset at target == skip_offset) (is_jump (decoded word)) (not-false (skips_jump (near_offset at target) (decoded word)) e) in
     let opens : Opens (P.Skip ∷ []) (words_of u at) at [] = rw two.0 at (unit_opens u at f) in
     record {
       shaped = shape D.Branch (P.Skip ∷ P.Jump ∷ []);
@@ -108,7 +104,7 @@ stores_further mask rs1 imm members at here word f e =
       among = shape_among longer at fits;
       opens = subst (λ (ps : List Pattern). Opens ps (words_of u at) at (P.Member ∷ [])) words
           (opens_more (stores mask (length members)) (words_of u at) at [] (P.Member ∷ []) (unit_opens u at f));
-      fits = not_false (decodes_to (has_form P.Member here) (decoded word)) (sym (is_member_by here (decoded word)) ∙ two.1);
+      fits = not-false (decodes_to (has_form P.Member here) (decoded word)) (sym (is_member_by here (decoded word)) ∙ two.1);
     }
 
 pub goes_further : (u : U.Unit) (at here word : ℕ) (rest : List ℕ) → Fits u at → may_precede u at (word ∷ rest) ≡ false → Further u at word here

@@ -53,7 +53,7 @@ label_there : (label : ℕ) → code_of (Upper Lui 4 label) / 2 ^ 12 ≡ label
 unfolding code_of
 label_there label = omega arith
 
-number_there : (n : ℕ) → code_of (Immediate Addi 31 0 n) / 2 ^ 20 ≡ n
+pub number_there : (n : ℕ) → code_of (Immediate Addi 31 0 n) / 2 ^ 20 ≡ n
 unfolding code_of
 number_there n = omega arith
 

@@ -33,6 +33,7 @@ use Rattle.cfi_reader.specs.FirstStep.{at_node, first_step, is_leaf_return, is_n
 use Rattle.cfi_reader.specs.declared.first.First.TheVariants.{More, Done}
 use Rattle.cfi_reader.proofs.Begin.{Agrees, FIRSTS, agrees, answers, choose, first_reads, none_agrees, pick}
 use Rattle.cfi_reader.proofs.Opening.{done_by, first_entry, is_single, node_by}
+use Rattle.cfi_reader.proofs.Entered.{number_there}
 
 -- what each pattern is told, and what that leaves
 abbrev told_none : List Bool
@@ -173,10 +174,6 @@ addi_is : (op : ImmediateOp) → is_addi op ≡ true → op ≡ Addi
 addi_is Addi e = refl
 addi_is op e = absurd (cc)
 
-number_word : (imm : ℕ) → code_of (Immediate Addi 31 0 imm) / 2 ^ 20 ≡ imm
-unfolding code_of
-number_word imm = omega arith
-
 module _ (calls : List ℕ) (word at : ℕ) (place : InCode at 1) (small : word < 2 ^ 32) (i : Instr) (is : decoded word ≡ Some i) where
   left_of : (bs : List Bool) (rs : List Shape) → answers i at ≡ bs → pick (choose FIRSTS bs) SHAPES ≡ rs → Reads rs (word ∷ []) at
   left_of bs rs e p =
@@ -306,7 +303,7 @@ module _ (calls : List ℕ) (word at : ℕ) (place : InCode at 1) (small : word 
             let code : word ≡ code_of (Immediate Addi 31 0 imm) =
             sym (code_of-decoded word i small is) ∙ rw (addi_is op addi, eqb-true rd 31 there, zero_rs) refl in
             rw (begins, number)
-            (counts calls word at place small i is told_number imm (rw (kept, addi, there, number) refl) leaves_number (ap (λ (w : ℕ). w / 2 ^ 20) code ∙ number_word imm))
+            (counts calls word at place small i is told_number imm (rw (kept, addi, there, number) refl) leaves_number (ap (λ (w : ℕ). w / 2 ^ 20) code ∙ number_there imm))
         | inr other ↦
             rw (begins, other)
             (goes calls word at place small i is told_address 11 (rw (kept, addi, there, other) refl) leaves_address (λ e. omega arith) (rw (addi, there, other) refl))

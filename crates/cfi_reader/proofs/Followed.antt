@@ -1,7 +1,7 @@
 -- Where a word leads that is as a row says, and one that is not.
-use Rattle.std.proofs.Common.{◌≡◌, ℕ, ◌+◌, ◌*◌, ◌^◌, ◌<◌, ◌≤◌, ◌==◌, ◌&&◌, Bool, true, false, not, inl, inr, List, [], ◌∷◌, ◌++◌, length, refl, ap, sym, subst, ◌∙◌, arith}
+use Rattle.std.proofs.Common.{◌≡◌, ℕ, ◌+◌, ◌*◌, ◌^◌, ◌<◌, ◌≤◌, ◌==◌, ◌&&◌, true, false, not, inl, inr, List, [], ◌∷◌, ◌++◌, length, refl, ap, sym, subst, ◌∙◌, arith}
 use Rattle.std.specs.Prelude.{Option, Some, None, nat_lt}
-use Rattle.std.proofs.lemmas.Bool.{and_parts, cases_Bool, eq-eqb, eqb-true, ltb-true}
+use Rattle.std.proofs.lemmas.Bool.{and_parts, cases_Bool, eq-eqb, eqb-true, ltb-true, not-true}
 use Rattle.rv_word.specs.Numbers.{MOST_NUMBERS}
 use Rattle.rv_code.specs.Decode.{decoded}
 use Rattle.cfi_unit.specs.declared.pattern.Pattern.{Pattern}
@@ -82,10 +82,6 @@ keeps_none calls numbers label ws at r = record {
   label_is = λ s left among opens told e. absurd (r.sound s left among opens);
   numbers_are = λ s left among opens e. absurd (r.sound s left among opens);
 }
-
-not_true : (b : Bool) → not b ≡ true → b ≡ false
-not_true true e = absurd (cc)
-not_true false e = refl
 
 module _ (calls : List ℕ) (reader : Reader) (row : Row) (word here : ℕ) (most : length calls ≤ MOST_NUMBERS) (low : word < 2 ^ 32) (table : is_row_of reader.node row ≡ true)
     (held : List ℕ) (at : ℕ) (t : IsTrying calls reader held word at) (e : here ≡ at + 4 * length held) where
@@ -168,7 +164,7 @@ module _ (calls : List ℕ) (reader : Reader) (row : Row) (word here : ℕ) (mos
       subst (λ (rs : List Shape). Tries rs held word at) (sym (shapes_are (shape end [] ∷ []) (without row.pattern (rest_of reader.node)) test.1)) (tries_else fails) in
       let w : Whole end held at = whole_unit end held at (try_ended end held word at tries) t.small in
       let m = w.made.1 in
-      let more : is_alone ((shape_of m.unit at).end) ≡ false = ap is_alone w.end_is ∙ not_true (is_alone end) test.0 in (
+      let more : is_alone ((shape_of m.unit at).end) ≡ false = ap is_alone w.end_is ∙ not-true (is_alone end) test.0 in (
         record {
           unit = m.unit;
           fits = m.fits;
@@ -256,7 +252,7 @@ ended_one node row end table is =
     let test = and_parts (not (is_alone end)) (same_shapes (shape end [] ∷ []) (without row.pattern (rest_of node)))
     (ap (λ (n : _). else_to node n (without row.pattern (rest_of node))) (sym is) ∙ s.passes) in
     ended_of row.pattern (rest_of node) (Some end)
-    (subst (λ (rs : List Shape). Ended rs (Some end)) (shapes_are (shape end [] ∷ []) (without row.pattern (rest_of node)) test.1) (inl refl, not_true (is_alone end) test.0))
+    (subst (λ (rs : List Shape). Ended rs (Some end)) (shapes_are (shape end [] ∷ []) (without row.pattern (rest_of node)) test.1) (inl refl, not-true (is_alone end) test.0))
 
 pub ended_none : (node : ℕ) (row : Row) → is_row_of node row ≡ true → row.no ≡ L.Stuck → Ended (rest_of node) None
 ended_none node row table is =

@@ -4,6 +4,7 @@ use Rattle.std.specs.Prelude.{Option, Some, None, slice_get, if◌then◌else◌
 use Rattle.std.proofs.lemmas.Bool.{and_parts, cases_Bool, eqb-true, eq-eqb}
 use Rattle.std.proofs.lemmas.List.{take_all}
 use Rattle.std.proofs.lemmas.Option.{same_Some}
+use Rattle.std.proofs.Math.Bool.{and-true}
 use Rattle.rv_word.specs.Numbers.{MOST_NUMBERS, are_same}
 use Rattle.cfi_unit.specs.declared.pattern.Pattern.{Pattern}
 use Rattle.cfi_unit.specs.declared.pattern.Pattern.TheVariants as P
@@ -39,7 +40,7 @@ add : Pattern → ℕ → List ℕ → List ℕ
 add P.Number word numbers = numbers ++ word / 2 ^ 20 ∷ []
 add p word numbers = numbers
 
-numbers_none : (ps : List Pattern) → numbers_by ps [] ≡ []
+pub numbers_none : (ps : List Pattern) → numbers_by ps [] ≡ []
 numbers_none [] = refl
 numbers_none (p ∷ ps) = refl
 
@@ -71,14 +72,10 @@ and_assoc : (a b d : Bool) → (a && (b && d)) ≡ ((a && b) && d)
 and_assoc true b d = refl
 and_assoc false b d = refl
 
-and_true : (a : Bool) → (a && true) ≡ a
-and_true true = refl
-and_true false = refl
-
 same_push : (ns calls : List ℕ) (n : ℕ) →
     are_same (ns ++ n ∷ []) (take (length (ns ++ n ∷ [])) calls) ≡ (are_same ns (take (length ns) calls) && is_it (slice_get calls (length ns)) n)
 same_push [] [] n = refl
-same_push [] (call ∷ calls) n = and_true (n == call)
+same_push [] (call ∷ calls) n = and-true (n == call)
 same_push (m ∷ ns) [] n = refl
 same_push (m ∷ ns) (call ∷ calls) n = ap (λ (b : Bool). (m == call) && b) (same_push ns calls n) ∙ and_assoc (m == call) _ _
 

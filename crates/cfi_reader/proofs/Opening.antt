@@ -36,6 +36,7 @@ use Rattle.cfi_reader.specs.declared.first.First.TheVariants.{More, Done}
 use Rattle.cfi_reader.proofs.Ahead.{alone_precedes}
 use Rattle.cfi_reader.proofs.Begin.{opens_one}
 use Rattle.cfi_reader.proofs.Followed.{Whole, first_ended, whole_unit}
+use Rattle.cfi_reader.proofs.Keeping.{numbers_none}
 
 -- a word that opens a unit is in it
 first_least : (word at : ℕ) → AtLeast (word ∷ []) at
@@ -82,12 +83,8 @@ label_none : (end : End) (q : Pattern) (left : List Pattern) (word label : ℕ) 
 label_none end P.Label left word label e some = never_label end e
 label_none end q left word label e some = let f : None ≡ Some label = sym (no_words left) ∙ some in cc
 
-none_read : (left : List Pattern) → numbers_by left [] ≡ []
-none_read [] = refl
-none_read (q ∷ left) = refl
-
 one_number : (left : List Pattern) (n : ℕ) → n ∷ [] ≡ n ∷ numbers_by left []
-one_number left n = ap (λ (ns : List ℕ). n ∷ ns) (sym (none_read left))
+one_number left n = ap (λ (ns : List ℕ). n ∷ ns) (sym (numbers_none left))
 
 told_one : (calls : List ℕ) (n : ℕ) → count_on calls 0 n ≡ told_by calls (n ∷ [])
 told_one [] n = refl

@@ -1,7 +1,8 @@
 -- The table of `is_plain_word`: what it lets through is an instruction that may stand alone, and does not write x1.
 use Rattle.std.proofs.Common.{◌≡◌, ℕ, zero, suc, ◌+◌, ◌*◌, ◌/◌, ◌%◌, ◌^◌, ◌<◌, ◌⊎◌, inl, inr, refl, ap, sym, subst, ◌∙◌, get_or, bit_and, arith}
 use Rattle.std.specs.Prelude.{Bool, true, false, not, ◌&&◌, ◌||◌, ◌==◌, Some, option_map}
-use Rattle.std.proofs.lemmas.Bool.{agree_below, agree_below_at, and_parts, eq-eqb, eqb-true}
+use Rattle.std.proofs.lemmas.Bool.{agree_below, agree_below_at, and_parts, eq-eqb, eqb-true, not-true}
+use Rattle.rv_word.proofs.Booleans.{implied, one_of}
 use Rattle.rv_instr.specs.Reserved.{is_reserved}
 use Rattle.rv_instr.specs.declared.instr.Instr.{Instr}
 use Rattle.rv_instr.specs.declared.instr.Instr.TheVariants.{Register, Shift, ShiftWord}
@@ -16,15 +17,6 @@ use Rattle.cfi_reader.specs.declared.plain.TheConstants as table
 -- a funct7 with what is asked of it
 abbrev pub asked : ℕ → ℕ
 asked n = n * 0x101 + 0x5f80
-
--- what holds of each funct7 that a row lets through
-implied : (a b : Bool) → (not a || b) ≡ true → a ≡ true → b ≡ true
-implied true b either is = either
-implied false b either is = absurd (cc)
-
-one_of : (a b : Bool) → (a || b) ≡ true → (a ≡ true) ⊎ (b ≡ true)
-one_of true b is = inl refl
-one_of false b is = inr is
 
 every : (test : ℕ → Bool) → agree_below test (λ n. true) 128 ≡ true → (n : ℕ) → n < 128 → test n ≡ true
 every test all n below = agree_below_at test (λ n. true) 128 n all below
@@ -181,10 +173,6 @@ module _ (w rd rs1 rs2 : ℕ) (free : not (is_reserved rd) ≡ true) (kept : (rd
   by_row (suc (suc (suc (suc (suc (suc (suc (suc (suc (suc (suc (suc (suc (suc (suc zero))))))))))))))) funct3 funct7 within low small some is = none_row 15 funct3 funct7 (no_row 15 funct3 funct7 low refl is) small
   by_row (suc (suc (suc (suc (suc (suc (suc (suc (suc (suc (suc (suc (suc (suc (suc (suc n)))))))))))))))) funct3 funct7 within low small some is = absurd (omega arith)
 
-not_true : (b : Bool) → not b ≡ true → b ≡ false
-not_true false is = refl
-not_true true is = absurd (cc)
-
 pub plain_word : (w unset : ℕ) → w < 2 ^ 32 → w % 4 ≡ 3 → w / 64 % 2 ≡ 0 →
     unset ≡ get_or table.UNSET (8 * (w / 2 ^ 2 % 2 ^ 4) + w / 2 ^ 12 % 2 ^ 3) 0 → bit_and unset (asked (w / 2 ^ 25)) ≡ 0 →
     is_ordinary (w / 2 ^ 7 % 2 ^ 5) ≡ true → IsPlainWord w
@@ -193,10 +181,10 @@ plain_word w unset small low high unset_is clear named =
     let f = fields_of w in
     let p = and_parts (not (f.rd == 0)) (not (f.rd == 1) && not (is_reserved f.rd)) named in
     let q = and_parts (not (f.rd == 1)) (not (is_reserved f.rd)) p.1 in
-    let kept : (f.rd == 1) ≡ false = not_true (f.rd == 1) q.0 in
+    let kept : (f.rd == 1) ≡ false = not-true (f.rd == 1) q.0 in
     let opcode : 4 * (w / 2 ^ 2 % 2 ^ 4) + 3 ≡ w % 2 ^ 7 = omega arith in
     let is : bit_and (get_or table.UNSET (8 * (w / 2 ^ 2 % 2 ^ 4) + f.funct3) 0) (asked f.funct7) ≡ 0 =
     ap (λ n. bit_and n (asked f.funct7)) (sym unset_is) ∙ clear in
     let (i, (same, (alone, no_link))) = subst (λ o. Alone w f.rd f.rs1 f.rs2 q.1 kept o f.funct3 f.funct7) opcode
-    (by_row w f.rd f.rs1 f.rs2 q.1 kept (w / 2 ^ 2 % 2 ^ 4) f.funct3 f.funct7 (omega arith) (omega arith) (omega arith) (not_true (f.rd == 0) p.0) is) in
+    (by_row w f.rd f.rs1 f.rs2 q.1 kept (w / 2 ^ 2 % 2 ^ 4) f.funct3 f.funct7 (omega arith) (omega arith) (omega arith) (not-true (f.rd == 0) p.0) is) in
     record { instr = i; is = same; plain = alone; no_link = no_link }

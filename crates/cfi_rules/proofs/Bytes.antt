@@ -6,19 +6,10 @@ use Rattle.std.proofs.lemmas.Option.{slice_get-get_or}
 use Rattle.rv_image.specs.Image.{Contents, IsImageSize, loaded}
 use Rattle.rv_image.specs.MemoryMap.{CODE_START, DATA_START}
 use Rattle.rv_word.specs.Memory.{Memory, read, placed, zeros}
+use Rattle.rv_word.proofs.SameBytes.{read_same}
 use Rattle.cfi_unit.specs.Laws.{AreWords}
 use Rattle.cfi_rules.specs.Laws.{AreBytes}
 use Rattle.cfi_rules.specs.Split.{code_words}
-
--- equal bytes read equally
-pub read_moved : (n : ℕ) (m m' : Memory) (a b : ℕ) → ((k : ℕ) → k < n → m (a + k) ≡ m' (b + k)) → read n m a ≡ read n m' b
-read_moved zero m m' a b same = refl
-read_moved (suc n) m m' a b same =
-    let first : m a ≡ m' b =
-    ap m (let z : a ≡ a + 0 = omega arith in z) ∙ same 0 (omega arith) ∙ ap m' (let z : b + 0 ≡ b = omega arith in z) in
-    let more : read n m (a + 1) ≡ read n m' (b + 1) = read_moved n m m' (a + 1) (b + 1) (λ k below.
-    ap m (let z : a + 1 + k ≡ a + (k + 1) = omega arith in z) ∙ same (k + 1) (omega arith) ∙ ap m' (let z : b + (k + 1) ≡ b + 1 + k = omega arith in z)) in
-    omega (arith, first, more)
 
 pub record IsWordAt (bytes : List ℕ) (j w : ℕ) : Type 0 where
   pub within : 4 * j + 4 ≤ length bytes
@@ -38,7 +29,7 @@ code_word (a ∷ b ∷ c ∷ d ∷ rest) (suc j) w e =
     let k : 4 * suc j ≡ suc (suc (suc (suc (4 * j)))) = omega arith in
     record {
       within = omega arith;
-      is = w'.is ∙ read_moved 4 (λ k. slice_index rest k) (λ k. slice_index (a ∷ b ∷ c ∷ d ∷ rest) k) (4 * j) (4 * suc j)
+      is = w'.is ∙ read_same 4 (λ k. slice_index rest k) (λ k. slice_index (a ∷ b ∷ c ∷ d ∷ rest) k) (4 * j) (4 * suc j)
           (λ t below. let s : suc (suc (suc (suc (4 * j + t)))) ≡ 4 * suc j + t = omega arith in ap (slice_index (a ∷ b ∷ c ∷ d ∷ rest)) s);
     }
 
@@ -98,6 +89,6 @@ module _ (image : Contents) where
   loaded_word j w e =
       let at = code_word image.code j w e in
       let within = at.within in
-      read_moved 4 (loaded image) (λ k. slice_index image.code k) (CODE_START + 4 * j) (4 * j)
+      read_same 4 (loaded image) (λ k. slice_index image.code k) (CODE_START + 4 * j) (4 * j)
       (λ t below. ap (loaded image) (let z : CODE_START + 4 * j + t ≡ CODE_START + (4 * j + t) = omega arith in z) ∙ loaded_code (4 * j + t) (omega arith))
       ∙ sym at.is

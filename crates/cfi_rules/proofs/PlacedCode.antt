@@ -1,6 +1,6 @@
 -- A whole code of placed units: its prologue stands and calls the entry, its units are its split, and with
 -- its lines it is well formed.
-use Rattle.std.proofs.Common.{◌≡◌, ℕ, zero, suc, ◌+◌, ◌-◌, ◌*◌, ◌/◌, ◌%◌, ◌≤◌, ◌<◌, ◌==◌, inl, inr, true, false, List, [], ◌∷◌, ◌++◌, get_or, length, map, sym, ap, subst, ◌∙◌, lit<, Some, arith}
+use Rattle.std.proofs.Common.{◌≡◌, ℕ, ◌+◌, ◌-◌, ◌*◌, ◌/◌, ◌%◌, ◌≤◌, ◌<◌, ◌==◌, inl, inr, true, false, List, [], ◌∷◌, ◌++◌, get_or, length, map, sym, ap, subst, ◌∙◌, lit<, Some, arith}
 use Rattle.std.specs.Prelude.{not, ◌&&◌, slice_get, slice_index, option_and_then, option_map, nat_le}
 use Rattle.std.proofs.lemmas.Bool.{and_parts, and_left, and_right, cases_Bool, cases_eq, eq-eqb, leb-true, ne_eqb, not_from_true}
 use Rattle.std.proofs.lemmas.List.{drop_at}
@@ -20,6 +20,7 @@ use Rattle.cfi_unit.specs.Reach.{target_in}
 use Rattle.cfi_unit.specs.Split.{IsSplit}
 use Rattle.cfi_unit.specs.UnitWords.{Reaches, jump_offset}
 use Rattle.cfi_unit.proofs.Jumps.{is_jump_instr}
+use Rattle.cfi_unit.proofs.Context.{slice_get-front}
 use Rattle.cfi_rules.specs.PlacedLaws.{PlacedEntry, PlacedIsWellFormed, PlacedUnits, SplitUnits}
 use Rattle.cfi_rules.specs.Placed.{AllAhead, AllFit, code_from, placed_code}
 use Rattle.cfi_rules.specs.Rules.{Holds, fails_prologue, is_link, prologue_word_fits, prologue_words}
@@ -29,11 +30,6 @@ use Rattle.cfi_rules.proofs.Opening.{PrologueIs, call_word, prologue_is, word_at
 use Rattle.cfi_rules.proofs.PlacedRules.{IsPlaced, rules_hold}
 use Rattle.cfi_rules.proofs.PlacedSplit.{placed_split, start_is, unit_is}
 use Rattle.cfi_rules.proofs.UnitIn.{length-placed_code, prologue_counted}
-
-get_left : {A : Type 0} (xs ys : List A) (k : ℕ) (x : A) → slice_get xs k ≡ Some x → slice_get (xs ++ ys) k ≡ Some x
-get_left [] ys k x e = absurd (cc)
-get_left (y ∷ xs) ys zero x e = e
-get_left (y ∷ xs) ys (suc k) x e = get_left xs ys k x e
 
 -- the call of the entry
 abbrev entry_call : Profile → ℕ → Instr
@@ -65,7 +61,7 @@ module _ (p : Profile) (profile : IsProfile p) where
 
     word_there : (k : ℕ) (i : Instr) → slice_get (prologue_instrs p entry) k ≡ Some i → slice_get the_code k ≡ Some (code_of i)
     word_there k i e =
-        get_left (map code_of (prologue_instrs p entry)) (code_from p.units_from us) k (code_of i)
+        slice_get-front (map code_of (prologue_instrs p entry)) (code_from p.units_from us) k (code_of i)
         (slice_get-map code_of (prologue_instrs p entry) k ∙ ap (option_map code_of) e)
 
     fits_there : (k : ℕ) → CODE_START + 4 * k < p.units_from → prologue_word_fits p k (slice_get the_code k) ≡ true

@@ -4,7 +4,7 @@
 use Rattle.std.proofs.Common.{◌≡◌, ℕ, zero, suc, ◌+◌, ◌*◌, ◌==◌, inl, inr, Bool, true, false, List, [], ◌∷◌, refl, sym, ap, subst, ◌∙◌, length, lit<, arith}
 use Rattle.std.specs.Prelude.{Option, Some, None, ◌&&◌, ◌||◌, is_some, not, option_and_then, slice_get}
 use Rattle.std.specs.List.{last_or, list_all}
-use Rattle.std.proofs.lemmas.Bool.{and_parts, cases_eq, eqb-true, or_cases}
+use Rattle.std.proofs.lemmas.Bool.{and_parts, cases_eq, eqb-true, or_cases, not-false}
 use Rattle.std.proofs.lemmas.Option.{same_Some}
 use Rattle.rv_image.specs.declared.version.GraphVersion.{GraphVersion}
 use Rattle.rv_image.specs.declared.version.GraphVersion.TheVariants.{OneLabel}
@@ -40,7 +40,7 @@ use Rattle.cfi_rules.specs.Placed.{AllAhead, AllFit, code_from, is_head, lines_f
 use Rattle.cfi_rules.specs.Rules.{Signs, admits, gate_of, is_astray, is_borne, is_label, site_of}
 use Rattle.cfi_rules.specs.Sound.{Bears, EndsIn, IsSound, StartsIn, may_be_entered, target_of}
 use Rattle.cfi_rules.specs.Split.{unit_in}
-use Rattle.cfi_rules.proofs.RuleFacts.{gate_is, not_false}
+use Rattle.cfi_rules.proofs.RuleFacts.{gate_is}
 use Rattle.cfi_rules.proofs.UnitIn.{in_here, in_later}
 
 -- a computed call of one of two functions (p.s)
@@ -210,7 +210,7 @@ right_parts version heads units a u right =
 listed : (version : GraphVersion) (heads : List GraphLine) (l a : ℕ) (class : ClassLine) → not (is_astray (heads_of version heads) a (V.Gate l)) ≡ true →
     class_with heads l ≡ Some class → is_word_of (read_of version class.sort) a class.targets ≡ true
 listed version heads l a class right e =
-    not_false (is_word_of (read_of version class.sort) a class.targets)
+    not-false (is_word_of (read_of version class.sort) a class.targets)
     (not_true (is_beside version class a) (sym (ap (λ o. not (holds_of o (λ (c : ClassLine). is_beside version c a))) e) ∙ right))
   where
     not_true : (b : Bool) → not b ≡ true → b ≡ false

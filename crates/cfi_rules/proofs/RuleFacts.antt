@@ -2,7 +2,7 @@
 use Rattle.std.proofs.Common.{◌≡◌, ℕ, ◌+◌, ◌*◌, inl, inr, Bool, true, false, List, [], ◌∷◌, length, refl, sym, ap, subst, ◌∙◌, Option, Some, None, arith}
 use Rattle.std.specs.Prelude.{nat_le, ◌==◌, ◌&&◌, not, option_and_then, is_some}
 use Rattle.std.specs.List.{list_any}
-use Rattle.std.proofs.lemmas.Bool.{cases_eq, eqb-true, eq-eqb, and_parts, or_parts}
+use Rattle.std.proofs.lemmas.Bool.{cases_eq, eqb-true, eq-eqb, and_parts, or_parts, not-true, not-false}
 use Rattle.rv_image.specs.declared.version.GraphVersion.{GraphVersion}
 use Rattle.rv_image.specs.declared.version.GraphVersion.TheVariants.{OneLabel, TwoLabels, CalleeSaves}
 use Rattle.rv_image.specs.Image.{Contents}
@@ -30,10 +30,6 @@ use Rattle.cfi_rules.specs.declared.reject.Rule.TheVariants as R
 use Rattle.cfi_rules.proofs.Find.{UnitHere}
 use Rattle.cfi_rules.proofs.Served.{read_by, reads_it, served}
 
-pub not_false : (b : Bool) → not b ≡ false → b ≡ true
-not_false true e = refl
-not_false false e = absurd (cc)
-
 pub gate_is : (unit : Option U.Unit) (label : ℕ) → is_label (option_and_then gate_of unit) label ≡ true → unit ≡ Some (V.Gate label)
 gate_is (Some (V.Gate l)) label e = ap (λ n. Some (V.Gate n)) (eqb-true l label e)
 gate_is other label e = absurd (cc)
@@ -59,7 +55,7 @@ borne_of_class version (line ∷ lines) signs v l class e rule among =
                 let same : here ≡ class = same_Some here class found.1 in
                 let there : is_among v here.targets ≡ true = ap (λ (c : ClassLine). is_among v c.targets) same ∙ among in
                 let borne : is_borne signs (read_of version here.sort) v here.label ≡ true =
-                not_false (is_borne signs (read_of version here.sort) v here.label)
+                not-false (is_borne signs (read_of version here.sort) v here.label)
                 (sym (ap (λ b. b && not (is_borne signs (read_of version here.sort) v here.label)) there) ∙ stands) in
                 let of_class : is_borne signs (read_of version class.sort) v class.label ≡ true =
                 subst (λ (c : ClassLine). is_borne signs (read_of version c.sort) v c.label ≡ true) same borne in
@@ -74,10 +70,6 @@ abbrev pub landing : TargetWord → ℕ → ℕ
 landing First v = v
 landing Second v = v
 landing Third v = v + 8
-
-not_true : (b : Bool) → not b ≡ true → b ≡ false
-not_true false e = refl
-not_true true e = absurd (cc)
 
 module _ (p : Profile) (words : List ℕ) (leaves : List kinds.Leaf) (v l : ℕ) where
   abbrev signs : Signs
@@ -98,7 +90,7 @@ module _ (p : Profile) (words : List ℕ) (leaves : List kinds.Leaf) (v l : ℕ)
 
   -- a first word is one of a saved start, a third one stands directly before what saves a site
   pub saved_borne : is_borne signs First v l ≡ true → is_fresh (unit_at p words) leaves v ≡ false
-  saved_borne borne = not_true (signs.fresh v) (and_parts (is_label (signs.gate v) l) (not (signs.fresh v)) borne).1
+  saved_borne borne = not-true (signs.fresh v) (and_parts (is_label (signs.gate v) l) (not (signs.fresh v)) borne).1
 
   pub enter_borne : is_borne signs Third v l ≡ true → is_enter (unit_at p words (v + 12)) ≡ true
   enter_borne borne = (and_parts (is_label (signs.gate (v + 8)) l) (signs.enters (v + 12)) borne).1
@@ -162,7 +154,7 @@ module _ (p : Profile) (image : Contents) (graph : GraphParts) (formed : IsWellF
   unit_may a u is =
       let rule = (or_parts _ (holds_of (unit_at p the_words a) (λ (v : U.Unit). not (may_stand_at graph a v))) (formed.rules R.Unit a)).1 in
       let here : not (may_stand_at graph a u) ≡ false = sym (ap (λ o. holds_of o (λ (v : U.Unit). not (may_stand_at graph a v))) is) ∙ rule in
-      not_false (may_stand_at graph a u) here
+      not-false (may_stand_at graph a u) here
 
   pub unit_admitted : (a : ℕ) (u : U.Unit) → unit_at p the_words a ≡ Some u → admitted_in graph u ≡ true
   unit_admitted a u is = (and_parts (admitted_in graph u) (stands_by (leaf_of the_leaves a) u) (unit_may a u is)).0
@@ -194,7 +186,7 @@ module _ (p : Profile) (image : Contents) (graph : GraphParts) (formed : IsWellF
       let rule = (or_parts (list_any (lacks_end p the_words a) graph.lines) (holds_of (unit_at p the_words a) (goes_wrong p the_words the_leaves a)) (formed.rules R.Leaf a)).1 in
       let here : goes_on u && not (is_right_behind (unit_at p the_words) the_leaves (leaf_of the_leaves a) a u) ≡ false =
       sym (ap (λ o. holds_of o (goes_wrong p the_words the_leaves a)) is) ∙ rule in
-      not_false (is_right_behind (unit_at p the_words) the_leaves (leaf_of the_leaves a) a u)
+      not-false (is_right_behind (unit_at p the_words) the_leaves (leaf_of the_leaves a) a u)
       (sym (ap (λ b. b && not (is_right_behind (unit_at p the_words) the_leaves (leaf_of the_leaves a) a u)) on) ∙ here)
 
   -- where a direct transfer leads
@@ -202,14 +194,14 @@ module _ (p : Profile) (image : Contents) (graph : GraphParts) (formed : IsWellF
   edge_goes a place t here edge =
       let rule = (or_parts (holds_of (option_and_then edge_of (place_at p the_words a)) (λ x. not (may_go p the_words the_leaves a x)))
       (holds_of (option_and_then call_of (place_at p the_words a)) (λ x. not (may_call_to p.callee_saves p the_words the_leaves a x))) (formed.rules R.Target a)).0 in
-      not_false (may_go p the_words the_leaves a t) (rw (here, edge) at rule)
+      not-false (may_go p the_words the_leaves a t) (rw (here, edge) at rule)
 
   call_goes : (a : ℕ) (place : Place) (t : ℕ) → place_at p the_words a ≡ Some place → call_of place ≡ Some t →
       may_call_to p.callee_saves p the_words the_leaves a t ≡ true
   call_goes a place t here edge =
       let rule = (or_parts (holds_of (option_and_then edge_of (place_at p the_words a)) (λ x. not (may_go p the_words the_leaves a x)))
       (holds_of (option_and_then call_of (place_at p the_words a)) (λ x. not (may_call_to p.callee_saves p the_words the_leaves a x))) (formed.rules R.Target a)).1 in
-      not_false (may_call_to p.callee_saves p the_words the_leaves a t) (rw (here, edge) at rule)
+      not-false (may_call_to p.callee_saves p the_words the_leaves a t) (rw (here, edge) at rule)
 
   pub edge_starts : (a : ℕ) (place : Place) (t : ℕ) → place_at p the_words a ≡ Some place → edge_of place ≡ Some t → is_start p the_words t ≡ true
   edge_starts a place t here edge =
@@ -237,7 +229,7 @@ module _ (p : Profile) (image : Contents) (graph : GraphParts) (formed : IsWellF
       let bad : (a + 4 * word_count u == CODE_START + 4 * length the_words) && not (is_stop u) ≡ false = rw here.is at rule in
       let high = here.high in
       elim (cases_eq (a + 4 * word_count u) (CODE_START + 4 * length the_words)) [
-        | inl last ↦ let stop : is_stop u ≡ true = not_false (is_stop u) (rw (eq-eqb _ _ last) at bad) in absurd (cc)
+        | inl last ↦ let stop : is_stop u ≡ true = not-false (is_stop u) (rw (eq-eqb _ _ last) at bad) in absurd (cc)
         | inr more ↦ here.next (omega arith)
       ]
 
@@ -257,7 +249,7 @@ module _ (p : Profile) (image : Contents) (graph : GraphParts) (formed : IsWellF
       let word_is = reads_it graph.version s.class.sort kind which read s.serving in
       let rule : not (is_word_of (read_of graph.version s.class.sort) v s.class.targets) ≡ false =
       sym (ap (λ o. holds_of o (λ (c : ClassLine). is_beside graph.version c v)) s.is) ∙ sym (ap (λ o. holds_of o (is_astray graph v)) here) ∙ formed.rules R.Astray v in
-      let word : is_word_of (read_of graph.version s.class.sort) v s.class.targets ≡ true = not_false (is_word_of (read_of graph.version s.class.sort) v s.class.targets) rule in
+      let word : is_word_of (read_of graph.version s.class.sort) v s.class.targets ≡ true = not-false (is_word_of (read_of graph.version s.class.sort) v s.class.targets) rule in
       let there : is_word_of which v s.class.targets ≡ true = subst (λ (w : TargetWord). is_word_of w v s.class.targets ≡ true) word_is word in
       subst (λ (xs : List ℕ). is_word_of which v xs ≡ true) s.targets there
 
@@ -268,6 +260,6 @@ module _ (p : Profile) (image : Contents) (graph : GraphParts) (formed : IsWellF
       let rule = (or_parts (holds_of (option_and_then site_of (place_at p the_words a))
       (λ (s : Asks). not (is_site_with (line_at graph.lines a) s && is_some (targets_for graph.lines s.kind s.which s.label))))
       (holds_of (line_at graph.lines a) (is_lone_site (place_at p the_words a))) (formed.rules R.Site a)).0 in
-      let both = not_false (is_site_with (line_at graph.lines a) asked && is_some (targets_for graph.lines asked.kind asked.which asked.label)) (rw (here, site) at rule) in
+      let both = not-false (is_site_with (line_at graph.lines a) asked && is_some (targets_for graph.lines asked.kind asked.which asked.label)) (rw (here, site) at rule) in
       some_is (targets_for graph.lines asked.kind asked.which asked.label)
       (and_parts (is_site_with (line_at graph.lines a) asked) (is_some (targets_for graph.lines asked.kind asked.which asked.label)) both).1

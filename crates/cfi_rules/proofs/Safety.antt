@@ -5,13 +5,14 @@ use Rattle.std.specs.Prelude.{◌==◌, if◌then◌else◌}
 use Rattle.std.specs.List.{AllByRecursion}
 use Rattle.std.proofs.lemmas.Bool.{cases_eq, eq-eqb, ne_eqb}
 use Rattle.rv_image.specs.Image.{Contents, loaded}
-use Rattle.rv_image.specs.MemoryMap.{DATA_END, IsProfile, MayRun, Profile, part_of}
+use Rattle.rv_image.specs.MemoryMap.{IsProfile, MayRun, Profile, part_of}
 use Rattle.rv_word.specs.Memory.{Memory}
 use Rattle.rv_image.proofs.Profiles.{laid_out}
 use Rattle.rv_code.specs.Run.{ByteChange, HartStep, IsDataChange, changed, disturbed}
 use Rattle.rv_code.specs.State.{Hart, Harts, Shared, After, last_exit, with_hart}
 use Rattle.rv_code.specs.Step.{step}
 use Rattle.rv_code.specs.declared.turn.Turn.TheVariants.{Ran}
+use Rattle.rv_code.proofs.Changes.{changed_above}
 use Rattle.cfi_graph.specs.Graph.{GraphParts}
 use Rattle.cfi_unit.specs.Context.{IsCodeOf, Context}
 use Rattle.cfi_unit.specs.declared.place.Place.{Place}
@@ -28,13 +29,6 @@ use Rattle.cfi_rules.proofs.Places.{prologue, place_facts, nothing_inside, at_op
 use Rattle.cfi_rules.proofs.Reading.{places_same, split_read}
 use Rattle.cfi_rules.proofs.Steps.{Inside, Now, Shadow, arrived, begins, now_kept, opens_at, starting, step_on, walk_at, within}
 use Rattle.cfi_rules.proofs.Taken.{after_step}
-
--- changes of data leave all else as it is
-pub changed_above : (m : Memory) (cs : List ByteChange) → AllByRecursion IsDataChange cs → (k : ℕ) → DATA_END ≤ k → changed m cs k ≡ m k
-changed_above m [] low k above = refl
-changed_above m (c ∷ cs) low k above =
-    let below = low.0.address in
-    changed_above (λ j. if j == c.address then c.byte else m j) cs low.1 k above ∙ rw (ne_eqb k c.address (λ e. omega arith)) refl
 
 module _ (p : Profile) (profile : IsProfile p) (image : Contents) (graph : GraphParts) (bytes : AreBytes image) (formed : IsWellFormed p image graph) where
   abbrev the_words : List ℕ

@@ -3,6 +3,7 @@
 use Rattle.std.proofs.Common.{◌≡◌, ℕ, ◌+◌, ◌||◌, inl, inr, Bool, true, false, List, refl, sym, ap, ◌∙◌, Option, Some, None, arith}
 use Rattle.std.specs.Prelude.{◌==◌, is_some, option_map, if◌then◌else◌}
 use Rattle.std.proofs.lemmas.Bool.{and_from, cases_Bool, cases_lt}
+use Rattle.rv_word.proofs.Booleans.{or_right}
 use Rattle.rv_image.specs.declared.version.GraphVersion.{GraphVersion}
 use Rattle.rv_image.specs.declared.version.GraphVersion.TheVariants.{OneLabel, TwoLabels, CalleeSaves}
 use Rattle.rv_image.specs.Image.{Contents}
@@ -91,10 +92,6 @@ abbrev pub landing_kind : TargetWord → Start
 landing_kind First = saved
 landing_kind Second = saved
 landing_kind Third = fresh
-
-or_right : (b c : Bool) → c ≡ true → b || c ≡ true
-or_right true c e = refl
-or_right false c e = e
 
 unit_of_body : (o : Option U.Unit) → unit_of (option_map body o) ≡ o
 unit_of_body None = refl

@@ -1,8 +1,8 @@
 -- An instruction that is executed on states that are the same to the program leaves such states.
 use Rattle.std.proofs.Common.{◌≡◌, ℕ, ◌+◌, ◌^◌, ◌==◌, ◌||◌, ◌≤◌, true, false, Bool, refl, sym, ap, subst, ◌∙◌, arith}
-use Rattle.std.proofs.lemmas.Bool.{eq-eqb}
 use Rattle.std.proofs.lemmas.Bool.Decides.{nat_tests}
 use Rattle.rv_word.specs.Bits.{wrap}
+use Rattle.rv_word.proofs.Booleans.{is_self}
 use Rattle.rv_image.specs.MemoryMap.{Profile, can_load}
 use Rattle.rv_instr.specs.Operands.{names}
 use Rattle.rv_instr.specs.Registers.{Registers, get_reg}
@@ -30,9 +30,6 @@ pub record AlikeAfter (o a : After) : Type 0 where
 -- each register that an instruction names is one of the program's
 abbrev pub NamesFree : Instr → Type 0
 NamesFree i = (k : ℕ) → names i k ≡ true → is_reserved k ≡ false
-
-pub is_self : (k : ℕ) → (k == k) ≡ true
-is_self k = eq-eqb k k refl
 
 pub or_first : (a b : Bool) → a ≡ true → (a || b) ≡ true
 or_first true b e = refl

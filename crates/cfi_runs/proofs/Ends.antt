@@ -14,6 +14,7 @@ use Rattle.cfi_unit.specs.Between.{Unchanged}
 use Rattle.cfi_unit.specs.Leaving.{SameRegisters, pushed}
 use Rattle.cfi_unit.specs.PrologueEffect.{EntersOpening, stack_of, OpeningDoes, ClosingDoes}
 use Rattle.cfi_unit.specs.Shadow.{slot}
+use Rattle.cfi_unit.proofs.PrologueEffect.{same_trans}
 use Rattle.cfi_runs.specs.MatchLaws as law
 use Rattle.cfi_runs.specs.MatchLaws.{ComesTo}
 use Rattle.cfi_runs.specs.Matching.{SameData, MatchesAfter}
@@ -23,7 +24,7 @@ use Rattle.cfi_runs.specs.Within.{Within}
 use Rattle.cfi_runs.proofs.AlikeCalls.{call_alike}
 use Rattle.cfi_runs.proofs.Calmly.{within_weaker}
 use Rattle.cfi_runs.proofs.LeanOpening.{lean_opening_runs}
-use Rattle.cfi_runs.proofs.Same.{same_put, same_trans}
+use Rattle.cfi_runs.proofs.Same.{same_put}
 use Rattle.cfi_runs.proofs.UnitRuns.{opening_runs, closing_runs}
 
 -- a site that is pushed is no data

@@ -23,9 +23,10 @@ use Rattle.cfi_unit.proofs.EffectLean.{link_call_does}
 use Rattle.cfi_unit.proofs.EffectRows.{unchanged_harmless}
 use Rattle.cfi_unit.proofs.EffectSteps.{Now, same_again, same_link, same_set}
 use Rattle.cfi_unit.proofs.Parts.{own_is_part}
+use Rattle.cfi_unit.proofs.PrologueEffect.{same_trans}
 use Rattle.cfi_runs.specs.Openings.{AtOpening, EntryFits, LeanOpeningDoes, LeanOpeningRuns}
 use Rattle.cfi_runs.specs.Within.{Within}
-use Rattle.cfi_runs.proofs.Same.{same_trans}
+
 
 -- the registers where the call of the entry stands: both stacks are set up, and x4 holds the mask of stores
 record Ready (hart : ℕ) (r regs : Registers) : Type 0 where

@@ -5,6 +5,7 @@ use Rattle.std.proofs.lemmas.Bool.{cases_Bool, eqb-true, false≢true}
 use Rattle.rv_image.specs.MemoryMap.{Profile, SHADOW_START}
 use Rattle.rv_word.specs.Memory.{Memory, write}
 use Rattle.rv_word.specs.Numbers.{is_listed}
+use Rattle.rv_word.proofs.Booleans.{is_self}
 use Rattle.rv_instr.specs.Registers.{Registers, get_reg, set_reg}
 use Rattle.rv_instr.specs.Reserved.{is_reserved}
 use Rattle.rv_instr.specs.declared.instr.Instr.{Instr}
@@ -36,16 +37,17 @@ use Rattle.cfi_unit.proofs.Counts.{some_word}
 use Rattle.cfi_unit.proofs.EffectSteps.{same_link}
 use Rattle.cfi_unit.proofs.MaskKept.{unit_spares}
 use Rattle.cfi_unit.proofs.Flows.{ActFits, Suits, act_fits, entered, is_single, is_untested, linked_back, linking_call, linking_computed_call, single_word, suits, untested, direct_call, guarded_call, computed_jump, computed_call, turned_back}
+use Rattle.cfi_unit.proofs.PrologueEffect.{same_trans}
 use Rattle.cfi_runs.specs.MatchLaws as law
 use Rattle.cfi_runs.specs.Matching.{SameData, Matches, MatchesAfter}
 use Rattle.cfi_runs.specs.Mask.{HoldsMask}
 use Rattle.cfi_runs.specs.Own.{Own, OwnAfter, calls, computed, executes, goes, links, own_act, own_exit, own_step, returns, saves, stored_all}
 use Rattle.cfi_runs.specs.OwnRuns.{SitesFit}
 use Rattle.cfi_runs.specs.Tame.{ActTame, ExitTame, IsTame, NamesNoReserved, ReturnTame, TestTame, act_names, exit_names}
-use Rattle.cfi_runs.proofs.Alike.{AlikeAfter, sum_same, is_self, or_first, or_second, plain_alike, break_alike}
+use Rattle.cfi_runs.proofs.Alike.{AlikeAfter, sum_same, or_first, or_second, plain_alike, break_alike}
 use Rattle.cfi_runs.proofs.AlikeCalls.{call_alike}
 use Rattle.cfi_runs.proofs.Calmly.{within_weaker}
-use Rattle.cfi_runs.proofs.Same.{same_trans, get_same, write_alike, data_written}
+use Rattle.cfi_runs.proofs.Same.{get_same, write_alike, data_written}
 use Rattle.cfi_runs.proofs.UnitRuns.{unit_runs}
 
 -- the operands of a branch

@@ -1,5 +1,5 @@
 -- A path of tame steps is matched, unit after unit.
-use Rattle.std.proofs.Common.{◌≡◌, ℕ, suc, ◌-◌, ◌%◌, ◌^◌, ◌<◌, inr, true, false, List, [], ◌∷◌, length, refl, sym, subst, ◌∙◌, arith}
+use Rattle.std.proofs.Common.{◌≡◌, ℕ, ◌-◌, ◌%◌, ◌^◌, ◌<◌, inr, true, false, List, [], ◌∷◌, length, refl, sym, subst, ◌∙◌, arith}
 use Rattle.rv_image.specs.MemoryMap.{Profile}
 use Rattle.rv_word.specs.Memory.{Memory}
 use Rattle.rv_code.specs.State.{Hart, Shared, After}
@@ -10,8 +10,9 @@ use Rattle.cfi_unit.specs.Flow as F
 use Rattle.cfi_unit.specs.Flow.{Act, Exit, Flow, flow_of}
 use Rattle.cfi_unit.specs.UnitWords.{after_unit, word_count}
 use Rattle.cfi_unit.specs.Shadow.{IsPart, MOST_PENDING}
-use Rattle.cfi_unit.proofs.Counts.{most_words, some_word}
+use Rattle.cfi_unit.proofs.Counts.{most_words}
 use Rattle.cfi_unit.proofs.Flows.{Suits, entered, is_untested, linked_back, linking_call, linking_computed_call, suits, untested, direct_call, guarded_call, computed_jump, computed_call, turned_back}
+use Rattle.cfi_unit.proofs.EffectRows.{one_word}
 use Rattle.cfi_runs.specs.MatchLaws as law
 use Rattle.cfi_runs.specs.MatchLaws.{ComesTo}
 use Rattle.cfi_runs.specs.Matching.{Matches, MatchesAfter}
@@ -21,10 +22,6 @@ use Rattle.cfi_runs.specs.Tame.{ReturnTame, TameStep, TestTame}
 use Rattle.cfi_runs.specs.Within.{Within}
 use Rattle.cfi_runs.proofs.Calmly.{within_going, within_then}
 use Rattle.cfi_runs.proofs.Matched.{unit_keeps_match}
-
--- each unit has a word
-pub one_word : (unit : U.Unit) → suc (word_count unit - 1) ≡ word_count unit
-one_word unit = let some = some_word unit in omega arith
 
 module _ (p : Profile) (image : Memory) (o : Own) (past : ℕ) (even : past % 2 ≡ 0) (small : past < 2 ^ 64) (fit : SitesFit o.pending) where
   called_fit : length o.pending < MOST_PENDING → SitesFit (past ∷ o.pending)

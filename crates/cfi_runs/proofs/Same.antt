@@ -11,9 +11,6 @@ use Rattle.rv_code.specs.SystemCall.{bytes_of}
 use Rattle.cfi_unit.specs.Leaving.{SameRegisters, with_memory}
 use Rattle.cfi_runs.specs.Matching.{SameData}
 
-pub same_trans : (r regs last : Registers) → SameRegisters r regs → SameRegisters regs last → SameRegisters r last
-same_trans r regs last one two = record { same = λ k free. two.same k free ∙ one.same k free }
-
 -- an operand
 pub get_same : (r regs : Registers) (k : ℕ) → is_reserved k ≡ false → SameRegisters r regs → get_reg regs k ≡ get_reg r k
 get_same r regs zero free same = refl

@@ -4,6 +4,7 @@ use Rattle.std.specs.Prelude.{slice_get, nat_le, nat_lt, ◌&&◌, ◌||◌}
 use Rattle.std.specs.List.{list_all, list_any}
 use Rattle.std.proofs.lemmas.Bool.{and_from, and_parts, cases_Bool, cases_order, eqb-true, false_from_ne_true, false≢true, le-leb, leb-true, lt-ltb, ltb-true}
 use Rattle.std.proofs.lemmas.Option.{same_Some, slice_get_within}
+use Rattle.std.proofs.Math.Bool.{or-false}
 use Rattle.cfi_graph.specs.declared.line.GraphLine.{GraphLine}
 use Rattle.cfi_graph.specs.declared.line.GraphLine.TheVariants.{Calls, Leaf, Class, Site, Edge, Call}
 use Rattle.rv_image.specs.MemoryMap.{Profile}
@@ -20,10 +21,6 @@ use Rattle.cfi_starts.specs.Leaves.{ArePast, is_past, leaf_in}
 pub none_of : {A : Type 0} (f : A → Bool) (xs : List A) → ((i : ℕ) (x : A) → slice_get xs i ≡ Some x → f x ≡ false) → list_any f xs ≡ false
 none_of f [] none = refl
 none_of f (x ∷ xs) none = rw (none zero x refl) (none_of f xs (λ i y e. none (suc i) y e))
-
-or_nothing : (b : Bool) → (b || false) ≡ b
-or_nothing true = refl
-or_nothing false = refl
 
 abbrev leaf : ℕ → ℕ → kinds.Leaf
 leaf from to = record { from = from; to = to }
@@ -256,7 +253,7 @@ any_begun f a (l ∷ ls) (some, (later, rest)) begins =
     elim (cases_Bool (in_leaf a l)) [
       | inl inside ↦
           let high : a < l.to = ltb-true a l.to (and_parts (nat_le l.from a) _ inside).1 in
-          rw (inside, none_of f ls (λ i x e. false_from_ne_true (f x) (λ t. let at = begins x t in let no = later i x e in absurd (omega arith)))) (or_nothing (f l))
+          rw (inside, none_of f ls (λ i x e. false_from_ne_true (f x) (λ t. let at = begins x t in let no = later i x e in absurd (omega arith)))) (or-false (f l))
       | inr out ↦
           let no : f l ≡ false = false_from_ne_true (f l) (λ t.
           let at = begins l t in

@@ -1,5 +1,5 @@
 -- A stretch of steps of one hart, and the run that it is part of.
-use Rattle.std.proofs.Common.{◌≡◌, ◌≤◌, ◌<◌, ◌+◌, ◌*◌, ◌-◌, ◌++◌, ◌∷◌, [], ℕ, zero, suc, Bool, true, false, List, length, min, Option, Some, None, refl, sym, ◌∙◌, ap, subst, arith, append-nil}
+use Rattle.std.proofs.Common.{◌≡◌, ◌≤◌, ◌<◌, ◌+◌, ◌*◌, ◌-◌, ◌++◌, ◌∷◌, [], ℕ, zero, suc, Bool, true, false, List, length, min, Some, refl, sym, ◌∙◌, ap, subst, arith, append-nil}
 use Rattle.std.specs.Prelude.{is_some, slice_get}
 use Rattle.std.proofs.lemmas.List.{get_or-set_same, length-set}
 use Rattle.std.proofs.lemmas.Option.{slice_get-get_or}
@@ -57,11 +57,6 @@ quiet_so p words before noted m pc next turn selected machine made taken rest st
   resting = resting ∙ ap (λ (n : MachineParts). n.resting) machine;
   version = version ∙ ap (λ (n : MachineParts). n.processor.memory.version) machine;
 }
-
--- a run that has not ended
-pub none_of : (ended : Option ℕ) → is_some ended ≡ false → ended ≡ None
-none_of None fact = refl
-none_of (Some status) fact = absurd (cc)
 
 -- no end that may come is want of an instruction
 no_end : (place : Place) (pc : ℕ) (turn : Turn) → MayEnd place pc turn → IsNoFetch turn → ⊥

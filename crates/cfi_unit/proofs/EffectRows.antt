@@ -132,7 +132,7 @@ data_allowed (cs ∷ changes) all = (
 )
 
 -- each unit has a word
-one_word : (unit : U.Unit) → suc (word_count unit - 1) ≡ word_count unit
+pub one_word : (unit : U.Unit) → suc (word_count unit - 1) ≡ word_count unit
 one_word unit = let some = some_word unit in omega arith
 
 pub unit_effect : UnitEffect

@@ -2,15 +2,12 @@
 -- them. What holds of each of these flows holds of each unit.
 use Rattle.std.proofs.Common.{◌≡◌, ℕ, ◌==◌, ◌^◌, ◌<◌, Bool, true, false, List, refl, arith}
 use Rattle.std.specs.Prelude.{◌&&◌, IsTrue}
-use Rattle.rv_instr.specs.Registers.{Registers}
-use Rattle.cfi_unit.specs.declared.mask.Mask.TheVariants.{Shifts, Short, Long}
 use Rattle.cfi_unit.specs.declared.target_word.TargetWord.{TargetWord}
 use Rattle.cfi_unit.specs.declared.target_word.TargetWord.TheVariants.{First, Third}
 use Rattle.cfi_unit.specs.declared.unit.Unit as U
 use Rattle.cfi_unit.specs.declared.unit.Unit.TheVariants as V
 use Rattle.cfi_unit.specs.Flow as F
 use Rattle.cfi_unit.specs.Flow.{Act, Exit, Flow, Sites, Test, flow, flow_of}
-use Rattle.cfi_unit.specs.Templates.{Asks, is_full}
 use Rattle.cfi_unit.specs.UnitWords.{BAD_TARGET, Fits, is_plain, word_count}
 
 -- what stands behind no test goes to no computed destination or site, and halts at one handler alone
@@ -99,10 +96,3 @@ left_by_caller other = true
 abbrev pub by_caller : Flow → Bool
 by_caller f = saved_by_caller f.sites && left_by_caller f.exit
 
--- and they ask nothing of x1 and x4
-pub full_asks : (unit : U.Unit) (r : Registers) → is_full unit ≡ true → Asks unit r
-full_asks (V.Stores Shifts rs1 imm members) r full = tt
-full_asks (V.Stores Short rs1 imm members) r full = absurd (cc)
-full_asks (V.Stores Long rs1 imm members) r full = absurd (cc)
-full_asks V.Enter r full = absurd (cc)
-full_asks other r full = tt

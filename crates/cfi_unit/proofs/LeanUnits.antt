@@ -24,7 +24,7 @@ use Rattle.cfi_unit.proofs.Check.{AfterCheck, check_inside, check_done, check_ha
 use Rattle.cfi_unit.proofs.ComputedUnits.{arrives}
 
 -- eight bytes past x31 too
-arrives_beyond : {image : Memory} {which : TargetWord} {label : ℕ} (h : Hart) (v : ℕ) → h.regs 31 ≡ v → HasLabel image which label v →
+pub arrives_beyond : {image : Memory} {which : TargetWord} {label : ℕ} (h : Hart) (v : ℕ) → h.regs 31 ≡ v → HasLabel image which label v →
     address h 31 8 / 2 * 2 ≡ v + 8
 arrives_beyond h v is legal = let round = legal.round in let high = legal.high in omega arith
 

@@ -26,7 +26,7 @@ use Rattle.cfi_unit.proofs.EffectSteps.{IsHarmless, Now, before, same_again, sam
 use Rattle.cfi_unit.proofs.EffectTransfers.{call_does}
 use Rattle.cfi_unit.proofs.EffectRows.{done_within, unchanged_harmless, changed_harmless, data_allowed}
 
-same_trans : (r regs last : Registers) → SameRegisters r regs → SameRegisters regs last → SameRegisters r last
+pub same_trans : (r regs last : Registers) → SameRegisters r regs → SameRegisters regs last → SameRegisters r last
 same_trans r regs last one two = record { same = λ k free. two.same k free ∙ one.same k free }
 
 -- the registers where the opening's call begins: both stacks are set up, and what the call does not write

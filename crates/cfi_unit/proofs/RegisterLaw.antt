@@ -48,7 +48,7 @@ mask_results Shifts rs1 imm = refl
 mask_results Short rs1 imm = refl
 mask_results Long rs1 imm = refl
 
-mask_some : (mask : Mask) → 1 ≤ mask_words mask
+pub mask_some : (mask : Mask) → 1 ≤ mask_words mask
 mask_some Shifts = omega arith
 mask_some Short = omega arith
 mask_some Long = omega arith

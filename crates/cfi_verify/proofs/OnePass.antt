@@ -4,6 +4,7 @@ use Rattle.std.specs.Prelude.{slice_get, nat_lt, nat_le, is_some}
 use Rattle.std.specs.List.{list_all, list_any}
 use Rattle.std.proofs.lemmas.Bool.{and_left, and_parts, cases_Bool, cases_eq, cases_lt, cases_order, eqb-true, false≢true, le-ltb, leb-true, lt-leb, lt-ltb, ltb-true, ne_eqb, or_from}
 use Rattle.std.proofs.lemmas.Option.{same_Some, slice_get_within}
+use Rattle.std.proofs.Math.Bool.{and-true, and-false}
 use Rattle.rv_image.specs.declared.version.GraphVersion.{GraphVersion}
 use Rattle.rv_word.proofs.Cases.{cases_Option}
 use Rattle.rv_image.specs.MemoryMap.{CODE_START, Profile, START}
@@ -80,14 +81,6 @@ asks_nothing E.Break a quiet = record { edge = refl; call = refl; site = refl; g
 asks_nothing E.Stores a quiet = record { edge = refl; call = refl; site = refl; gate = refl }
 asks_nothing _ a quiet = absurd (false≢true quiet)
 
-never : (b : Bool) → (b && false) ≡ false
-never true = refl
-never false = refl
-
-alone : (b : Bool) → (b && true) ≡ b
-alone true = refl
-alone false = refl
-
 -- what a graph without leaves admits: a quiet unit, and no unit that is of the other kind of images
 quiet_free : (version : GraphVersion) (has_list : Bool) (e : Entry) → has_leaves version ≡ false → is_quiet e ≡ true → is_barred version has_list e ≡ false
 quiet_free version has_list E.Stores full quiet = rw full refl
@@ -103,7 +96,7 @@ busy_free : (version : GraphVersion) (has_list : Bool) (e : Entry) → has_leave
 busy_free version has_list e full free =
     elim (cases_Bool (is_quiet e)) [
       | inl quiet ↦ quiet_free version has_list e full quiet
-      | inr busy ↦ sym (alone (is_barred version has_list e)) ∙ ap (λ q. is_barred version has_list e && not q) (sym busy) ∙ free
+      | inr busy ↦ sym (and-true (is_barred version has_list e)) ∙ ap (λ q. is_barred version has_list e && not q) (sym busy) ∙ free
     ]
 
 no_enter_free : (version : GraphVersion) (has_list : Bool) (e : Entry) → has_leaves version ≡ false → is_barred version has_list e ≡ false → is_enter e ≡ false
@@ -237,7 +230,7 @@ module _ (p : Profile) (laid : LaidOut p) where
       let asks = asks_nothing (entry_at p t.entries a) a quiet in
       let call : call_at p t a ≡ None = rw (ne_eqb a START (λ e. omega arith)) asks.call in
       record {
-        unit = ap (λ q. is_barred_at p t graph a && not q) quiet ∙ never (is_barred_at p t graph a);
+        unit = ap (λ q. is_barred_at p t graph a && not q) quiet ∙ and-false (is_barred_at p t graph a);
         target = or_from _ _ (ap (misses_start p t) asks.edge) (ap (misses_start p t) call);
         unlisted =
             or_from _ _ (ap (λ o. holds_of o (λ target. not (is_edge_to (line_at graph.lines a) target))) asks.edge)
@@ -352,7 +345,7 @@ module _ (p : Profile) (laid : LaidOut p) where
     none = no_leaves graph.version graph.lines full g.sorts
 
     no_fresh : (a : ℕ) → fresh_at p t (leaves_in graph.lines) a ≡ false
-    no_fresh a = ap (λ ls. fresh_at p t ls a) none ∙ or_from _ _ (no_enter a) (ap (λ b. is_some (gate_at p t a) && b) (no_enter (a + 4)) ∙ never (is_some (gate_at p t a)))
+    no_fresh a = ap (λ ls. fresh_at p t ls a) none ∙ or_from _ _ (no_enter a) (ap (λ b. is_some (gate_at p t a) && b) (no_enter (a + 4)) ∙ and-false (is_some (gate_at p t a)))
 
     goes_right : (a : ℕ) → goes_wrong_at p t (leaves_in graph.lines) a ≡ false
     goes_right a =
@@ -369,7 +362,7 @@ module _ (p : Profile) (laid : LaidOut p) where
     go_is a x =
         ap (λ ls. may_go_at p t ls a x) none
         ∙ ap (λ f. starts_at p t x && not f) (ap (λ ls. fresh_at p t ls x) (sym none) ∙ no_fresh x)
-        ∙ alone (starts_at p t x)
+        ∙ and-true (starts_at p t x)
 
     call_is : (a x : ℕ) → may_call_at p p.callee_saves t (leaves_in graph.lines) a x ≡ starts_at p t x
     call_is a x = ap (λ b. may_call_at p b t (leaves_in graph.lines) a x) (saves ∙ full) ∙ go_is a x

@@ -4,6 +4,7 @@ use Rattle.std.specs.Prelude.{slice_get, nat_le, nat_lt, ◌&&◌, ◌||◌, not
 use Rattle.std.specs.List.{list_any}
 use Rattle.std.proofs.lemmas.Bool.{cases_Bool, cases_lt, cases_eq, le-leb, lt-leb, eqb-true, eq-eqb, ne_eqb, lt-ltb, ltb-true, and_parts, false_from_ne_true, false≢true}
 use Rattle.std.proofs.lemmas.List.{drop-drop}
+use Rattle.std.proofs.Math.Bool.{and-true, and_comm}
 use Rattle.rv_image.specs.declared.version.GraphVersion.{GraphVersion}
 use Rattle.rv_image.specs.declared.version.GraphVersion.TheVariants.{OneLabel, TwoLabels, CalleeSaves}
 use Rattle.rv_image.specs.MemoryMap.{CODE_START, Profile, lies_within, START}
@@ -82,10 +83,6 @@ site_is calls (V.Stores Short rs1 imm members) a = refl
 site_is calls (V.Stores Long rs1 imm members) a = refl
 site_is calls _ a = refl
 
-and_all : (b : Bool) → (b && true) ≡ b
-and_all true = refl
-and_all false = refl
-
 not_and : (a b : Bool) → not (a && b) ≡ (not a || not b)
 not_and true b = refl
 not_and false b = refl
@@ -149,7 +146,7 @@ plain_within false = refl
 
 stands_is : (calls : List ℕ) (l : Option kinds.Leaf) (u : U.Unit) (a : ℕ) → stands_by l u ≡ may_stand l (entry_of_unit calls u a)
 stands_is calls None (V.Plain instr) a = by_plain stands_outside true refl refl (writes_link instr)
-stands_is calls (Some l) (V.Plain instr) a = and_all (not (is_link (written instr))) ∙ ap not (links_same (written instr)) ∙ plain_within (writes_link instr)
+stands_is calls (Some l) (V.Plain instr) a = and-true (not (is_link (written instr))) ∙ ap not (links_same (written instr)) ∙ plain_within (writes_link instr)
 stands_is calls None (V.System S.Ecall) a = refl
 stands_is calls None (V.System S.Ebreak) a = refl
 stands_is calls None (V.Stores Shifts rs1 imm members) a = refl
@@ -224,12 +221,6 @@ same_test (Some x) f g same = same x
 
 or_same : {a b c d : Bool} → a ≡ b → c ≡ d → (a || c) ≡ (b || d)
 or_same {b = b} {c = c} e f = ap (λ x. x || c) e ∙ ap (λ x. b || x) f
-
-swap : (a b : Bool) → (a && b) ≡ (b && a)
-swap true true = refl
-swap true false = refl
-swap false true = refl
-swap false false = refl
 
 same_any : {A : Type 0} (f g : A → Bool) (xs : List A) → ((x : A) → f x ≡ g x) → list_any f xs ≡ list_any g xs
 same_any f g [] same = refl
@@ -688,7 +679,7 @@ module _ (p : Profile) (laid : LaidOut p) where
     fails_told R.Prologue graph same a = prologue_told a
     fails_told R.Unit graph same a =
         let left : length (unit_words p words) ≡ count_of p t = length-drop (prologue_count p) words ∙ ap (λ n. n - prologue_count p) (sym w.count) in
-        or_same (swap (a == p.units_from + 4 * length (unit_starts p words)) (nat_lt (length (unit_starts p words)) (length (unit_words p words)))
+        or_same (and_comm (a == p.units_from + 4 * length (unit_starts p words)) (nat_lt (length (unit_starts p words)) (length (unit_words p words)))
         ∙ ap (λ n. nat_lt n (length (unit_words p words)) && (a == p.units_from + 4 * n)) (marks_done words calls t.entries t.done t.last w.split)
         ∙ ap (λ n. nat_lt t.done n && (a == p.units_from + 4 * t.done)) left) (barred_told graph same a)
     fails_told R.Leaf graph same a = or_same (same_any _ _ graph.lines (end_told a)) (wrong_told (leaves_in graph.lines) a)

@@ -1,6 +1,7 @@
 -- Lists of addresses that are followed: what is left of them leads to where the whole leads.
-use Rattle.std.proofs.Common.{◌≡◌, ◌+◌, ℕ, ◌<◌, ◌≤◌, inl, inr, List, [], ◌∷◌, length, drop, get_or, add-one, drop-cons, refl, sym, ap, subst, ◌∙◌}
+use Rattle.std.proofs.Common.{◌≡◌, ◌+◌, ℕ, ◌<◌, ◌≤◌, inl, inr, List, [], ◌∷◌, length, drop, get_or, refl, sym, subst, ◌∙◌}
 use Rattle.std.proofs.lemmas.List.{drop_all}
+use Rattle.rv_word.proofs.Lists.{drop_step}
 use Rattle.rv_image.specs.Image.{Contents}
 use Rattle.rv_image.specs.MemoryMap.{IsProfile, Profile}
 use Rattle.cfi_graph.specs.Graph.{GraphParts}
@@ -16,10 +17,6 @@ use Rattle.cfi_walk.specs.Trail.{LeadTo, StopAt}
 use Rattle.cfi_walk.proofs.Sites.{sites_kept}
 use Rattle.cfi_walk.proofs.Unique.{one_step}
 
--- what stands at an index, and what stands after it
-next_of : (xs : List ℕ) (i : ℕ) → i < length xs → drop i xs ≡ get_or xs i 0 ∷ drop (i + 1) xs
-next_of xs i below = drop-cons xs i 0 below ∙ ap (λ k. get_or xs i 0 ∷ drop k xs) (sym (add-one i))
-
 module _ (p : Profile) (words : List ℕ) (lines : List GraphLine) where
   pub record Onward (start : WalkState) (whole : List ℕ) (walk : WalkState) (rest : List ℕ) : Type 0 where
     pub leads : (last : WalkState) → LeadTo p words lines walk rest last → LeadTo p words lines start whole last
@@ -31,7 +28,7 @@ module _ (p : Profile) (words : List ℕ) (lines : List GraphLine) where
   pub passes : (start : WalkState) (whole : List ℕ) (i : ℕ) (walk next : WalkState) → i < length whole →
       IsStep p words lines walk (get_or whole i 0) next → Onward start whole walk (drop i whole) → Onward start whole next (drop (i + 1) whole)
   passes start whole i walk next below step o =
-      let cut : drop i whole ≡ get_or whole i 0 ∷ drop (i + 1) whole = next_of whole i below in
+      let cut : drop i whole ≡ get_or whole i 0 ∷ drop (i + 1) whole = drop_step whole i below in
       record {
         leads = λ last l. o.leads last (subst (λ (vs : List ℕ). LeadTo p words lines walk vs last) (sym cut) (next, step, l));
         stops = λ last s. o.stops last (subst (λ (vs : List ℕ). StopAt p words lines walk vs last) (sym cut) (inr (next, step, s)));
@@ -45,7 +42,7 @@ module _ (p : Profile) (words : List ℕ) (lines : List GraphLine) where
       new ≡ walk → ((next : WalkState) → IsStep p words lines walk (get_or whole i 0) next → ⊥) → Onward start whole walk (drop i whole) →
       StopAt p words lines start whole new
   refused start whole i walk new below same never o =
-      let cut : drop i whole ≡ get_or whole i 0 ∷ drop (i + 1) whole = next_of whole i below in
+      let cut : drop i whole ≡ get_or whole i 0 ∷ drop (i + 1) whole = drop_step whole i below in
       o.stops new (subst (λ (vs : List ℕ). StopAt p words lines walk vs new) (sym cut) (inl (same, never)))
 
   -- what leads on are steps

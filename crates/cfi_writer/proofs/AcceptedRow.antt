@@ -1,6 +1,6 @@
 -- Worked programs that are accepted: one with a short branch, also as an image for several harts, one with a class and a site, and one with
 -- a leaf under a graph of version 3. So what holds of each accepted choice holds of their code.
-use Rattle.std.proofs.Common.{◌≡◌, ℕ, zero, suc, ◌+◌, ◌^◌, ◌<◌, ◌||◌, inl, inr, Bool, true, false, List, [], ◌∷◌, Some, length, refl, sym, ap, subst, ◌∙◌, lit<, lit≤, arith, Contains, All, get_or, not, ◌==◌, slice_get, eqb-true}
+use Rattle.std.proofs.Common.{◌≡◌, ℕ, zero, suc, ◌+◌, ◌^◌, ◌<◌, ◌||◌, inl, inr, Bool, true, false, List, [], ◌∷◌, Some, length, refl, sym, ap, subst, ◌∙◌, lit<, lit≤, arith, All, get_or, not, ◌==◌, slice_get, eqb-true}
 use Rattle.std.specs.Prelude.{is_some, nat_lt, slice_index_or}
 use Rattle.std.proofs.lemmas.Bool.{agree_below, agree_below_at, ltb-true}
 use Rattle.std.proofs.lemmas.Option.{same_Some}
@@ -13,8 +13,10 @@ use Rattle.obj_program.specs.Sound.{IsSound, aims, is_patch, is_read}
 use Rattle.cfi_class.specs.Classes.{IsIn}
 use Rattle.cfi_class.specs.Labels.{AreLabels}
 use Rattle.std.specs.List.Sorted.{IsStrictlyIncreasing}
+use Rattle.rv_word.proofs.Booleans.{implied}
 use Rattle.cfi_graph.specs.declared.line.SiteKind.{SiteKind}
 use Rattle.cfi_graph.specs.declared.line.Sort.TheVariants.{Both}
+use Rattle.cfi_class.proofs.Sets.{in_none}
 use Rattle.cfi_closed.specs.declared.side.Site.{Site}
 use Rattle.cfi_closed.specs.Closed.{Side, has_site, is_of}
 use Rattle.cfi_leads.specs.Leaves.{head, is_spoilt_by}
@@ -39,9 +41,6 @@ no_side = record { sort = Both; classes = []; sites = [] }
 -- what a test finds of each of so many places
 each : (n : ℕ) (test : ℕ → Bool) → agree_below test (λ k. true) n ≡ true → (k : ℕ) → k < n → test k ≡ true
 each n test all k below = agree_below_at test (λ i. true) n k all below
-
-none_in : (k : ℕ) → Contains [] k → ⊥
-none_in k (i, below, e) = absurd (omega arith)
 
 -- of one side there is no other
 only_side : (side : Side) (j : ℕ) (other : Side) → slice_get (side ∷ []) j ≡ Some other → (j ≡ 0) × (side ≡ other)
@@ -109,9 +108,9 @@ short_accepted = record {
       (each 4 (λ n. is_end (item_of short.layout.program n).kind || is_some (instr_at short.layout.program short.layout.gates (words_at short.layout) n)) refl k below) some;
   calls = refl;
   sorts = refl;
-  members = λ j c k side there in_class. absurd (none_in k (subst (λ (s : Side). IsIn s.classes c k) (sym (only_side no_side j side there).1) in_class));
+  members = λ j c k side there in_class. absurd (in_none k (subst (λ (s : Side). IsIn s.classes c k) (sym (only_side no_side j side there).1) in_class));
   rising = λ j side there. subst (λ (s : Side). All IsStrictlyIncreasing s.classes) (only_side no_side j side there).1 (λ k d below. absurd (omega arith));
-  apart = λ j a b k side there in_one in_other. absurd (none_in k (subst (λ (s : Side). IsIn s.classes a k) (sym (only_side no_side j side there).1) in_one));
+  apart = λ j a b k side there in_one in_other. absurd (in_none k (subst (λ (s : Side). IsIn s.classes a k) (sym (only_side no_side j side there).1) in_one));
   site_classes = λ j i c side site there.
       subst (λ (s : Side). slice_get s.sites i ≡ Some site → site.class ≡ Some c → c < length s.classes) (only_side no_side j side there).1 (λ get. absurd (cc));
   sites = λ k kind below site. absurd (none_some (is_some (site_kind (item_of short.layout.program k).kind))
@@ -175,7 +174,7 @@ member_below (suc (suc i)) k below e = absurd (omega arith)
 
 class_member : (c k : ℕ) → IsIn pointer_side.classes c k → (c ≡ 0) × (k < 13)
 class_member zero k (i, below, e) = (refl, member_below i k below e)
-class_member (suc c) k there = absurd (none_in k there)
+class_member (suc c) k there = absurd (in_none k there)
 
 class_rises : (k : ℕ) → k + 1 < 2 → get_or (8 ∷ 10 ∷ []) k 0 < get_or (8 ∷ 10 ∷ []) (k + 1) 0
 class_rises zero below = lit< tt
@@ -185,14 +184,10 @@ classes_rise : All IsStrictlyIncreasing pointer_side.classes
 classes_rise zero d below = class_rises
 classes_rise (suc k) d below = absurd (omega arith)
 
-or_else : (a b : Bool) → (not a || b) ≡ true → a ≡ true → b ≡ true
-or_else true b e f = e
-or_else false b e f = absurd (cc)
-
 site_there : (k : ℕ) → k < count pointer.layout.program → is_some (site_kind (item_of pointer.layout.program k).kind) ≡ true →
     has_site k pointer_side ≡ true
 site_there k below some =
-    let four : (k == 4) ≡ true = or_else (is_some (site_kind (item_of pointer.layout.program k).kind)) (k == 4)
+    let four : (k == 4) ≡ true = implied (is_some (site_kind (item_of pointer.layout.program k).kind)) (k == 4)
     (each 13 (λ n. not (is_some (site_kind (item_of pointer.layout.program n).kind)) || (n == 4)) refl k below) some in
     ap (λ (n : ℕ). has_site n pointer_side) (eqb-true k 4 four)
 
@@ -209,7 +204,7 @@ site_class (suc i) c site get some = absurd (cc)
 label_least : AreLabels (used_labels pointer.layout.program) pointer.labels
 label_least zero below = record {
   from_one = lit≤ tt;
-  free = λ taken. elim taken [ inl used ↦ none_in 1 used | inr earlier ↦ none_in 1 earlier ];
+  free = λ taken. elim taken [ inl used ↦ in_none 1 used | inr earlier ↦ in_none 1 earlier ];
   least = λ n low less. absurd (omega arith);
 }
 label_least (suc k) below = absurd (omega arith)
@@ -280,7 +275,7 @@ no_classes (suc zero) side there = let same = same_Some _ side there in (ap (λ 
 no_classes (suc (suc j)) side there = absurd (cc)
 
 none_of : (j c k : ℕ) (side : Side) → slice_get no_sides j ≡ Some side → IsIn side.classes c k → ⊥
-none_of j c k side there inside = none_in k (subst (λ (cs : List (List ℕ)). IsIn cs c k) (sym (no_classes j side there).0) inside)
+none_of j c k side there inside = in_none k (subst (λ (cs : List (List ℕ)). IsIn cs c k) (sym (no_classes j side there).0) inside)
 
 pub lean_accepted : IsAccepted calling_leaf
 unfolding AreGates decoded instr_at words_from units_of followers code_from words_of code_of labels_of label_at site_label site_number empty_classes tagged head is_spoilt_by

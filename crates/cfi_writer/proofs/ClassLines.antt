@@ -1,5 +1,5 @@
 -- The lines of classes: which stands at an index and under a label, and that they are a graph's.
-use Rattle.std.proofs.Common.{◌≡◌, ℕ, zero, suc, ◌<◌, ◌==◌, inl, inr, true, List, [], ◌∷◌, map, Option, Some, None, refl, sym, ap, ◌∙◌, arith, add-one}
+use Rattle.std.proofs.Common.{◌≡◌, ℕ, zero, suc, ◌<◌, ◌==◌, inl, inr, true, List, [], ◌∷◌, map, Option, Some, None, refl, sym, ap, ◌∙◌, arith}
 use Rattle.std.specs.Prelude.{Bool, if◌then◌else◌, nat_lt, option_and_then, slice_get, slice_index}
 use Rattle.std.specs.List.{list_all}
 use Rattle.std.specs.List.Sorted.{IsStrictlyIncreasing}
@@ -12,6 +12,7 @@ use Rattle.cfi_graph.specs.declared.line.SiteKind.{SiteKind}
 use Rattle.cfi_graph.specs.declared.line.Sort.{Sort}
 use Rattle.cfi_graph.specs.Graph.{ClassLine, class_in, fits_version, is_class, is_code_address, is_label, is_rising, is_sort_of, key_below, key_of, line_in_range, targets_rise}
 use Rattle.cfi_class.specs.Classes.{has}
+use Rattle.cfi_flow.proofs.Rising.{tail_rises}
 use Rattle.cfi_map.specs.GraphAtMap.{class_lines}
 use Rattle.cfi_map.specs.LabelOf.{Tagged}
 use Rattle.cfi_unit.specs.declared.target_word.TargetWord.{TargetWord}
@@ -152,11 +153,6 @@ lines_range len gates (l ∷ labels) (t ∷ ts) are inside =
         and_from (is_code_address len (slice_index gates x)) (list_all (is_code_address len) (map (slice_index gates) class))
         (each x (or_left (x == x) (has x class) (eq-eqb x x refl))) (members_in class (λ k there. each k (or_right (x == k) (has k class) there)))
 
-rises_tail : (x : ℕ) (xs : List ℕ) → IsStrictlyIncreasing (x ∷ xs) → IsStrictlyIncreasing xs
-rises_tail x xs rising k inside =
-    let step = rising (suc k) (omega arith) in
-    rw add-one (rw add-one at step)
-
 targets_rising : (gates : ℕ → ℕ) (n : ℕ) (class : List ℕ) → IsStrictlyIncreasing class → ((k : ℕ) → has k class ≡ true → k < n) → ((i j : ℕ) → i < j → j < n → gates i < gates j) →
     is_rising nat_lt (map gates class) ≡ true
 targets_rising gates n [] rising members rise = refl
@@ -164,7 +160,7 @@ targets_rising gates n (x ∷ []) rising members rise = refl
 targets_rising gates n (x ∷ y ∷ class) rising members rise =
     let next : has y (x ∷ y ∷ class) ≡ true = or_right (x == y) (has y (y ∷ class)) (or_left (y == y) (has y class) (eq-eqb y y refl)) in
     and_from (nat_lt (gates x) (gates y)) (is_rising nat_lt (map gates (y ∷ class))) (lt-ltb (gates x) (gates y) (rise x y (rising 0 (omega arith)) (members y next)))
-    (targets_rising gates n (y ∷ class) (rises_tail x (y ∷ class) rising) (λ k there. members k (or_right (x == k) (has k (y ∷ class)) there)) rise)
+    (targets_rising gates n (y ∷ class) (tail_rises x (y ∷ class) rising) (λ k there. members k (or_right (x == k) (has k (y ∷ class)) there)) rise)
 
 pub lines_targets : (gates labels : List ℕ) (n : ℕ) (ts : List Tagged) → ((j : ℕ) (t : Tagged) → slice_get ts j ≡ Some t → IsStrictlyIncreasing t.class) →
     ((j k : ℕ) (t : Tagged) → slice_get ts j ≡ Some t → has k t.class ≡ true → k < n) → ((i j : ℕ) → i < j → j < n → slice_index gates i < slice_index gates j) →
@@ -193,4 +189,4 @@ lines_order gates (l ∷ m ∷ labels) (t ∷ u ∷ ts) rising =
     and_from (key_below (key_of (Class t.sort l (map (slice_index gates) t.class))) (key_of (Class u.sort m (map (slice_index gates) u.class))))
     (is_rising key_below (map key_of (class_lines gates (m ∷ labels) (u ∷ ts))))
     (keys_rise t.sort u.sort l m (map (slice_index gates) t.class) (map (slice_index gates) u.class) (rising 0 (omega arith)))
-    (lines_order gates (m ∷ labels) (u ∷ ts) (rises_tail l (m ∷ labels) rising))
+    (lines_order gates (m ∷ labels) (u ∷ ts) (tail_rises l (m ∷ labels) rising))

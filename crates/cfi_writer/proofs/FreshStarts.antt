@@ -53,7 +53,7 @@ first_saves_none us word u (saves_site same behind words) = absurd (omega arith)
 gate_goes_on : (kind : ItemKind) → kind ≡ is.Gate → (is_store kind ≡ false) × (is_end kind ≡ false)
 gate_goes_on kind e = (ap is_store e, ap is_end e)
 
-arrives_by : (version : GraphVersion) (saves : Bool) (from at : ℕ) → has_leaves version ≡ true → saves ≡ false → arrival_by version saves from at ≡ at
+pub arrives_by : (version : GraphVersion) (saves : Bool) (from at : ℕ) → has_leaves version ≡ true → saves ≡ false → arrival_by version saves from at ≡ at
 arrives_by OneLabel saves from at lean none = absurd (cc)
 arrives_by TwoLabels saves from at lean none = absurd (cc)
 arrives_by CalleeSaves saves from at lean none = rw none refl

@@ -5,11 +5,11 @@ use Rattle.std.proofs.lemmas.Bool.{cases_Bool}
 use Rattle.std.proofs.lemmas.List.FromFn.{length-map-range_with_len, map-range_with_len_more}
 use Rattle.rv_image.specs.declared.version.GraphVersion.{GraphVersion}
 use Rattle.rv_image.specs.declared.version.GraphVersion.TheVariants.{OneLabel, TwoLabels, CalleeSaves}
-use Rattle.obj_input.specs.declared.item_kind.ItemKind.{ItemKind}
 use Rattle.obj_input.specs.declared.item_kind.ItemKind.TheVariants as is
-use Rattle.obj_program.specs.Program.{count, is_end, item_of}
+use Rattle.obj_program.specs.Program.{count, item_of}
 use Rattle.cfi_graph.specs.Graph.{has_leaves}
 use Rattle.cfi_map.specs.Groups.{is_short, is_store}
+use Rattle.cfi_map.proofs.LaterRuns.{store_no_end}
 use Rattle.cfi_unit.specs.declared.mask.Mask.TheVariants.{Short, Long}
 use Rattle.cfi_unit.specs.Members.{MOST_MEMBERS}
 use Rattle.cfi_unit.specs.declared.members.Member.{Member}
@@ -21,13 +21,9 @@ use Rattle.cfi_writer.specs.Units.{Choice, behind, group_at, instr_of, is_later_
 use Rattle.cfi_writer.proofs.Grouping.{later_below, none_later, one_later}
 use Rattle.cfi_writer.proofs.GroupUnit.{inside, masked, most_members}
 
-store_goes_on : (kind : ItemKind) → is_store kind ≡ true → is_end kind ≡ false
-store_goes_on is.Store store = refl
-store_goes_on other store = absurd (cc)
-
 -- a store's place has an instruction
 pub some_instr : (m : Choice) (k : ℕ) → is_store (item_of m.layout.program k).kind ≡ true → instr_if m k ≡ Some (instr_of m k)
-some_instr m k store = let on = store_goes_on (item_of m.layout.program k).kind store in rw on refl
+some_instr m k store = let on = store_no_end (item_of m.layout.program k).kind store in rw on refl
 
 -- the first place behind that is no later store ends the group
 pub none_left : (m : Choice) (k j : ℕ) → k + 1 ≤ j → later_from m (k + 1) ≡ (j - (k + 1)) + later_from m j → is_later_at m j ≡ false → j - k - 1 ≡ behind m k

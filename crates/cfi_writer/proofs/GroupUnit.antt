@@ -16,7 +16,7 @@ use Rattle.obj_input.specs.declared.item_kind.ItemKind.TheVariants as is
 use Rattle.obj_program.specs.declared.item.Patch.{Patch}
 use Rattle.obj_program.specs.declared.item.Patch.TheVariants as put
 use Rattle.obj_program.specs.AtMap.{instr_at, patched_instr}
-use Rattle.obj_program.specs.Program.{Program, count, is_end, item_of}
+use Rattle.obj_program.specs.Program.{Program, count, item_of}
 use Rattle.obj_program.specs.Sound.{is_own}
 use Rattle.cfi_graph.specs.Graph.{has_leaves}
 use Rattle.cfi_map.specs.GraphAtMap.{words_at}
@@ -24,6 +24,7 @@ use Rattle.cfi_map.specs.Groups.{Grouped, base, base_of, is_forward, is_short, i
 use Rattle.cfi_map.specs.Groups as groups
 use Rattle.cfi_map.specs.Placement.{whole_at}
 use Rattle.cfi_map.proofs.GroupFacts.{grouped}
+use Rattle.cfi_map.proofs.LaterRuns.{store_no_end}
 use Rattle.cfi_unit.specs.declared.mask.Mask.{Mask}
 use Rattle.cfi_unit.specs.declared.mask.Mask.TheVariants.{Shifts, Short, Long}
 use Rattle.cfi_unit.specs.Members.{IsMember, MOST_MEMBERS}
@@ -50,10 +51,6 @@ pub record IsStore (i : Instr) : Type 0 where
 store_is : (kind : ItemKind) (i : Instr) → is_store kind ≡ true → is_right kind i ≡ true → IsStore i
 store_is is.Store (I.Store op rs1 rs2 imm) store right = record { op = op; base = rs1; value = rs2; offset = imm; is = refl }
 store_is kind i store right = absurd (cc)
-
-store_goes_on : (kind : ItemKind) → is_store kind ≡ true → is_end kind ≡ false
-store_goes_on is.Store store = refl
-store_goes_on other store = absurd (cc)
 
 -- an instruction without a relocation is what its word says
 own_kept : (program : Program) (gates words : List ℕ) (k : ℕ) (patch : Patch) (o : Option Instr) (i : Instr) → is_own patch ≡ true →
@@ -85,7 +82,7 @@ each_member member k (suc n) each =
     )
 
 -- a short mask is one of version 3, for a first store with an offset of its own that is not negative
-short_by : (version : GraphVersion) (short : Bool) → mask_by version short ≡ Short → (has_leaves version ≡ true) × (short ≡ true)
+pub short_by : (version : GraphVersion) (short : Bool) → mask_by version short ≡ Short → (has_leaves version ≡ true) × (short ≡ true)
 short_by OneLabel short e = absurd (cc)
 short_by TwoLabels short e = absurd (cc)
 short_by CalleeSaves true e = (refl, refl)
@@ -126,7 +123,7 @@ module _ (m : Choice) (ok : IsAccepted m) where
       decoded (item_of m.layout.program k).word ≡ Some (instr_of m k)
   own_word k below store own =
       own_decoded m.layout.program m.layout.gates (words_at m.layout) k (instr_of m k) own
-      (instr_is m ok k below (store_goes_on (item_of m.layout.program k).kind store))
+      (instr_is m ok k below (store_no_end (item_of m.layout.program k).kind store))
 
   level_is : (i : Instr) → IsStore i → level_of (Some i) ≡ level (offset_of i)
   level_is (I.Store op rs1 rs2 imm) store = refl

@@ -21,10 +21,11 @@ use Rattle.cfi_map.specs.LabelOf.{Tagged, tagged}
 use Rattle.cfi_unit.specs.declared.target_word.TargetWord.{TargetWord}
 use Rattle.cfi_rules.specs.Lines.{class_with, if_serves, leaves_in, targets_for}
 use Rattle.cfi_rules.specs.Placed.{is_head}
+use Rattle.cfi_rules.proofs.PlacedLines.{leaves_before}
 use Rattle.cfi_writer.specs.Laws.{written_classes, written_heads}
 use Rattle.cfi_writer.specs.Units.{Choice}
 use Rattle.cfi_writer.proofs.ClassLines.{all_classes_lines}
-use Rattle.cfi_writer.proofs.LeafLines.{IsLeafPlace, behind_leaves_class, behind_leaves_with, leaf_at, leaf_lines_all, leaf_lines_are, leaf_lines_tell, leaf_places_by, leaves_before, leaves_of, leaves_tell}
+use Rattle.cfi_writer.proofs.LeafLines.{IsLeafPlace, behind_leaves_class, behind_leaves_with, leaf_at, leaf_lines_all, leaf_lines_are, leaf_lines_tell, leaf_places_by, leaves_of, leaves_tell}
 
 -- the lines of leaves, and those of classes behind them
 abbrev written_leaves : Choice → List GraphLine

@@ -1,7 +1,7 @@
 -- The instruction of a place at a map has its fields in range, and writes the register that its word names; `lui x0` has the number that
 -- its word has.
-use Rattle.std.proofs.Common.{◌≡◌, ℕ, ◌/◌, ◌^◌, ◌<◌, inl, inr, true, List, Some, None, refl, sym, ap, subst, ◌∙◌, lit<, arith, rules, unwrap_or}
-use Rattle.std.specs.Prelude.{ℤ, pos, negsuc, ◌&&◌, not}
+use Rattle.std.proofs.Common.{◌≡◌, ℕ, ◌/◌, ◌^◌, ◌<◌, inl, inr, true, List, Some, None, refl, sym, ap, subst, ◌∙◌, lit<, arith, unwrap_or}
+use Rattle.std.specs.Prelude.{ℤ, ◌&&◌, not}
 use Rattle.std.proofs.lemmas.Bool.{and_parts}
 use Rattle.std.proofs.lemmas.Option.{cond_some, same_Some}
 use Rattle.rv_word.proofs.Cases.{cases_Option, mapped}
@@ -16,6 +16,7 @@ use Rattle.rv_instr.specs.declared.instr.UpperOp.TheVariants.{Lui, Auipc}
 use Rattle.rv_code.specs.Decode.{decoded}
 use Rattle.rv_code.specs.Encode.{code_of}
 use Rattle.rv_code.proofs.Inverse.{code_of-decoded, decoded-in_range}
+use Rattle.rv_reloc.proofs.Pair.{below}
 use Rattle.obj_input.specs.declared.item_kind.ItemKind.TheVariants as is
 use Rattle.obj_program.specs.AtMap.{distance, distance_to, high_part, instr_at, low_part, patched_instr, value_at, with_lower, with_upper}
 use Rattle.obj_program.specs.Program.{Program, item_of}
@@ -23,10 +24,6 @@ use Rattle.obj_program.specs.Sound.{is_of}
 use Rattle.obj_program.specs.Suits.{names_reserved, stands_on, suits}
 use Rattle.obj_program.specs.declared.item.Patch.{Patch}
 use Rattle.obj_program.specs.declared.item.Patch.TheVariants as put
-
-low_below : (len : ℕ) (z : ℤ) → 0 < 2 ^ len → low_bits len z < 2 ^ len
-low_below len (pos n) some = search rules
-low_below len (negsuc n) some = omega arith
 
 upper_range : (i : Instr) (field : ℕ) → field < 2 ^ 20 → IsInstr i → IsInstr (with_upper i field)
 upper_range (Upper op rd imm) field small range = (range.0, small)
@@ -42,10 +39,10 @@ lower_range other field small range = range
 high_range : (i j : Instr) (value : ℤ) → IsInstr i → high_part i value ≡ Some j → IsInstr j
 high_range i j value range gives =
     let g = cond_some (is_high_in_range value) (with_upper i (low_bits 20 (hi20 value))) j gives in
-    subst IsInstr g.1 (upper_range i (low_bits 20 (hi20 value)) (low_below 20 (hi20 value) (lit< tt)) range)
+    subst IsInstr g.1 (upper_range i (low_bits 20 (hi20 value)) (below 20 (hi20 value) (lit< tt)) range)
 
 low_range : (i j : Instr) (value : ℤ) → IsInstr i → low_part i value ≡ j → IsInstr j
-low_range i j value range gives = subst IsInstr gives (lower_range i (low_bits 12 (lo12 value)) (low_below 12 (lo12 value) (lit< tt)) range)
+low_range i j value range gives = subst IsInstr gives (lower_range i (low_bits 12 (lo12 value)) (below 12 (lo12 value) (lit< tt)) range)
 
 patched_range : (program : Program) (gates words : List ℕ) (k : ℕ) (i j : Instr) (patch : Patch) → IsInstr i → patched_instr program gates words k i patch ≡ Some j → IsInstr j
 patched_range program gates words k i j put.Own range gives = subst IsInstr (same_Some i j gives) range

@@ -1,14 +1,15 @@
 -- Members of classes and the labels of these: the class that has a place, and the number of a site's class.
-use Rattle.std.proofs.Common.{◌≡◌, ℕ, zero, suc, ◌+◌, ◌/◌, ◌^◌, ◌≤◌, ◌<◌, ◌==◌, inl, inr, true, List, [], ◌∷◌, length, map, Option, Some, None, refl, ap, ◌∙◌, arith, add-one, Contains, filter}
+use Rattle.std.proofs.Common.{◌≡◌, ℕ, zero, suc, ◌+◌, ◌/◌, ◌^◌, ◌≤◌, ◌<◌, ◌==◌, inl, inr, true, List, [], ◌∷◌, length, map, Option, Some, None, refl, ap, ◌∙◌, arith, Contains, filter}
 use Rattle.std.specs.Prelude.{slice_get, slice_index}
 use Rattle.std.specs.List.Sorted.{IsStrictlyIncreasing}
-use Rattle.std.proofs.lemmas.Bool.{cases_Bool, cases_lt, cases_order, eq-eqb, eqb-true, or_cases}
+use Rattle.std.proofs.lemmas.Bool.{cases_Bool, cases_order, eq-eqb, eqb-true, or_cases}
 use Rattle.std.proofs.lemmas.Option.{get_or_from_slice_get, same_Some, slice_get_within}
 use Rattle.obj_program.specs.declared.item.Item.{Item}
 use Rattle.cfi_class.specs.Classes.{has}
 use Rattle.cfi_closed.specs.declared.side.Site.{Site}
 use Rattle.cfi_flow.specs.Labels.{is_gate}
 use Rattle.cfi_map.specs.LabelOf.{empty_classes, label_at, next_after, number, site_number, with_empty}
+use Rattle.cfi_map.proofs.ByGate.{rises}
 
 -- a class has what its list contains
 pub has_in : (class : List ℕ) (k : ℕ) → has k class ≡ true → Contains class k
@@ -91,16 +92,6 @@ site_below (s ∷ sites) next k classes low inside (suc i) site get at =
           (site_below sites (next_after s.class next) k classes (omega arith) (λ j c one there. inside (suc j) c one there) i site get at))
     ]
 
--- of rising numbers each is below all later ones
-pub rising_pair : (xs : List ℕ) → IsStrictlyIncreasing xs → (i j : ℕ) → i < j → j < length xs → slice_index xs i < slice_index xs j
-rising_pair xs rising i zero less below = absurd (omega arith)
-rising_pair xs rising i (suc j) less below =
-    let step : slice_index xs j < slice_index xs (suc j) = rw add-one at (rising j (omega arith)) in
-    elim (cases_lt i j) [
-      | inl earlier ↦ let before = rising_pair xs rising i j earlier (omega arith) in omega arith
-      | inr last ↦ let same : i ≡ j = omega arith in rw same step
-    ]
-
 -- so no label is given twice
 pub label_once : (labels : List ℕ) → IsStrictlyIncreasing labels → (i j label : ℕ) → slice_get labels i ≡ Some label → slice_get labels j ≡ Some label → i ≡ j
 label_once labels rising i j label first second =
@@ -111,8 +102,8 @@ label_once labels rising i j label first second =
     elim (cases_order i j) [
       | inl same ↦ same
       | inr other ↦ elim other [
-        | inl before ↦ let less = rising_pair labels rising i j before below_j in absurd (omega arith)
-        | inr behind ↦ let less = rising_pair labels rising j i behind below_i in absurd (omega arith)
+        | inl before ↦ let less = rises labels rising i j before below_j in absurd (omega arith)
+        | inr behind ↦ let less = rises labels rising j i behind below_i in absurd (omega arith)
       ]
     ]
 

@@ -17,8 +17,9 @@ use Rattle.cfi_writer.specs.Units.{Choice, lead, lead_unit}
 use Rattle.cfi_writer.proofs.FreshStarts.{fresh_if, stands, word_fresh, word_there}
 use Rattle.cfi_writer.proofs.LeafLines.{leaves_of}
 use Rattle.cfi_writer.proofs.LeafStarts.{no_leaf_at}
-use Rattle.cfi_writer.proofs.LeanWords.{IsLeanWord, before_enter, before_jump, before_unit, jumps_over, lead_word_count, saves_site, within_words}
+use Rattle.cfi_writer.proofs.LeanWords.{IsLeanWord, before_enter, before_jump, before_unit, jumps_over, saves_site, within_words}
 use Rattle.cfi_writer.proofs.Standing.{lead_there, led_first, no_lead_in_leaf, word_is}
+use Rattle.cfi_writer.proofs.LeadWords.{lead_word_count}
 
 -- outside of leaves
 module _ (unit_at : ℕ → Option U.Unit) (leaves : List Leaf) (a : ℕ) (outside : leaf_of leaves a ≡ None) where

@@ -120,7 +120,7 @@ from_lead m k j u get =
     (labels_of m.labels m.layout.closed.sides k) j u
     (λ i label none get. true≢false (sym (label_targets m.labels m.layout.closed.sides k i label get) ∙ none)) get
 
-lead_word_count : (o : Option ℕ) → word_count (lead_unit o) ≡ 1
+pub lead_word_count : (o : Option ℕ) → word_count (lead_unit o) ≡ 1
 lead_word_count None = refl
 lead_word_count (Some label) = refl
 

@@ -36,6 +36,7 @@ use Rattle.cfi_rules.proofs.Ahead.{IsShortSkip, all_ahead, all_fit, is_jump_unit
 use Rattle.cfi_writer.specs.Accepted.{IsAccepted}
 use Rattle.cfi_map.specs.Groups.{is_direct_target, is_store}
 use Rattle.cfi_map.specs.Shorts.{is_branch, is_kept, is_skipped}
+use Rattle.cfi_map.proofs.Placements.{no_store}
 use Rattle.cfi_writer.specs.Units.{Choice, Group, bounds_at, call_unit, group_at, instr_of, is_later_at, lead_unit, lean_unit_of, unit_by, unit_here, unit_of, units}
 use Rattle.cfi_writer.proofs.Grouping.{entered_first, first_after, other_first}
 use Rattle.cfi_writer.proofs.GroupUnit.{fits_mask}
@@ -64,10 +65,6 @@ branch_calls_none other e = absurd (cc)
 branch_goes_on : (kind : ItemKind) → is_branch kind ≡ true → is_end kind ≡ true → ⊥
 branch_goes_on is.Branch e last = absurd (cc)
 branch_goes_on other e last = absurd (cc)
-
-branch_stores_none : (kind : ItemKind) → is_branch kind ≡ true → is_store kind ≡ false
-branch_stores_none is.Branch e = refl
-branch_stores_none other e = absurd (cc)
 
 skipped_stores_none : (kind : ItemKind) → is_skipped kind 0 ≡ true → is_store kind ≡ false
 skipped_stores_none is.Jump e = refl
@@ -382,7 +379,7 @@ module _ (m : Choice) (ok : IsAccepted m) where
       let s =
       skip_kind m.layout.closed.version m.layout.closed.calls (in_leaf (entered_in m.layout) k) (item_of m.layout.program k).kind (instr_of m k)
       (whole_at m.whole k) _ _ (group_at m k) (word m.layout k) (right m ok k below) skip in
-      let other = branch_stores_none (item_of m.layout.program k).kind s.0 in
+      let other = no_store (item_of m.layout.program k).kind s.0 in
       let (t, some, there) = direct k below (branch_leads (item_of m.layout.program k).kind s.0) in
       let short = ok.shorts k t below s.0 s.1 some in
       let back = short.back in

@@ -182,9 +182,3 @@ leaf_lines_tell layout OneLabel = refl
 leaf_lines_tell layout TwoLabels = refl
 leaf_lines_tell layout CalleeSaves = tells_from layout 0 (count layout.program)
 
--- and lines behind them that tell none change nothing
-pub leaves_before : (leaves lines : List GraphLine) → leaves_in lines ≡ [] → leaves_in (leaves ++ lines) ≡ leaves_in leaves
-unfolding leaves_in
-leaves_before [] lines none = none
-leaves_before (line.Leaf from to ∷ leaves) lines none = ap (λ (ls : List Leaf). record { from = from; to = to } ∷ ls) (leaves_before leaves lines none)
-leaves_before (other ∷ leaves) lines none = leaves_before leaves lines none

@@ -6,10 +6,9 @@ use Rattle.std.proofs.lemmas.Bool.{true≢false}
 use Rattle.std.proofs.lemmas.Option.{same_Some}
 use Rattle.cfi_unit.specs.declared.unit.Unit as U
 use Rattle.cfi_unit.specs.declared.unit.Unit.TheVariants as V
-use Rattle.cfi_unit.specs.UnitWords.{word_count}
 use Rattle.cfi_unit.proofs.Counts.{some_word}
 use Rattle.cfi_writer.specs.Units.{lead_of_entry, lead_unit}
-use Rattle.cfi_writer.proofs.LeadWords.{words_in}
+use Rattle.cfi_writer.proofs.LeadWords.{words_in, lead_word_count}
 
 -- a unit stands within the words of all
 pub within_words : (us : List U.Unit) (j : ℕ) (u : U.Unit) → slice_get us j ≡ Some u → j < words_in us
@@ -27,10 +26,6 @@ pub data IsLeanWord (us : List U.Unit) (word j : ℕ) (u : U.Unit) : Type 0 wher
   jumps_over : u ≡ V.Jump word → IsLeanWord us word j u
   before_enter : (label : ℕ) → u ≡ V.Gate label → 1 ≤ j → slice_get us (j + 1) ≡ Some V.Enter → IsLeanWord us word j u
   saves_site : u ≡ V.Enter → 1 ≤ j → words_in us ≡ j + 5 → IsLeanWord us word j u
-
-pub lead_word_count : (o : Option ℕ) → word_count (lead_unit o) ≡ 1
-lead_word_count None = refl
-lead_word_count (Some label) = refl
 
 -- so many words are each of them and those behind it
 words_behind : (o : Option ℕ) (us : List U.Unit) (n : ℕ) → words_in us ≡ n → words_in (lead_unit o ∷ us) ≡ 1 + n

@@ -1,8 +1,8 @@
 -- Pieces of code, of a program whose last place is a section's end: a leaf has just the places from its first one up to where the next piece
 -- begins. What its places are, and which branches and jumps lead into it.
-use Rattle.std.proofs.Common.{◌≡◌, ◌⊎◌, ℕ, zero, suc, ◌+◌, ◌-◌, ◌<◌, ◌≤◌, ◌==◌, inl, inr, Bool, true, false, Some, refl, sym, ap, subst, ◌∙◌, arith}
+use Rattle.std.proofs.Common.{◌≡◌, ◌⊎◌, ℕ, zero, suc, ◌+◌, ◌-◌, ◌<◌, ◌≤◌, ◌==◌, inl, inr, Bool, true, false, Some, sym, ap, subst, ◌∙◌, arith}
 use Rattle.std.specs.Prelude.{◌&&◌, ◌||◌, not}
-use Rattle.std.proofs.lemmas.Bool.{and_from, cases_Bool, cases_eq, cases_lt, cond-false, eq-eqb, false_from_ne_true, or_parts, true≢false}
+use Rattle.std.proofs.lemmas.Bool.{and_from, cases_Bool, cases_eq, cases_lt, cond-false, eq-eqb, false_from_ne_true, or_parts, true≢false, not-false}
 use Rattle.obj_program.specs.MapFit.{EndsLast}
 use Rattle.obj_program.specs.Program.{count, item_of}
 use Rattle.cfi_leads.specs.Entered.{Entered}
@@ -10,17 +10,13 @@ use Rattle.cfi_leads.specs.Leaves.{begins, crosses_to, edge_target, ends_before,
 use Rattle.cfi_leads.proofs.Ends.{entry_begins, leaf_end_before, leaf_parts, next_before, next_from, next_here, next_last, next_on}
 use Rattle.cfi_leads.proofs.Tables.{head_before, head_of_first}
 
-not_false : (b : Bool) → not b ≡ false → b ≡ true
-not_false true e = refl
-not_false false e = absurd (cc)
-
 together : (here there : Bool) → parts_them here there ≡ false → here ≡ there
-together true there e = sym (not_false there e)
+together true there e = sym (not-false there e)
 together false there e = sym e
 
 -- what is not so where another thing is
 never : (b c : Bool) → (b && not c) ≡ false → b ≡ true → c ≡ true
-never true c none is = not_false c none
+never true c none is = not-false c none
 never false c none is = absurd (cc)
 
 module _ (of : Entered) where
@@ -96,7 +92,7 @@ module _ (of : Entered) where
 
     pub stands_there : (k : ℕ) → k < count of.program → head of k ≡ e → stands_in_leaf (item_of of.program k) ≡ true
     stands_there k below here =
-        not_false (stands_in_leaf (item_of of.program k)) (or_parts (not (stands_in_leaf (item_of of.program k))) _ (inside_parts k below here)).0
+        not-false (stands_in_leaf (item_of of.program k)) (or_parts (not (stands_in_leaf (item_of of.program k))) _ (inside_parts k below here)).0
 
     -- the last one does not go on
     pub last_there : (k : ℕ) → k < count of.program → head of k ≡ e → begins of (k + 1) ≡ true → ends_leaf (item_of of.program k).kind ≡ true

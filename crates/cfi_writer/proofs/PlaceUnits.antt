@@ -37,12 +37,12 @@ full_mask m k full = by_version m.layout.closed.version (is_short (item_of m.lay
     by_version CalleeSaves short full = absurd (cc)
 
 -- and a direct transfer leads to a gate
-full_arrival : (version : GraphVersion) (saves : Bool) (at behind : ℕ) → has_leaves version ≡ false → arrival_by version saves at behind ≡ at
+pub full_arrival : (version : GraphVersion) (saves : Bool) (at behind : ℕ) → has_leaves version ≡ false → arrival_by version saves at behind ≡ at
 full_arrival OneLabel saves at behind full = refl
 full_arrival TwoLabels saves at behind full = refl
 full_arrival CalleeSaves saves at behind full = absurd (cc)
 
-full_arrival_to : (layout : ProgramAtMap) (target : Option ℕ) → has_leaves layout.closed.version ≡ false → arrival_to layout target ≡ gate_to layout target
+pub full_arrival_to : (layout : ProgramAtMap) (target : Option ℕ) → has_leaves layout.closed.version ≡ false → arrival_to layout target ≡ gate_to layout target
 full_arrival_to layout None full = refl
 full_arrival_to layout (Some t) full = full_arrival layout.closed.version (enters (entered_in layout) t) (gate layout t) (word layout t) full
 
@@ -117,11 +117,6 @@ lean_by : (version : GraphVersion) (calls : Option (List ℕ)) (inside : Bool) (
 lean_by OneLabel calls inside kind i whole target label group lean = absurd (cc)
 lean_by TwoLabels calls inside kind i whole target label group lean = absurd (cc)
 lean_by CalleeSaves calls inside kind i whole target label group lean = refl
-
-pub is_callee_saves : (version : GraphVersion) → has_leaves version ≡ true → version ≡ CalleeSaves
-is_callee_saves OneLabel lean = absurd (cc)
-is_callee_saves TwoLabels lean = absurd (cc)
-is_callee_saves CalleeSaves lean = refl
 
 -- where callees save the sites of calls, units of these kinds are others; those of the other kinds are the same
 abbrev pub is_lean_kind : ItemKind → Bool

@@ -19,6 +19,7 @@ use Rattle.cfi_closed.specs.Closed.{Side, has_site, is_of, is_target_of, sorts_o
 use Rattle.cfi_map.specs.GraphAtMap.{class_lines}
 use Rattle.cfi_map.specs.LabelOf.{Tagged, all_classes, class_count, empty_classes, label_at, labels_of, site_label, site_number, tag, tagged, with_empty}
 use Rattle.cfi_unit.specs.UnitWords.{past}
+use Rattle.cfi_unit.proofs.Context.{slice_get-front}
 use Rattle.cfi_rules.specs.Lines.{call_word, is_among, jump_word, read_of, serves, targets_for}
 use Rattle.cfi_writer.specs.Chosen.{labels_before}
 use Rattle.cfi_writer.specs.SideLaws.{GatesListed, SitesServed, TargetsBear, word_asked, word_of_side}
@@ -35,11 +36,6 @@ split_get (x ∷ xs) ys (suc n) y e =
       | inl first ↦ inl first
       | inr (m, at, get) ↦ inr (m, omega arith, get)
     ]
-
-in_more : {A : Type 0} (xs more : List A) (j : ℕ) (x : A) → slice_get xs j ≡ Some x → slice_get (xs ++ more) j ≡ Some x
-in_more [] more j x get = absurd (cc)
-in_more (y ∷ xs) more zero x get = get
-in_more (y ∷ xs) more (suc j) x get = in_more xs more j x get
 
 get_back : {A : Type 0} (xs ys : List A) (m n : ℕ) → n ≡ length xs + m → slice_get (xs ++ ys) n ≡ slice_get ys m
 get_back [] ys m n e = let same : n ≡ m = omega arith in ap (slice_get ys) same
@@ -159,7 +155,7 @@ to_tagged (s ∷ sides) zero i side class there get =
     slice_get-map (tag s.sort) (all_classes s) i ∙ ap (option_map (tag s.sort)) here in
     let at : 0 + i ≡ i = omega arith in
     ap (slice_get (map (tag s.sort) (all_classes s) ++ tagged sides)) at
-    ∙ in_more (map (tag s.sort) (all_classes s)) (tagged sides) i (tag s.sort class) first ∙ ap (λ (x : Side). Some (tag x.sort class)) same
+    ∙ slice_get-front (map (tag s.sort) (all_classes s)) (tagged sides) i (tag s.sort class) first ∙ ap (λ (x : Side). Some (tag x.sort class)) same
 to_tagged (s ∷ sides) (suc j) i side class there get =
     let many = length-map (all_classes s) (tag s.sort) in
     get_back (map (tag s.sort) (all_classes s)) (tagged sides) (labels_before sides j + i) (class_count s + labels_before sides j + i) (omega arith)
@@ -288,7 +284,7 @@ gates_listed version gates labels sides are k j label c e asked =
     let (n, t, given, class_is, line_is) = targets_of gates labels (tagged sides) label c asked in
     let same : before + of.index ≡ n = label_once labels are.rising (before + of.index) n label label_is given in
     let tag_is : slice_get (tagged sides) (before + of.index) ≡ Some (tag side.sort of.class) =
-    to_tagged sides j of.index side of.class there (in_more side.classes (empty_classes side.sites) of.index of.class of.class_is) in
+    to_tagged sides j of.index side of.class there (slice_get-front side.classes (empty_classes side.sites) of.index of.class of.class_is) in
     let one : tag side.sort of.class ≡ t = same_Some (tag side.sort of.class) t (sym tag_is ∙ ap (slice_get (tagged sides)) same ∙ class_is) in
     let line : class_line gates label (tag side.sort of.class) ≡ c = ap (class_line gates label) one ∙ line_is in (
       sym (ap (λ (x : ClassLine). past (read_of version x.sort)) line) ∙ sort_at version sides are.sorts j side there,

@@ -2,13 +2,13 @@
 use Rattle.std.proofs.Common.{◌≡◌, ℕ, zero, suc, ◌+◌, ◌<◌, ◌≤◌, Bool, false, Option, Some, None, List, [], ◌∷◌, refl, inl, inr, length, length-append, drop, arith, ap, ◌∙◌, sym, subst, ◌-◌, true}
 use Rattle.std.specs.List.{All, list_any}
 use Rattle.std.specs.Prelude.{◌==◌, if◌then◌else◌, slice_get, slice_index, unwrap_or, is_some}
-use Rattle.std.proofs.Math.ListN.{drop_of_length-le, length-replicate, replicate}
+use Rattle.std.proofs.Math.ListN.{drop_of_length-le, replicate}
 use Rattle.std.proofs.lemmas.Option.{get_or_from_slice_get, slice_get_within}
 use Rattle.std.proofs.Math.ListN.{set}
 use Rattle.std.proofs.Math.Seq.{drop-cons}
 use Rattle.std.proofs.lemmas.Bool.{cases_eq, eq-eqb, ne_eqb}
-use Rattle.std.proofs.lemmas.List.{get_or-replicate, get_or-set_same, get_or-set_other, get_or_past}
-use Rattle.std.proofs.lemmas.Bool.{cases_lt}
+use Rattle.std.proofs.lemmas.List.{get_or-set_same, get_or-set_other}
+use Rattle.rv_instr.proofs.RegisterFile.{index-zeros}
 use Rattle.cfi_closed.specs.declared.side.Site.{Site}
 use Rattle.cfi_closed.specs.Closed.{Side, has_site}
 use Rattle.cfi_map.specs.LabelOf.{class_count, site_label, empty_classes, number, next_after, site_number, with_empty}
@@ -57,12 +57,6 @@ empties_drop [] (suc i) = omega arith
 empties_drop (site ∷ sites) zero = omega arith
 empties_drop (site ∷ sites) (suc i) =
     let rest = empties_drop sites i in let less = empties_less site.class (empty_classes sites) in omega arith
-
-zero_at : (places k : ℕ) → slice_index (replicate places 0) k ≡ 0
-zero_at places k = elim (cases_lt k places) [
-  | inl less ↦ get_or-replicate places k 0 0 less
-  | inr past ↦ get_or_past (replicate places 0) k 0 (omega (arith, length-replicate {A = ℕ} places 0))
-]
 
 pub started : (labels table : List ℕ) (sites : List Site) (n most : ℕ) → n ≡ length sites → IsNumbered labels (drop n sites) most most table table
 started labels table sites n most all =
@@ -128,7 +122,7 @@ pub sides_begin : (labels table : List ℕ) (sides : List Side) (n places : ℕ)
 unfolding site_label
 sides_begin labels table sides n places all zeros k =
     let none : drop n sides ≡ [] = drop_of_length-le sides (omega arith) in
-    ap (λ (t : List ℕ). slice_index t k) zeros ∙ zero_at places k
+    ap (λ (t : List ℕ). slice_index t k) zeros ∙ index-zeros places k
     ∙ sym (ap (λ (ss : List Side). site_label (drop (labels_before sides n) labels) ss k) none)
 
 last_side : (sides : List Side) (i : ℕ) (side : Side) → slice_get sides (i - 1) ≡ Some side → 0 < i → drop (i - 1) sides ≡ side ∷ drop i sides

@@ -65,7 +65,7 @@ pub record Behind (m : Choice) (k : ℕ) : Type 0 where
   pub is_first : is_later_at m first ≡ false
 
 -- calls arrive before the unit at what saves their sites
-arrival_saves : (version : GraphVersion) (from at : ℕ) (saves : Bool) → has_leaves version ≡ true → saves ≡ true → arrival_by version saves from at ≡ at - 20
+pub arrival_saves : (version : GraphVersion) (from at : ℕ) (saves : Bool) → has_leaves version ≡ true → saves ≡ true → arrival_by version saves from at ≡ at - 20
 arrival_saves OneLabel from at saves leaves is = absurd (cc)
 arrival_saves TwoLabels from at saves leaves is = absurd (cc)
 arrival_saves CalleeSaves from at saves leaves is = rw is refl

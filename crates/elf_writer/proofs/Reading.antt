@@ -1,6 +1,6 @@
 -- What a reader of objects finds at each index of the file of right parts: sections, tables, and what is looked up of them.
 use Rattle.std.proofs.Common.{◌≡◌, ◌==◌, ◌&&◌, ℕ, zero, suc, ◌+◌, ◌<◌, ◌≤◌, Bool, true, false, not, Some, None, List, length, get_or, refl, sym, ap, ◌∙◌, arith}
-use Rattle.std.proofs.lemmas.Bool.{and_parts, eq-eqb, eqb-true, false_from_ne_true}
+use Rattle.std.proofs.lemmas.Bool.{and_parts, eq-eqb, eqb-true, false_from_ne_true, not-true}
 use Rattle.elf_tables.specs.declared.header.SectionHeader.{SectionHeader}
 use Rattle.elf_tables.specs.Header.{e_shnum}
 use Rattle.elf_tables.specs.Section.{section_bytes, section_header}
@@ -20,10 +20,6 @@ use Rattle.elf_writer.proofs.Back.{no_entry}
 use Rattle.elf_writer.proofs.Found.{Found, count_is, first_is, found}
 use Rattle.elf_writer.proofs.Indexes.{all_of, are_clean, are_entries, are_whole, at_names, at_own, at_section, at_symbols, at_table, by_index, length-all, length-parts, own_of}
 
-untrue : (b : Bool) → not b ≡ true → b ≡ false
-untrue true e = absurd (cc)
-untrue false e = refl
-
 -- a type that is left to sections is none of the writer's own
 pub record IsContentKind (kind : ℕ) : Type 0 where
   pub no_symbols : (kind == 2) ≡ false
@@ -36,7 +32,7 @@ content_kind kind e =
     let c = and_parts (not (kind == 2) && not (kind == 4) && not (kind == 9)) (not (kind == 17)) e in
     let b = and_parts (not (kind == 2) && not (kind == 4)) (not (kind == 9)) c.0 in
     let a = and_parts (not (kind == 2)) (not (kind == 4)) b.0 in
-    record { no_symbols = untrue _ a.0; no_rela = untrue _ a.1; no_rel = untrue _ b.1; no_group = untrue _ c.1 }
+    record { no_symbols = not-true _ a.0; no_rela = not-true _ a.1; no_rel = not-true _ b.1; no_group = not-true _ c.1 }
 
 -- what a section's header says, by what was written
 kind_is : (file : List ℕ) (index : ℕ) (e : Entry) → Found file index e → (section_header file index).kind ≡ e.heading.kind

@@ -1,7 +1,6 @@
 -- The data of a generated object are its table, which stands where data begin, and have room.
 use Rattle.std.proofs.Common.{◌≡◌, ◌≢◌, ℕ, zero, suc, ◌+◌, false, List, [], length, inl, inr, refl, ap, ◌∙◌, arith}
 use Rattle.std.proofs.lemmas.Bool.{cases_eq}
-use Rattle.std.proofs.lemmas.List.{length-replicate}
 use Rattle.rv_image.specs.MemoryMap.{DATA_START}
 use Rattle.obj_input.specs.declared.parts.Block.{Block}
 use Rattle.obj_input.specs.declared.parts.Sort.TheVariants.{Code, Data}
@@ -13,11 +12,7 @@ use Rattle.cfi_gen.specs.declared.function.Function.{Function}
 use Rattle.cfi_gen.specs.Demo.{table_bytes}
 use Rattle.gen_hardened.specs.Generated.{IsGenerated}
 use Rattle.cfi_harden.specs.Room.{HasDataRoom}
-
--- the bytes of the table
-table_length : length table_bytes ≡ 16000
-unfolding table_bytes
-table_length = length-replicate {A = ℕ} 16000 0
+use Rattle.cfi_gen.proofs.Writing.{length-table}
 
 module _ {fs : List Function} {input : InputParts} (g : IsGenerated fs input) where
   text_sort : (section_of input 1).sort ≡ Code
@@ -105,6 +100,6 @@ module _ {fs : List Function} {input : InputParts} (g : IsGenerated fs input) wh
   pub data_room : HasDataRoom (program_of input)
   unfolding program_of
   data_room =
-      let size : length (init_below input (section_count input)) ≡ 16000 = ap length init_is ∙ table_length in
+      let size : length (init_below input (section_count input)) ≡ 16000 = ap length init_is ∙ length-table in
       let end = end_is in
       record { init = omega arith; end = omega arith }

@@ -1,5 +1,5 @@
 -- The functions that are drawn are as many as asked for, and call none past their end.
-use Rattle.std.proofs.Common.{◌≡◌, ℕ, zero, suc, ◌+◌, ◌/◌, ◌%◌, ◌^◌, ◌<◌, ◌≤◌, ◌==◌, List, [], ◌∷◌, length, inl, inr, refl, ap, arith, eqb-true}
+use Rattle.std.proofs.Common.{◌≡◌, ℕ, zero, suc, ◌+◌, ◌/◌, ◌%◌, ◌^◌, ◌<◌, ◌≤◌, ◌==◌, List, [], ◌∷◌, inl, inr, arith, eqb-true}
 use Rattle.std.proofs.lemmas.Bool.{cases_Bool}
 use Rattle.cfi_gen.specs.declared.function.Function.{Function}
 use Rattle.cfi_gen.specs.declared.function.Shape.{Shape}
@@ -50,7 +50,3 @@ near_functions n zero i s whole most = tt
 near_functions n (suc count) i s whole most =
     (near_function n i s whole (omega arith), near_functions n count (i + 1) (next (next (next s))) whole (omega arith))
 
-pub length-functions : (count i s : ℕ) → length (functions_from count i s) ≡ count
-unfolding functions_from
-length-functions zero i s = refl
-length-functions (suc count) i s = ap (λ k. suc k) (length-functions count (i + 1) (next (next (next s))))

@@ -1,7 +1,7 @@
 -- Lists that a function gives for 0, 1, ..: their members, and when they are a list with each member changed.
 use Rattle.std.proofs.Common.{◌≡◌, ℕ, zero, suc, ◌<◌, ◌≤◌, get_or, List, [], ◌∷◌, ◌++◌, length, map, inl, inr, refl, sym, ap, ◌∙◌, arith}
 use Rattle.std.proofs.lemmas.Bool.{cases_lt}
-use Rattle.std.proofs.lemmas.List.{ext_get_or, get_or-map, get_or_append_left, get_or_past, length-append, length-map, map-append}
+use Rattle.std.proofs.lemmas.List.{ext_get_or, get_or-map, get_or_append_left, get_or_past, length-append, length-map}
 use Rattle.std.proofs.Math.Seq.{get_or-append_seam}
 use Rattle.least.specs.Nearest.{joined}
 use Rattle.obj_input.specs.Listed.{listed}
@@ -44,12 +44,6 @@ module _ {A : Type 0} (given : ℕ → A) where
   unfolding joined listed
   joined_listed parts zero none one = none
   joined_listed parts (suc n) none one = rw (joined_listed parts n none (λ k below. one k (omega arith)), one n (omega arith)) refl
-
--- the same of what another function makes of each
-pub map_listed : {A B : Type 0} (f : A → B) (given : ℕ → A) (n : ℕ) → map f (listed given n) ≡ listed (λ k. f (given k)) n
-unfolding listed
-map_listed f given zero = refl
-map_listed f given (suc n) = map-append f (listed given n) (given n ∷ []) ∙ ap (λ ys. ys ++ f (given n) ∷ []) (map_listed f given n)
 
 -- empty lists one after another
 pub joined_none : {A : Type 0} (parts : ℕ → List A) (n : ℕ) → ((k : ℕ) → k < n → parts k ≡ []) → joined parts n ≡ []

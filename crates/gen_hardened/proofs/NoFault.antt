@@ -22,9 +22,10 @@ use Rattle.cfi_gen.specs.Code.{program_lines}
 use Rattle.cfi_gen.specs.Demo.{table_relocs}
 use Rattle.cfi_gen.specs.Drawing.{functions_from}
 use Rattle.cfi_gen.specs.Lines.{relocs_from}
+use Rattle.cfi_gen.proofs.Writing.{length-functions}
 use Rattle.gen_hardened.specs.Generated.{IsGenerated, symbol_definition}
 use Rattle.gen_hardened.proofs.Bridge.{use_by}
-use Rattle.gen_hardened.proofs.Drawn.{AreNear, length-functions, near_functions}
+use Rattle.gen_hardened.proofs.Drawn.{AreNear, near_functions}
 use Rattle.gen_hardened.proofs.Routines.{program_spots}
 use Rattle.gen_hardened.proofs.Starts.{function_start}
 use Rattle.gen_hardened.proofs.Standing.{IsCode}

@@ -32,7 +32,7 @@ use Rattle.cfi_map.specs.GraphAtMap.{ProgramAtMap, words_at}
 use Rattle.cfi_map.specs.Sizes.{whole_size}
 use Rattle.gen_hardened.specs.Laws.{DemoIsNeverRefused, IsNeverRefused, entered}
 use Rattle.cfi_gen.proofs.Right.{demo_holds}
-use Rattle.gen_hardened.proofs.Drawn.{length-functions}
+use Rattle.cfi_gen.proofs.Writing.{length-functions}
 use Rattle.gen_hardened.proofs.NoFault.{no_fault}
 use Rattle.gen_hardened.proofs.AllInRange.{all_in_range}
 use Rattle.gen_hardened.proofs.DataRoom.{data_room}

@@ -21,8 +21,9 @@ use Rattle.obj_input.specs.Kinds.{is_table_high, kind_of}
 use Rattle.obj_join.specs.SaidInput as joined
 use Rattle.obj_link.specs.SaidOf.{said_of}
 use Rattle.obj_link.specs.Sections.{sort_of, use_said, use_said_at, uses_said}
+use Rattle.obj_link.proofs.Named.{map_listed}
 use Rattle.obj_items.proofs.Behind.{numbers}
-use Rattle.gen_hardened.proofs.Listings.{listed_map, map_listed}
+use Rattle.gen_hardened.proofs.Listings.{listed_map}
 use Rattle.gen_hardened.proofs.Untabled.{is_plain, plain_in}
 
 pub content_there : (file : List ℕ) (k : ℕ) → k < e_shnum file → section_bytes file k ≡ content file (section_header file k)

@@ -17,9 +17,10 @@ use Rattle.obj_join.specs.Stands.{definition, definition_of, standing_for}
 use Rattle.obj_join.specs.SaidInput.{is_named, named, names_by}
 use Rattle.obj_link.specs.SaidOf.{said_of}
 use Rattle.obj_link.specs.Symbols.{is_kept_section, standing_of, symbol_said, symbol_said_in}
+use Rattle.obj_link.proofs.Named.{map_listed}
 use Rattle.obj_items.proofs.Behind.{numbers}
 use Rattle.gen_hardened.specs.Generated.{named_of}
-use Rattle.gen_hardened.proofs.Listings.{joined_listed, joined_none, length-listed, listed_at, listed_map, map_listed}
+use Rattle.gen_hardened.proofs.Listings.{joined_listed, joined_none, length-listed, listed_at, listed_map}
 
 -- a section of a file that is kept; neither SHN_ABS nor SHN_COMMON
 pub record IsKeptSection (file : List ℕ) (section : ℕ) : Type 0 where

@@ -77,7 +77,7 @@ among p acting (u ∷ uses) at = elim (cases_Bool (p u)) [
 ]
 
 -- a stable sort by offset keeps what stands at each
-tie : (a b : ℕ) → (not (is_lt (nat_cmp a b)) && not (is_lt (nat_cmp b a))) ≡ (b == a)
+pub tie : (a b : ℕ) → (not (is_lt (nat_cmp a b)) && not (is_lt (nat_cmp b a))) ≡ (b == a)
 tie a b = elim (cases_order a b) [
   | inl same ↦ let less = le-ltb a b (omega arith) in let more = le-ltb b a (omega arith) in rw (less, more, eq-eqb a b same, eq-eqb b a (sym same)) refl
   | inr other ↦ elim other [

@@ -31,7 +31,7 @@ section_read input l k e =
 aligned_none : (x : ℕ) → aligned x 0 ≡ x
 aligned_none x = omega arith
 
-after_none : (x : ℕ) → after x 0 0 ≡ x
+pub after_none : (x : ℕ) → after x 0 0 ≡ x
 after_none x = omega arith
 
 -- an absent block is empty, and stands where all data end

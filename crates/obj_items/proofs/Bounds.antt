@@ -18,22 +18,21 @@ use Rattle.obj_input.specs.declared.parts.Sort.TheVariants.{Data, Zeros, Dropped
 use Rattle.obj_input.specs.Code.{natural}
 use Rattle.obj_input.specs.Input.{InputParts, SectionParts, is_code, is_data_sort, is_zeros_sort, no_section, section_count, section_of}
 use Rattle.obj_input.specs.DataLayout.{address_by, after, after_if, aligned, block, block_address, blocks_reach, init_end, no_block, reach, section_address, zeros_end}
+use Rattle.obj_input.proofs.Wholes.{past_sections}
 use Rattle.obj_program.specs.declared.item.Item.{Item}
 use Rattle.obj_program.specs.declared.item.Value.TheVariants.{Number}
 use Rattle.obj_program.specs.Program.{is_spot, no_item, place_of}
 use Rattle.obj_program.specs.Sound.{is_value}
 use Rattle.obj_items.specs.Ranges.{HasSmall, IsBlock, IsInput, IsSection, IsSmallUse}
 use Rattle.obj_items.specs.Values.{gate_value, place_at, value_of}
-use Rattle.obj_items.proofs.NoFault.{past_sections}
+use Rattle.obj_items.proofs.Addresses.{after_none}
+
 
 aligned_bound : (at align : ℕ) → align < 2 ^ 64 → aligned at align < at + 2 ^ 64
 aligned_bound at align small =
     let most = div-mul-le_self (at + (max align 1 - 1)) (max align 1) in
     let width : max align 1 - 1 < 2 ^ 64 = omega arith in
     omega (arith, most)
-
-nothing_after : (at : ℕ) → after at 0 0 ≡ at
-nothing_after at = omega arith
 
 after_bound : (at size align : ℕ) → size < 2 ^ 64 → align < 2 ^ 64 → after at size align ≤ at + 2 ^ 65
 after_bound at size align small few = let low = aligned_bound at align few in omega arith
@@ -91,7 +90,7 @@ module _ (input : InputParts) (is : IsInput input) where
       let none : block input (length input.blocks + c) ≡ no_block = get_or_past input.blocks (length input.blocks + c) no_block (omega arith) in
       ap (blocks_reach input) next
       ∙ ap (λ (b : Block). after (blocks_reach input (length input.blocks + c)) b.size b.align) none
-      ∙ nothing_after (blocks_reach input (length input.blocks + c))
+      ∙ after_none (blocks_reach input (length input.blocks + c))
       ∙ more_blocks c
 
   all_blocks : (c : ℕ) → blocks_reach input c ≤ 2 ^ 125 + 2 ^ 99

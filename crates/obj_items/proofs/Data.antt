@@ -1,7 +1,7 @@
 -- Initialised data and their relocations, one section or one relocation further.
-use Rattle.std.proofs.Common.{◌≡◌, ℕ, ◌+◌, ◌<◌, true, false, List, [], ◌∷◌, ◌++◌, length, get_or, map, take, refl, sym, ap, ◌∙◌, add-one, append_assoc}
+use Rattle.std.proofs.Common.{◌≡◌, ℕ, ◌+◌, ◌<◌, true, false, List, [], ◌∷◌, ◌++◌, length, get_or, take, refl, sym, ap, ◌∙◌, add-one, append_assoc}
 use Rattle.std.specs.List.{flat_map}
-use Rattle.std.proofs.lemmas.List.{append-nil, get_or_append_left, length-append, map-append, take_more}
+use Rattle.std.proofs.lemmas.List.{append-nil, get_or_append_left, length-append, take_more}
 use Rattle.std.proofs.Math.Seq.{get_or-append_seam}
 use Rattle.std.proofs.lemmas.List.Concat.{flat_map-append}
 use Rattle.obj_input.specs.Input.{InputParts, SectionParts, is_data_sort, no_section, section_of}
@@ -52,13 +52,6 @@ module _ (input : InputParts) (places : List Item) (ys : List SectionParts) (k :
     joined_next (listed_relocs input places (ys ++ x ∷ [])) (length ys) so_far next (relocs_in input places k x) (here ∙ first) (last is) e
         ∙ ap (λ (n : ℕ). joined (listed_relocs input places (ys ++ x ∷ [])) n) (sym count),
   )
-
--- a list with a function of one more member
-pub map_more : {A B : Type 0} (told : A → B) (xs : List A) (i : ℕ) (d : A) (now next : List B) (y : B) → i < length xs
-    → now ≡ map told (take i xs) → y ≡ told (get_or xs i d) → next ≡ now ++ y ∷ [] → next ≡ map told (take (i + 1) xs)
-map_more told xs i d now next y below here is e =
-    e ∙ ap (λ ys. ys ++ y ∷ []) here ∙ ap (λ z. map told (take i xs) ++ z ∷ []) is
-    ∙ sym (map-append told (take i xs) (get_or xs i d ∷ [])) ∙ ap (map told) (sym (take_more xs i d below))
 
 -- what a function gives of the first members of a list, and of one more
 pub flat_map_more : {A B : Type 0} (given : A → List B) (xs : List A) (i : ℕ) (x : A) (before now next : List B) → i < length xs

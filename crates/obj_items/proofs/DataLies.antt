@@ -4,6 +4,7 @@ use Rattle.std.specs.List.{flat_map}
 use Rattle.std.proofs.lemmas.Bool.{cases_Bool, cases_lt, and_parts, and_from, le-leb, ltb-false, not-false, not-true}
 use Rattle.std.proofs.lemmas.List.{length-append, length-map, length-replicate}
 use Rattle.std.proofs.lemmas.List.Elements.{All-nil, All-cons, All-append, All-from_get_or, All-get_or, All-head, All-tail}
+use Rattle.rv_word.proofs.Booleans.{and_rest}
 use Rattle.rv_image.specs.MemoryMap.{DATA_START}
 use Rattle.rv_reloc.specs.Data.{size_of}
 use Rattle.least.specs.Nearest.{joined}
@@ -28,7 +29,7 @@ use Rattle.obj_items.specs.Ranges.{IsInput, IsSmallUse}
 use Rattle.obj_items.specs.Values.{use_value}
 use Rattle.obj_items.proofs.Bounds.{each_section, value_right}
 use Rattle.obj_items.proofs.NoFault.{IsRight, IsRightUse, no_use}
-use Rattle.obj_items.proofs.Starts.{and_rest}
+
 
 -- what is placed reaches from its address on
 placed_length : (so_far bytes : List ℕ) (address : ℕ) → address - DATA_START + length bytes ≤ length (placed so_far address bytes)

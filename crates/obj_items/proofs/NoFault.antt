@@ -3,7 +3,6 @@ use Rattle.std.proofs.Common.{◌≡◌, ◌==◌, ℕ, pos, zero, suc, ◌<◌,
 use Rattle.std.specs.Prelude.{option_map}
 use Rattle.std.specs.List.{All, filter_map}
 use Rattle.std.proofs.lemmas.Bool.{cases_Bool, cases_lt}
-use Rattle.std.proofs.lemmas.List.{get_or_past}
 use Rattle.std.proofs.lemmas.Option.{slice_get-get_or}
 use Rattle.std.proofs.lemmas.List.Elements.{All-nil, All-cons, All-filter, All-from_get_or, All-get_or, All-weaker, filter_passes}
 use Rattle.rv_word.proofs.Cases.{cases_Option, neither, unmapped}
@@ -17,8 +16,9 @@ use Rattle.least.proofs.Nearests.{nearest_first}
 use Rattle.obj_input.specs.declared.parts.Relocation.{Relocation}
 use Rattle.obj_input.specs.declared.parts.Definition.TheVariants.{Zero}
 use Rattle.obj_input.specs.Relocation.{is_acting}
-use Rattle.obj_input.specs.Input.{InputParts, SectionParts, acting_at, is_code, no_section, section_count, section_of}
+use Rattle.obj_input.specs.Input.{InputParts, SectionParts, acting_at, is_code, section_count, section_of}
 use Rattle.obj_input.specs.Code.{word_count}
+use Rattle.obj_input.proofs.Wholes.{past_sections}
 use Rattle.obj_check.specs.declared.fault.ItemFault.{ItemFault}
 use Rattle.obj_check.specs.declared.fault.ItemFault.TheVariants as fault
 use Rattle.obj_check.specs.Finding.{nearest_in, place_of}
@@ -44,9 +44,6 @@ pub record IsRight (input : InputParts) : Type 0 where
   pub unreserved : (k i : ℕ) → is_code (section_of input k) ≡ true → i < word_count (section_of input k) → is_reserved_at (section_of input k) i ≡ false
   pub transfers : (k i : ℕ) → is_code (section_of input k) ≡ true → i < word_count (section_of input k) → is_wrong_transfer input k i ≡ false
   pub uses : (k : ℕ) → All (IsRightUse input k) (section_of input k).uses
-
-pub past_sections : (input : InputParts) (k : ℕ) → section_count input ≤ k → section_of input k ≡ no_section
-past_sections input k past = get_or_past input.sections k no_section past
 
 -- a section of code is there
 pub code_there : (input : InputParts) (k : ℕ) → is_code (section_of input k) ≡ true → k < section_count input

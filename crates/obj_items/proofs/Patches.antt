@@ -5,6 +5,7 @@ use Rattle.std.specs.Ordering.{int_eq}
 use Rattle.std.proofs.lemmas.Bool.{and_parts, eqb-true, lt-ltb, not-false, or_cases, or_parts}
 use Rattle.std.proofs.lemmas.List.{length-map}
 use Rattle.std.proofs.lemmas.List.Elements.{All-filter, All-head, All-same}
+use Rattle.rv_word.proofs.Booleans.{and_rest}
 use Rattle.obj_input.specs.declared.parts.Relocation.{Relocation}
 use Rattle.obj_input.specs.declared.parts.Definition.{Definition}
 use Rattle.obj_input.specs.declared.parts.Definition.TheVariants.{Within, Missing}
@@ -28,7 +29,7 @@ use Rattle.obj_items.specs.Values.{use_value}
 use Rattle.obj_items.proofs.Bounds.{each_section, value_right}
 use Rattle.obj_items.proofs.LookUp.{start_parts}
 use Rattle.obj_items.proofs.NoFault.{IsRight, IsRightUse}
-use Rattle.obj_items.proofs.Starts.{and_rest, sole}
+use Rattle.obj_items.proofs.Starts.{sole}
 use Rattle.obj_items.proofs.Targets.{start_item_there}
 
 small_there : (input : InputParts) → IsInput input → (k at : ℕ) → All IsSmallUse (acting_at (section_of input k) at)

@@ -16,7 +16,7 @@ module _ {A : Type 0} (parts : ℕ → List A) where
   pushed_next k before so_far next here e = rw add-one (e ∙ ap (λ (ys : List A). ys ++ parts k) here ∙ append_assoc before (joined parts k) (parts k))
 
 -- what is no instruction is no JALR
-no_second : (a : Option ℕ) → are_same a None ≡ false
+pub no_second : (a : Option ℕ) → are_same a None ≡ false
 no_second None = refl
 no_second (Some x) = refl
 

@@ -1,10 +1,11 @@
 -- What an instruction of an input without a fault is: of its kind, free of reserved registers, and with a relocation of its form.
-use Rattle.std.proofs.Common.{◌≡◌, ◌==◌, ℕ, ◌+◌, ◌*◌, ◌/◌, nat_lt, Bool, true, false, not, ◌&&◌, ◌||◌, Option, Some, None, List, [], ◌∷◌, length, inl, inr, refl, sym, ap, subst, ◌∙◌, arith}
+use Rattle.std.proofs.Common.{◌≡◌, ◌==◌, ℕ, ◌+◌, ◌*◌, ◌/◌, nat_lt, true, false, not, ◌&&◌, ◌||◌, Option, Some, None, List, [], ◌∷◌, length, inl, inr, refl, sym, ap, subst, ◌∙◌, arith}
 use Rattle.std.specs.Prelude.{is_none}
 use Rattle.std.specs.List.{list_any}
 use Rattle.std.proofs.lemmas.Bool.{cases_Bool, and_parts, eqb-true, not-false, or_parts, or_cases}
 use Rattle.std.proofs.lemmas.List.Elements.{All-head, All-same}
 use Rattle.rv_word.proofs.Cases.{cases_Option}
+use Rattle.rv_word.proofs.Booleans.{and_rest}
 use Rattle.rv_instr.specs.declared.instr.Instr.{Instr}
 use Rattle.rv_instr.specs.declared.instr.Instr.TheVariants.{Jalr}
 use Rattle.rv_code.specs.Decode.{decoded}
@@ -15,7 +16,7 @@ use Rattle.obj_input.specs.declared.reloc_kind.RelocKind.TheVariants.{PairTarget
 use Rattle.obj_input.specs.Kinds.{is_pair_target, kind_of}
 use Rattle.obj_input.specs.Relocation.{is_acting}
 use Rattle.obj_input.specs.Input.{InputParts, SectionParts, acting_at, is_code, section_of}
-use Rattle.obj_input.specs.Code.{are_pair, are_same, auipc_register, has_pair_target, instr, is_inside, is_pair, is_start, starts_at, word, word_count}
+use Rattle.obj_input.specs.Code.{are_pair, auipc_register, has_pair_target, instr, is_inside, is_pair, is_start, starts_at, word, word_count}
 use Rattle.obj_check.specs.Kind.{kind_at, pair_kind, single_kind, word_kind}
 use Rattle.obj_check.specs.Target.{direct_at, goes_right}
 use Rattle.obj_check.specs.Reserved.{some_reserved}
@@ -32,10 +33,7 @@ use Rattle.obj_items.specs.Outline.{own_word, start_at}
 use Rattle.obj_items.proofs.NoFault.{IsRight, IsRightUse, acting_right, acting_there}
 use Rattle.obj_items.proofs.LookUp.{start_below}
 use Rattle.obj_items.proofs.Suited.{auipc_stands, lower_stands, no_end, none_reserved, pair_suits, single_suits, store_stands, upper_stands}
-
-pub and_rest : (x y : Bool) → (x && y) ≡ false → x ≡ true → y ≡ false
-and_rest true y e h = e
-and_rest false y e h = absurd (cc)
+use Rattle.obj_items.proofs.Pushed.{no_second}
 
 -- the one relocation of code that does something at an offset
 pub record IsSole (input : InputParts) (k at : ℕ) (u : Relocation) (more : List Relocation) : Type 0 where
@@ -69,14 +67,9 @@ sole input right k at code u more e =
     let alone : (length (u ∷ more) == 1) ≡ true = ap (λ (us : List Relocation). length us == 1) (sym e) ∙ two.0 in
     record { none_more = sole_rest u more alone; start = two.1; fits = parts.1; right = one; offset = offset; acting = both.1 }
 
--- the second word of a pair is a JALR
-same_none : (o : Option ℕ) → are_same o None ≡ false
-same_none None = refl
-same_none (Some n) = refl
-
 pub pair_jalr : (a b : Option Instr) → are_pair a b ≡ true → (link : ℕ) × (base : ℕ) × (imm : ℕ) × (b ≡ Some (Jalr link base imm))
 pair_jalr a (Some (Jalr link base imm)) e = (link, base, imm, refl)
-pair_jalr a other e = let no : false ≡ true = sym (same_none (auipc_register a)) ∙ e in absurd (cc)
+pair_jalr a other e = let no : false ≡ true = sym (no_second (auipc_register a)) ∙ e in absurd (cc)
 
 pub pair_parts : (s : SectionParts) (i : ℕ) → is_pair s i ≡ true → (are_pair (instr s i) (instr s (i + 1)) ≡ true) × (has_pair_target s i ≡ true)
 unfolding is_pair

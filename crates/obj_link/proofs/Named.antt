@@ -18,7 +18,7 @@ use Rattle.obj_link.specs.SaidOf.{said_by, said_of}
 use Rattle.obj_link.specs.Symbols.{symbol_said_in, symbols_said}
 use Rattle.obj_link.proofs.Together.{next_said, said_none}
 
-map_listed : {A B : Type 0} (f : A → B) (given : ℕ → A) (n : ℕ) → map f (listed given n) ≡ listed (λ k. f (given k)) n
+pub map_listed : {A B : Type 0} (f : A → B) (given : ℕ → A) (n : ℕ) → map f (listed given n) ≡ listed (λ k. f (given k)) n
 unfolding listed
 map_listed f given zero = refl
 map_listed f given (suc n) = map-append f (listed given n) (given n ∷ []) ∙ ap (λ (ys : List _). ys ++ f (given n) ∷ []) (map_listed f given n)

@@ -13,16 +13,12 @@ use Rattle.elf_object.specs.Fault.{fault_of}
 use Rattle.elf_object.specs.Laws.{IsRightKept}
 use Rattle.elf_object.specs.Table.{has_wrong_header, is_string_table}
 use Rattle.elf_object.proofs.Sound.{sound}
-use Rattle.elf_object.proofs.Right.{kept_right, relocations_named, sections_whole}
+use Rattle.elf_object.proofs.Right.{kept_right, relocations_named, sections_whole, not_zeros}
 use Rattle.obj_input.specs.Input.{has_bytes}
 use Rattle.obj_link.specs.Sections.{kept_sort, sort_of}
 
 program : (h : SectionHeader) → h.kind ≡ 1 → is_in_file h ≡ true
 program h e = rw e refl
-
-not_zeros : (kind : ℕ) → (kind ≡ 1) ⊎ (kind ≡ 8) → (kind == 8) ≡ false → kind ≡ 1
-not_zeros kind (inl one) other = one
-not_zeros kind (inr eight) other = let no : true ≡ false = rw eight at other in absurd (cc)
 
 in_file : (h : SectionHeader) → IsRightKept h → has_bytes (kept_sort h) ≡ true → is_in_file h ≡ true
 in_file h right has = elim (cases_Bool (is_executable h)) [

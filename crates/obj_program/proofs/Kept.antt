@@ -1,6 +1,6 @@
 -- A relocation changes nothing but an immediate.
 use Rattle.std.proofs.Common.{◌≡◌, ℕ, ◌<◌, Bool, true, false, not, ◌&&◌, Option, Some, None, refl, subst, inl, inr}
-use Rattle.std.proofs.lemmas.Bool.{cases_Bool, and_parts}
+use Rattle.std.proofs.lemmas.Bool.{cases_Bool, and_parts, not-true}
 use Rattle.std.specs.Prelude.{ℤ, List, option_and_then}
 use Rattle.rv_word.proofs.Cases.{cases_Option}
 use Rattle.rv_reloc.specs.Value.{hi20, lo12, low_bits}
@@ -42,10 +42,6 @@ lower_suits other (Load op rd rs1 imm) field may = refl
 lower_suits other (Store op rs1 rs2 imm) field may = refl
 lower_suits other (Immediate op rd rs1 imm) field may = refl
 lower_suits kind other field may = refl
-
-not_true : (b : Bool) → not b ≡ true → b ≡ false
-not_true true e = absurd (cc)
-not_true false e = refl
 
 -- of the kind, and without a reserved register
 abbrev pub is_fine : ItemKind → Instr → Bool
@@ -103,4 +99,4 @@ kept program gates words k j sound below some gives =
     let fine = instr_fine program gates words k (item_of program k).kind (item_of program k).patch (decoded (item_of program k).word) j
     (read_there program k sound below some) gives in
     let parts = and_parts (suits (item_of program k).kind j) (not (names_reserved j)) fine in
-    (parts.0, not_true (names_reserved j) parts.1)
+    (parts.0, not-true (names_reserved j) parts.1)

@@ -12,7 +12,7 @@ unfolding regs_of
 get_reg-regs_of values zero none = sym none
 get_reg-regs_of values (suc reg) none = refl
 
-index-zeros : (n k : ℕ) → slice_index (replicate n 0) k ≡ 0
+pub index-zeros : (n k : ℕ) → slice_index (replicate n 0) k ≡ 0
 index-zeros zero k = refl
 index-zeros (suc n) zero = refl
 index-zeros (suc n) (suc k) = index-zeros n k

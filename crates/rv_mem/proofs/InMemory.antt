@@ -1,5 +1,5 @@
 -- What memory holds, by what its pages hold.
-use Rattle.std.proofs.Common.{◌≡◌, ℕ, zero, suc, ◌+◌, ◌-◌, ◌/◌, ◌%◌, ◌^◌, ◌≤◌, ◌<◌, List, [], ◌∷◌, length, get_or, drop, length-drop, true, false, IsTrue, refl, ap, sym, ◌∙◌, arith, lit<, inl, inr, subst}
+use Rattle.std.proofs.Common.{◌≡◌, ℕ, ◌+◌, ◌-◌, ◌/◌, ◌%◌, ◌^◌, ◌≤◌, ◌<◌, List, [], ◌∷◌, length, get_or, drop, length-drop, true, false, IsTrue, refl, ap, sym, ◌∙◌, arith, lit<, inl, inr, subst}
 use Rattle.std.proofs.lemmas.Bool.{cases_lt, and_parts}
 use Rattle.std.proofs.lemmas.Bool.Decides.{nat_tests}
 use Rattle.std.proofs.lemmas.List.{get_or_past, get_or-drop}
@@ -7,6 +7,7 @@ use Rattle.std.proofs.Math.Path.{fun_ext}
 use Rattle.rv_image.specs.declared.version.ImageVersion.{ImageVersion}
 use Rattle.rv_image.specs.MemoryMap.{CODE_START, CODE_SIZE, DATA_START, DATA_END, lies_within, can_store, profile_of}
 use Rattle.rv_word.specs.Memory.{Memory, placed, read, zeros}
+use Rattle.rv_word.proofs.SameBytes.{read_same}
 use Rattle.rv_image.proofs.Profiles.{is_profile, laid_out}
 use Rattle.rv_mem.specs.Cells.{Cells, memory_of, has_room, HasRoom, AreBytes, IsWhole, is_paged, place_of, with_byte}
 use Rattle.rv_mem.specs.Pages.{PAGE_SIZE, Paged, AreMade, byte_of, bytes_in, is_made, page_of}
@@ -59,19 +60,6 @@ rest_in_none cells a k code paged near =
     let outside : lies_within CODE_START CODE_SIZE (a + k) 1 ≡ false = grind (arith, nat_tests) in
     let none : is_paged cells.version (a + k) ≡ false = grind (arith, nat_tests) in
     rw (outside, none) refl
-
--- numbers that are read where memory holds the same
-pub read_same : (n : ℕ) (m m' : Memory) (a b : ℕ) → ((k : ℕ) → k < n → m (a + k) ≡ m' (b + k)) → read n m a ≡ read n m' b
-read_same zero m m' a b same = refl
-read_same (suc n) m m' a b same =
-    let here : a + 0 ≡ a = omega arith in
-    let there : b + 0 ≡ b = omega arith in
-    let first : m a ≡ m' b = rw (here, there) at (same 0 (omega arith)) in
-    let rest : read n m (a + 1) ≡ read n m' (b + 1) = read_same n m m' (a + 1) (b + 1) (λ k low.
-    let x : a + 1 + k ≡ a + (k + 1) = omega arith in
-    let y : b + 1 + k ≡ b + (k + 1) = omega arith in
-    rw (x, y) (same (k + 1) (omega arith))) in
-    rw (first, rest) refl
 
 -- what was written into pages stands in memory
 pub paged_same : (cells : Cells) (new : Paged) → byte_of new ≡ byte_of cells.pages → memory_of (record cells { pages = new }) ≡ memory_of cells

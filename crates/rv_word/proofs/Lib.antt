@@ -4,3 +4,6 @@ pub mod Cases
 pub mod Products
 pub mod Division
 pub mod SameNumbers
+pub mod Booleans
+pub mod Lists
+pub mod SameBytes

@@ -1,5 +1,5 @@
 -- How many stores the group has that ends right before a place, while the lines of a map are gone over from the first on.
-use Rattle.std.proofs.Common.{◌≡◌, ℕ, suc, ◌-◌, ◌<◌, ◌≤◌, nat_lt, Bool, false, List, length, None, refl, sym, ap, ◌∙◌, arith}
+use Rattle.std.proofs.Common.{◌≡◌, ℕ, suc, ◌-◌, ◌<◌, ◌≤◌, nat_lt, Bool, false, List, length, None, sym, ap, ◌∙◌, arith}
 use Rattle.std.specs.Prelude.{◌&&◌, not}
 use Rattle.std.proofs.lemmas.Bool.{and_parts, lt-ltb, ltb-true, not-false}
 use Rattle.least.specs.First.{first_below}
@@ -10,12 +10,8 @@ use Rattle.obj_program.specs.declared.item.Item.{Item}
 use Rattle.obj_program.specs.Program.{count, item_of}
 use Rattle.cfi_leads.specs.Entered.{Entered}
 use Rattle.cfi_map.specs.Groups.{members_after, members_before}
-use Rattle.cfi_map.proofs.Greedy.{before_most}
+use Rattle.cfi_map.proofs.Greedy.{before_most, members_step}
 use Rattle.src_machine.specs.MapLine.{has_whole, is_right, is_wrong, stores_before}
-
-one_on : (items : ℕ → Item) (whole : ℕ → Bool) (k : ℕ) → members_before items whole (suc k) ≡ members_after (items k).kind (whole k) (members_before items whole k)
-unfolding members_before
-one_on items whole k = refl
 
 none_first : (items : ℕ → Item) (whole : ℕ → Bool) (k : ℕ) → k ≡ 0 → 0 ≡ members_before items whole k
 unfolding members_before
@@ -30,7 +26,7 @@ module _ (of : Entered) (lines : List MapLine) (j before : ℕ) (are : before �
   next_before after some is =
       let next : suc (j - 1) ≡ j = omega arith in
       is ∙ ap (members_after (item_of of.program (j - 1)).kind (has_whole of lines (j - 1))) are
-      ∙ sym (one_on (item_of of.program) (has_whole of lines) (j - 1)) ∙ ap (stores_before of lines) next
+      ∙ sym (members_step (item_of of.program) (has_whole of lines) (j - 1)) ∙ ap (stores_before of lines) next
 
 pub none_at_first : (of : Entered) (lines : List MapLine) → 0 ≡ stores_before of lines (0 - 1)
 none_at_first of lines = none_first (item_of of.program) (has_whole of lines) (0 - 1) (omega arith)

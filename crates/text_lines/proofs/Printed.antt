@@ -66,7 +66,7 @@ fills (suc fuel) (suc count) h = λ n acc small.
     fills_next fuel count (fills fuel count (omega arith)) n acc (omega arith) (n / 16) refl
 
 -- the digits of a number, where `fuel` is 64
-digits_are : (fuel n : ℕ) → fuel ≡ 64 → digits 16 false n ≡ digits_onto fuel 16 false n []
+pub digits_are : (fuel n : ℕ) → fuel ≡ 64 → digits 16 false n ≡ digits_onto fuel 16 false n []
 unfolding digits
 digits_are fuel n e = ap (λ k. digits_onto k 16 false n []) (sym e)
 

@@ -5,7 +5,7 @@ use Rattle.std.specs.Prelude.{codes, if◌then◌else◌, is_some, find, fold, s
 use Rattle.std.specs.List.{list_all}
 use Rattle.std.specs.Option.{option_map_or}
 use Rattle.std.specs.Str.{bytes_eq, chars}
-use Rattle.std.proofs.lemmas.Bool.{and_parts, cases_Bool}
+use Rattle.std.proofs.lemmas.Bool.{and_parts, cases_Bool, not-true}
 use Rattle.std.proofs.lemmas.Bool.Decides.{not_from_Decides}
 use Rattle.std.proofs.lemmas.Slice.Eq.{bytes_eq-Decides}
 use Rattle.tool_words.specs.Plain.{Operands, is_plain, none_left, one_more, mark_left}
@@ -54,10 +54,6 @@ or_else_none (k ∷ ks) b e = absurd (cc)
 
 abbrev pub is_flat : Rule → Bool
 is_flat a = not a.trailing_var_arg
-
-is_false : (b : Bool) → not b ≡ true → b ≡ false
-is_false false e = refl
-is_false true e = absurd (cc)
 
 or_false : (a b : Bool) → b ≡ false → (a || b) ≡ a
 or_false true b e = refl
@@ -126,7 +122,7 @@ module _ (s : Shape) (flat : list_all is_flat s.rules ≡ true) where
           → to_positional s.rules o word (stand many past h p) h
           ≡ stand (option_map_or is_multiple o many) past (option_map_or (λ a. positional_held s.rules a word h) o h) (option_map_or (λ a. next_position a p) o p)
       go None e = refl
-      go (Some a) e = rw (or_false past a.trailing_var_arg (is_false a.trailing_var_arg (found is_flat _ s.rules a flat e))) refl
+      go (Some a) e = rw (or_false past a.trailing_var_arg (not-true a.trailing_var_arg (found is_flat _ s.rules a flat e))) refl
 
   past_walked : (many : Bool) (h : Held) (p : ℕ) (word : Text)
       → walked s.rules [] (stand many true h p) word ≡ stand (next_many s many p) true (next_held s h p word) (next_place s p)
@@ -148,7 +144,7 @@ module _ (s : Shape) (flat : list_all is_flat s.rules ≡ true) where
   plain_value : (word : Text) → is_plain word ≡ true → (many : Bool) (h : Held) (p : ℕ) → IsValue s many h p word
   plain_value [] plain many h p = absurd (cc)
   plain_value (x ∷ xs) plain many h p =
-      let begins = is_false (x == 45) plain in
+      let begins = not-true (x == 45) plain in
       let mark = plain_mark x xs begins in (
         value_turn many h p (x ∷ xs) mark (plain_long x xs begins) (plain_short x xs begins),
         value_walked many h p (x ∷ xs) mark (plain_long x xs begins) (plain_short x xs begins),
@@ -223,9 +219,9 @@ flag_requests : (a : Rule) (test : Bool) → is_word_or_request a ≡ true → (
     → (is_request (action_of a) ≡ true) × (takes_values a ≡ false)
 flag_requests a test ok met =
     let parts = and_parts (not (is_some a.index)) test met in
-    let ok' : (is_request (action_of a) && not (takes_values a)) ≡ true = subst (λ b. (b || (is_request (action_of a) && not (takes_values a))) ≡ true) (is_false (is_some a.index) parts.0) ok in
+    let ok' : (is_request (action_of a) && not (takes_values a)) ≡ true = subst (λ b. (b || (is_request (action_of a) && not (takes_values a))) ≡ true) (not-true (is_some a.index) parts.0) ok in
     let both = and_parts (is_request (action_of a)) (not (takes_values a)) ok' in
-    (both.0, is_false (takes_values a) both.1)
+    (both.0, not-true (takes_values a) both.1)
 
 long_faults : (c : List Rule) (again : Bool) (o : Option Rule) (v : Option Text) (h : Held)
     → ((a : Rule) → o ≡ Some a → (is_request (action_of a) ≡ true) × (takes_values a ≡ false)) → long_fault c again o v h ≡ [] → ⊥

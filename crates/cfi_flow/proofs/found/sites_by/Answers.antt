@@ -3,6 +3,7 @@ use Rattle.std.specs.List.{slice_get}
 use Rattle.std.specs.List.Sorted.{IsStrictlyIncreasing}
 use Rattle.std.proofs.lemmas.List.{take_all}
 use Rattle.std.proofs.lemmas.Simd.{map-map}
+use Rattle.rv_word.proofs.Lists.{map_more}
 use Rattle.cfi_graph.specs.declared.line.SiteKind.TheVariants as site
 use Rattle.cfi_closed.specs.declared.side.Site.{Site}
 use Rattle.cfi_flow.specs.declared.draw.Aim.{Aim}
@@ -12,7 +13,7 @@ use Rattle.cfi_flow.specs.Found.{by_table}
 use Rattle.cfi_flow.specs.Kept.{IsAimed, raw_site, targets_of}
 use Rattle.cfi_flow.specs.Pointed.{ArePoints}
 use Rattle.cfi_class.specs.Tables.{entry}
-use Rattle.cfi_flow.proofs.Keeping.{first_there, map_more}
+use Rattle.cfi_flow.proofs.Keeping.{first_there}
 use Rattle.cfi_flow.proofs.Rising.{below_rising}
 use Rattle.cfi_flow.proofs.found.sites_by.Goals as goal
 

@@ -1,7 +1,8 @@
 use Rattle.std.proofs.Common.{◌≡◌, ◌<◌, ◌-◌, ◌+◌, ℕ, length, Some, sym, ap, ◌∙◌, subst, arith}
+use Rattle.rv_word.proofs.Cases.{none_of}
 use Rattle.cfi_step.specs.Stretch.{AreQuiet, IsStaying, at}
 use Rattle.cfi_step.proofs.Continues.{ran_of}
-use Rattle.cfi_step.proofs.Stretched.{goes_on_at, goes_on_so, may_fetch, more_quiet, no_stretch, none_of, none_quiet, stays_on, stops_at}
+use Rattle.cfi_step.proofs.Stretched.{goes_on_at, goes_on_so, may_fetch, more_quiet, no_stretch, none_quiet, stays_on, stops_at}
 use Rattle.cfi_step.proofs.running.Running.go_on.Goals as goal
 
 pub loop-steps-init : goal.loop-steps-init

@@ -5,12 +5,13 @@ use Rattle.cfi_leads.specs.Entered.{Entered}
 use Rattle.cfi_leads.specs.Leaves.{in_leaf}
 use Rattle.cfi_map.specs.Groups.{is_store}
 use Rattle.cfi_writer.specs.Units.{group_at}
-use Rattle.cfi_writer.proofs.PlaceUnits.{is_callee_saves, lean_unit, store_unit}
+use Rattle.cfi_writer.proofs.PlaceUnits.{lean_unit, store_unit}
 use Rattle.cfi_writer.proofs.chosen.Chosen.lean_unit.Goals as goal
+use Rattle.cfi_writer.proofs.LeanUnits.{lean_version}
 
 pub lean_unit_of-requires : goal.lean_unit_of-requires
 lean_unit_of-requires c =
-    ap (λ (g : ClosedGraph). g.version) c.closed.ensures.value ∙ is_callee_saves c.args.self.now.layout.closed.version c.requires.lean
+    ap (λ (g : ClosedGraph). g.version) c.closed.ensures.value ∙ lean_version c.args.self.now.layout.closed.version c.requires.lean
 
 pub returns : goal.returns
 returns c =
