@@ -1,11 +1,15 @@
 //! Numbers, bytes and names of an ELF file by their offset. A place that leaves the file is `None`,
-//! so the readers above say what they read and never where a slice ends.
+//! so the readers above say what they read and never where a slice ends. The format's own places and
+//! values stand here too.
 #![tactic(auto)]
 
 ghost use Rattle.std.specs.Prelude.{◌≡◌, ◌++◌, ◌∷◌, ◌==◌, List, ℕ, Contains, IfSome, IfNone, length, drop, option_map, position};
 ghost use Rattle.elf_bytes.specs.Fields.{field_at, signed_at, part_at, string_of, string_at};
 
 use byteorder::{ByteOrder, LittleEndian};
+
+pub mod places;
+pub mod values;
 
 /// The 16-bit number at offset `at`, an `Elf64_Half`.
 pub fn u16_at(bytes: &[u8], at: u64) -> Option<u16>

@@ -6,7 +6,7 @@ use Rattle.rv_image.specs.MemoryMap.{Profile, IsProfile, profile_of}
 use Rattle.rv_image.specs.Image.{IsImageSize}
 use Rattle.rv_image.proofs.Profiles.{laid_out, is_profile}
 use Rattle.elf_image.specs.declared.field.Segment.{Segment}
-use Rattle.elf_image.specs.Header.{data_segment, code_segment, shadow_segment, fields_of, data_start, code_length, data_length, elf_header, program_header}
+use Rattle.elf_image.specs.Header.{data_header, code_header, shadow_header, headers_size, data_segment, code_segment, shadow_segment, fields_of, data_start, code_length, data_length, elf_header, program_header}
 use Rattle.elf_image.specs.Spelling.{headers, zeros, spelling}
 use Rattle.elf_image.specs.Fault.{version_in, code_of, init_of, fault_of}
 use Rattle.elf_image.proofs.Rows.{Hold, Fit, small_fit, fit-append, row_reads, none_wrong}
@@ -31,15 +31,15 @@ all_fit v n d small =
     let start : data_start n < 256 ^ 8 = omega arith in
     let code : code_length n < 256 ^ 8 = omega arith in
     let init : data_length d < 256 ^ 8 = omega arith in
-    let first = segment_fits 64 (data_segment n d) (lit< tt) start (lit< tt) init (lit< tt) in
-    let second = segment_fits 120 (code_segment n) (lit< tt) (lit< tt) (lit< tt) code (lit< tt) in
-    let third = segment_fits 176 (shadow_segment v) (lit< tt) (lit< tt) (lit< tt) (lit< tt) (shadow_fits (profile_of v) (is_profile v)) in
-    let one = fit-append elf_header (program_header 64 (data_segment n d)) (small_fit elf_header refl) first in
-    let two = fit-append (elf_header ++ program_header 64 (data_segment n d)) (program_header 120 (code_segment n)) one second in
-    fit-append (elf_header ++ program_header 64 (data_segment n d) ++ program_header 120 (code_segment n)) (program_header 176 (shadow_segment v)) two third
+    let first = segment_fits data_header (data_segment n d) (lit< tt) start (lit< tt) init (lit< tt) in
+    let second = segment_fits code_header (code_segment n) (lit< tt) (lit< tt) (lit< tt) code (lit< tt) in
+    let third = segment_fits shadow_header (shadow_segment v) (lit< tt) (lit< tt) (lit< tt) (lit< tt) (shadow_fits (profile_of v) (is_profile v)) in
+    let one = fit-append elf_header (program_header data_header (data_segment n d)) (small_fit elf_header refl) first in
+    let two = fit-append (elf_header ++ program_header data_header (data_segment n d)) (program_header code_header (code_segment n)) one second in
+    fit-append (elf_header ++ program_header data_header (data_segment n d) ++ program_header code_header (code_segment n)) (program_header shadow_header (shadow_segment v)) two third
 
--- there are 232 bytes of headers
-pub length-headers : (v : ImageVersion) (n d : ℕ) → length (headers v n d) ≡ 232
+-- how many bytes of headers there are
+pub length-headers : (v : ImageVersion) (n d : ℕ) → length (headers v n d) ≡ headers_size
 unfolding headers elf_header program_header
 length-headers v n d = refl
 
@@ -80,19 +80,19 @@ read_as v code init size =
     let n = length code in
     let d = length init in
     let h = headers v n d in
-    let z = zeros (0x1000 - 232) in
+    let z = zeros (0x1000 - headers_size) in
     let y = zeros (data_start n - 0x1000 - n) in
     let bytes = spelling v code init in
     let whole = five h z code y init in
     let long_h = length-headers v n d in
-    let long_z = length-zeros (0x1000 - 232) in
+    let long_z = length-zeros (0x1000 - headers_size) in
     let long_y = length-zeros (data_start n - 0x1000 - n) in
     let long = length-five h z code y init in
     let gap : data_start n - 0x1000 - n ≡ data_start n - (0x1000 + n) = omega arith in
     let held : Hold bytes (fields_of v n d) =
     let values : List ℕ → Type 0 = λ xs. Hold xs (fields_of v n d) in
     subst values (sym whole) (headers_hold v n d (z ++ (code ++ (y ++ init))) size.most) in
-    let second = cut bytes h z (code ++ (y ++ init)) 232 (0x1000 - 232) whole long_h long_z in
+    let second = cut bytes h z (code ++ (y ++ init)) headers_size (0x1000 - headers_size) whole long_h long_z in
     let to_code : length (h ++ z) ≡ 0x1000 = length-append h z ∙ omega arith in
     let third = cut bytes (h ++ z) code (y ++ init) 0x1000 n (simp append_assoc) to_code refl in
     let to_gap : length (h ++ z ++ code) ≡ 0x1000 + n = length-append (h ++ z) code ∙ omega arith in
@@ -103,7 +103,7 @@ read_as v code init size =
         long = omega arith;
         fields = none_wrong bytes _ held;
         end = omega arith;
-        after_headers = none_in_zeros bytes 232 0x1000 second;
+        after_headers = none_in_zeros bytes headers_size 0x1000 second;
         after_code = none_in_zeros bytes (0x1000 + n) (data_start n) (fourth ∙ ap zeros gap);
       };
       version_named = version_named bytes v n d held;

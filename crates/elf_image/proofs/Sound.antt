@@ -9,18 +9,19 @@ use Rattle.rv_word.proofs.Cases.{neither, unmapped}
 use Rattle.rv_image.specs.MemoryMap.{profile_of}
 use Rattle.rv_image.specs.Image.{IsImageSize}
 use Rattle.elf_bytes.specs.Fields.{number_at}
+use Rattle.elf_bytes.specs.declared.places.TheConstants as offsets
 use Rattle.elf_image.specs.declared.field.Field.{Field}
 use Rattle.elf_image.specs.declared.refusal.ImageRefusal.TheVariants.{Short, Long}
-use Rattle.elf_image.specs.Header.{fields_of, data_start, code_length, data_length, long, elf_header, program_header}
+use Rattle.elf_image.specs.Header.{code_header, data_header, shadow_header, headers_size, fields_of, data_start, code_length, data_length, long, elf_header, program_header}
 use Rattle.elf_image.specs.Fault.{first_wrong, first_nonzero, version_in, code_of, init_of, length_fault, fault_with, fault_of}
 use Rattle.elf_image.proofs.Rows.{Hold, hold}
 
 -- what there is to say of a file of this version and these lengths that has no fault
 pub record IsSound (bytes : List ℕ) (version : ImageVersion) (code init : ℕ) : Type 0 where
-  pub long : 232 ≤ length bytes
+  pub long : headers_size ≤ length bytes
   pub fields : first_wrong bytes (fields_of version code init) ≡ None
   pub end : length bytes ≡ data_start code + init
-  pub after_headers : first_nonzero bytes 232 0x1000 ≡ None
+  pub after_headers : first_nonzero bytes headers_size 0x1000 ≡ None
   pub after_code : first_nonzero bytes (0x1000 + code) (data_start code) ≡ None
 
 right_length : (bytes : List ℕ) (code init : ℕ) → length_fault bytes code init ≡ None → length bytes ≡ data_start code + init
@@ -34,7 +35,7 @@ right_length bytes code init e = elim (cases_lt (length bytes) (data_start code 
 
 pub sound : (bytes : List ℕ) → fault_of bytes ≡ None → IsSound bytes (version_in bytes) (code_of bytes) (init_of bytes)
 unfolding fault_of
-sound bytes e = elim (cases_lt (length bytes) 232) [
+sound bytes e = elim (cases_lt (length bytes) headers_size) [
   | inl short ↦ let no : Some (Short (length bytes)) ≡ None = rw (lt-ltb _ _ short) at e in absurd cc
   | inr enough ↦
       let rest : fault_with bytes (version_in bytes) (code_of bytes) (init_of bytes) ≡ None = rw (le-ltb _ _ enough) at e in
@@ -68,20 +69,20 @@ value_at bytes (g ∷ fs) (suc i) f e h = value_at bytes fs i f e h.1
 -- the lengths that right headers name
 pub code_named : (bytes : List ℕ) (version : ImageVersion) (code init : ℕ) → Hold bytes (fields_of version code init) → code_of bytes ≡ code_length code
 unfolding elf_header program_header
-code_named bytes version code init h = value_at bytes (fields_of version code init) 27 (long 152 (code_length code)) refl h
+code_named bytes version code init h = value_at bytes (fields_of version code init) 27 (long (code_header + offsets.P_FILESZ) (code_length code)) refl h
 
 pub init_named : (bytes : List ℕ) (version : ImageVersion) (code init : ℕ) → Hold bytes (fields_of version code init) → init_of bytes ≡ data_length init
 unfolding elf_header program_header
-init_named bytes version code init h = value_at bytes (fields_of version code init) 19 (long 96 (data_length init)) refl h
+init_named bytes version code init h = value_at bytes (fields_of version code init) 19 (long (data_header + offsets.P_FILESZ) (data_length init)) refl h
 
 -- and the version
 shadow_named : (bytes : List ℕ) (version : ImageVersion) (code init : ℕ) → Hold bytes (fields_of version code init)
-    → number_at bytes 216 8 ≡ (profile_of version).shadow_size
+    → number_at bytes (shadow_header + offsets.P_MEMSZ) 8 ≡ (profile_of version).shadow_size
 unfolding elf_header program_header
 shadow_named bytes version code init h =
-    value_at bytes (fields_of version code init) 36 (long 216 (profile_of version).shadow_size) refl h
+    value_at bytes (fields_of version code init) 36 (long (shadow_header + offsets.P_MEMSZ) (profile_of version).shadow_size) refl h
 
-named_by : (bytes : List ℕ) (version : ImageVersion) → number_at bytes 216 8 ≡ (profile_of version).shadow_size
+named_by : (bytes : List ℕ) (version : ImageVersion) → number_at bytes (shadow_header + offsets.P_MEMSZ) 8 ≡ (profile_of version).shadow_size
     → version_in bytes ≡ version
 named_by bytes OneHart e = rw e refl
 named_by bytes EightHarts e = rw e refl

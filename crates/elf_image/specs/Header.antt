@@ -2,6 +2,8 @@
 use Rattle.std.specs.Prelude.{ℕ, ◌+◌, ◌-◌, ◌*◌, ◌/◌, ◌^◌, min, max, nat_le, Bool, ◌&&◌, List, [], ◌∷◌, ◌++◌}
 use Rattle.rv_image.specs.declared.version.ImageVersion.{ImageVersion}
 use Rattle.rv_image.specs.MemoryMap.{CODE_SIZE, CODE_START, DATA_END, DATA_START, SHADOW_START, START, profile_of}
+use Rattle.elf_bytes.specs.declared.places.TheConstants as offsets
+use Rattle.elf_bytes.specs.declared.values.TheConstants as values
 use Rattle.elf_image.specs.declared.field.Field.{Field}
 use Rattle.elf_image.specs.declared.field.Segment.{Segment}
 
@@ -19,36 +21,49 @@ long at value = record { at = at; size = 8; value = value }
 abbrev pub ident : ℕ → Field
 ident value = record { at = 0; size = 16; value = value }
 
+-- where the program headers of data, code and the shadow stack begin, and how many bytes the headers have
+abbrev pub data_header : ℕ
+data_header = offsets.ELF_HEADER_SIZE
+
+abbrev pub code_header : ℕ
+code_header = data_header + offsets.PROGRAM_HEADER_SIZE
+
+abbrev pub shadow_header : ℕ
+shadow_header = code_header + offsets.PROGRAM_HEADER_SIZE
+
+abbrev pub headers_size : ℕ
+headers_size = shadow_header + offsets.PROGRAM_HEADER_SIZE
+
 -- the ELF header of a RISC-V program of three segments; e_ident is 7f "ELF", ELFCLASS64, ELFDATA2LSB, EV_CURRENT and zeros
 unfoldable pub elf_header : List Field
 elf_header =
-    ident 0x01_01_02_46_4c_45_7f  -- e_ident
-    ∷ half 16 2  -- e_type: ET_EXEC
-    ∷ half 18 243  -- e_machine: EM_RISCV
-    ∷ word 20 1  -- e_version: EV_CURRENT
-    ∷ long 24 START  -- e_entry
-    ∷ long 32 64  -- e_phoff
-    ∷ long 40 0  -- e_shoff
-    ∷ word 48 0  -- e_flags
-    ∷ half 52 64  -- e_ehsize
-    ∷ half 54 56  -- e_phentsize
-    ∷ half 56 3  -- e_phnum
-    ∷ half 58 0  -- e_shentsize
-    ∷ half 60 0  -- e_shnum
-    ∷ half 62 0  -- e_shstrndx
+    ident values.IDENT
+    ∷ half offsets.E_TYPE 2  -- ET_EXEC
+    ∷ half offsets.E_MACHINE values.EM_RISCV
+    ∷ word offsets.E_VERSION values.EV_CURRENT
+    ∷ long offsets.E_ENTRY START
+    ∷ long offsets.E_PHOFF data_header
+    ∷ long offsets.E_SHOFF 0
+    ∷ word offsets.E_FLAGS 0
+    ∷ half offsets.E_EHSIZE offsets.ELF_HEADER_SIZE
+    ∷ half offsets.E_PHENTSIZE offsets.PROGRAM_HEADER_SIZE
+    ∷ half offsets.E_PHNUM 3
+    ∷ half offsets.E_SHENTSIZE 0
+    ∷ half offsets.E_SHNUM 0
+    ∷ half offsets.E_SHSTRNDX 0
     ∷ []
 
 -- the program header at an offset, of a segment that is loaded
 unfoldable pub program_header : ℕ → Segment → List Field
 program_header at s =
     word at 1  -- p_type: PT_LOAD
-    ∷ word (at + 4) s.flags  -- p_flags
-    ∷ long (at + 8) s.offset  -- p_offset
-    ∷ long (at + 16) s.address  -- p_vaddr
-    ∷ long (at + 24) s.address  -- p_paddr
-    ∷ long (at + 32) s.file_size  -- p_filesz
-    ∷ long (at + 40) s.memory_size  -- p_memsz
-    ∷ long (at + 48) 0x1000  -- p_align
+    ∷ word (at + offsets.P_FLAGS) s.flags
+    ∷ long (at + offsets.P_OFFSET) s.offset
+    ∷ long (at + offsets.P_VADDR) s.address
+    ∷ long (at + offsets.P_PADDR) s.address
+    ∷ long (at + offsets.P_FILESZ) s.file_size
+    ∷ long (at + offsets.P_MEMSZ) s.memory_size
+    ∷ long (at + offsets.P_ALIGN) 0x1000
     ∷ []
 
 -- where the data of a file with `code` bytes of code begin: on the page after the code
@@ -76,11 +91,12 @@ abbrev pub shadow_segment : ImageVersion → Segment
 shadow_segment version =
     record { flags = 6; offset = 0; address = SHADOW_START; file_size = 0; memory_size = (profile_of version).shadow_size }
 
--- the fields of a file of a version with `code` bytes of code and `init` of data: 232 bytes
+-- the fields of a file of a version with `code` bytes of code and `init` of data
 abbrev pub fields_of : ImageVersion → ℕ → ℕ → List Field
 fields_of version code init =
-    elf_header ++ program_header 64 (data_segment code init) ++ program_header 120 (code_segment code) ++ program_header 176 (shadow_segment version)
+    elf_header ++ program_header data_header (data_segment code init) ++ program_header code_header (code_segment code)
+    ++ program_header shadow_header (shadow_segment version)
 
 -- a field of at most 16 bytes that lies in the headers
 abbrev pub is_inside : Field → Bool
-is_inside f = nat_le 1 f.size && nat_le f.size 16 && nat_le (f.at + f.size) 232
+is_inside f = nat_le 1 f.size && nat_le f.size 16 && nat_le (f.at + f.size) headers_size

@@ -4,7 +4,7 @@ use Rattle.std.specs.List.{flat_map}
 use Rattle.byteorder.specs.Endian.{little_bytes}
 use Rattle.rv_image.specs.declared.version.ImageVersion.{ImageVersion}
 use Rattle.elf_image.specs.declared.field.Field.{Field}
-use Rattle.elf_image.specs.Header.{fields_of, data_start}
+use Rattle.elf_image.specs.Header.{fields_of, data_start, headers_size}
 
 -- a field's value, the lowest byte first
 abbrev pub field_bytes : Field → List ℕ
@@ -20,6 +20,6 @@ zeros n = replicate n 0
 -- the bytes of the image of this version, this code and these data
 unfoldable pub spelling : ImageVersion → List ℕ → List ℕ → List ℕ
 spelling version code init =
-    headers version (length code) (length init) ++ zeros (0x1000 - 232)
+    headers version (length code) (length init) ++ zeros (0x1000 - headers_size)
     ++ code ++ zeros (data_start (length code) - 0x1000 - length code)
     ++ init

@@ -3,7 +3,7 @@ ghost use Rattle.std.specs.Prelude.{◌≡◌};
 /// A field of the headers: its offset in the file, its size in bytes and its value.
 #[derive(Clone, Copy)]
 pub(crate) struct Field {
-    pub(crate) at: usize,
+    pub(crate) at: u64,
     pub(crate) size: usize,
     pub(crate) value: u128,
 }
@@ -19,21 +19,21 @@ pub(crate) struct Segment {
 }
 
 /// An `Elf64_Half`.
-pub(crate) fn half(at: usize, value: u128) -> Field
+pub(crate) fn half(at: u64, value: u128) -> Field
     ensures { result ≡ record { at = at; size = 2; value = value } }
 {
     Field { at, size: 2, value }
 }
 
 /// An `Elf64_Word`.
-pub(crate) fn word(at: usize, value: u128) -> Field
+pub(crate) fn word(at: u64, value: u128) -> Field
     ensures { result ≡ record { at = at; size = 4; value = value } }
 {
     Field { at, size: 4, value }
 }
 
 /// An `Elf64_Xword`, `Elf64_Addr` or `Elf64_Off`.
-pub(crate) fn long(at: usize, value: u128) -> Field
+pub(crate) fn long(at: u64, value: u128) -> Field
     ensures { result ≡ record { at = at; size = 8; value = value } }
 {
     Field { at, size: 8, value }

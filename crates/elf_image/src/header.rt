@@ -1,8 +1,14 @@
 ghost use Rattle.std.specs.Prelude.{◌≡◌, ◌≤◌, ◌<◌, ◌^◌, IsTrue};
 ghost use Rattle.std.specs.List.{list_all};
-ghost use Rattle.elf_image.specs.Header.{elf_header, program_header, data_segment, code_segment, shadow_segment, data_start, is_inside};
+ghost use Rattle.elf_image.specs.Header.{elf_header, program_header, shadow_header, data_segment, code_segment, shadow_segment, data_start, is_inside};
 
 use super::field::{Field, Segment, half, ident, long, word};
+use elf_bytes::places::{
+    E_EHSIZE, E_ENTRY, E_FLAGS, E_MACHINE, E_PHENTSIZE, E_PHNUM, E_PHOFF, E_SHENTSIZE, E_SHNUM,
+    E_SHOFF, E_SHSTRNDX, E_TYPE, E_VERSION, ELF_HEADER_SIZE, P_ALIGN, P_FILESZ, P_FLAGS, P_MEMSZ,
+    P_OFFSET, P_PADDR, P_VADDR, PROGRAM_HEADER_SIZE,
+};
+use elf_bytes::values::{EM_RISCV, EV_CURRENT, IDENT};
 use rv_image::ImageVersion;
 use rv_image::memory_map::{CODE_SIZE, CODE_START, DATA_END, DATA_START, SHADOW_START};
 use rv_image::profile::START;
@@ -10,8 +16,17 @@ use rv_image::profile::START;
 /// How many bytes a page has, on which code and data begin.
 pub(crate) const PAGE: u128 = 0x1000;
 
+/// Where the program header of the data begins.
+pub(crate) const DATA_HEADER: u64 = ELF_HEADER_SIZE;
+
+/// Where the program header of the code begins.
+pub(crate) const CODE_HEADER: u64 = DATA_HEADER + PROGRAM_HEADER_SIZE;
+
+/// Where the program header of the shadow stack begins.
+pub(crate) const SHADOW_HEADER: u64 = CODE_HEADER + PROGRAM_HEADER_SIZE;
+
 /// How many bytes the headers have.
-pub(crate) const HEADERS: usize = 232;
+pub(crate) const HEADERS: usize = (SHADOW_HEADER + PROGRAM_HEADER_SIZE) as usize;
 
 /// Where the data begin in a file with this much code.
 pub(crate) fn data_offset(code: u128) -> u128
@@ -28,39 +43,39 @@ pub(crate) fn elf_header() -> [Field; 14]
     ensures inside { IsTrue (list_all is_inside result) }
 {
     [
-        ident(0x01_01_02_46_4c_45_7f), // e_ident
-        half(16, 2), // e_type: ET_EXEC
-        half(18, 243), // e_machine: EM_RISCV
-        word(20, 1), // e_version: EV_CURRENT
-        long(24, u128::from(START)), // e_entry
-        long(32, 64), // e_phoff
-        long(40, 0), // e_shoff
-        word(48, 0), // e_flags
-        half(52, 64), // e_ehsize
-        half(54, 56), // e_phentsize
-        half(56, 3), // e_phnum
-        half(58, 0), // e_shentsize
-        half(60, 0), // e_shnum
-        half(62, 0), // e_shstrndx
+        ident(u128::from(IDENT)),
+        half(E_TYPE, 2), // ET_EXEC
+        half(E_MACHINE, u128::from(EM_RISCV)),
+        word(E_VERSION, u128::from(EV_CURRENT)),
+        long(E_ENTRY, u128::from(START)),
+        long(E_PHOFF, u128::from(DATA_HEADER)),
+        long(E_SHOFF, 0),
+        word(E_FLAGS, 0),
+        half(E_EHSIZE, u128::from(ELF_HEADER_SIZE)),
+        half(E_PHENTSIZE, u128::from(PROGRAM_HEADER_SIZE)),
+        half(E_PHNUM, 3),
+        half(E_SHENTSIZE, 0),
+        half(E_SHNUM, 0),
+        half(E_SHSTRNDX, 0),
     ]
 }
 
 /// The fields of the program header at `at`.
 #[tactic(auto, unfolding(crate::specs::Header::program_header))]
-pub(crate) fn program_header(at: usize, segment: Segment) -> [Field; 8]
-    requires { at ≤ 176 }
+pub(crate) fn program_header(at: u64, segment: Segment) -> [Field; 8]
+    requires { at ≤ shadow_header }
     ensures value { result ≡ program_header at segment }
     ensures inside { IsTrue (list_all is_inside result) }
 {
     [
         word(at, 1), // p_type: PT_LOAD
-        word(at + 4, segment.flags), // p_flags
-        long(at + 8, segment.offset), // p_offset
-        long(at + 16, segment.address), // p_vaddr
-        long(at + 24, segment.address), // p_paddr
-        long(at + 32, segment.file_size), // p_filesz
-        long(at + 40, segment.memory_size), // p_memsz
-        long(at + 48, PAGE), // p_align
+        word(at + P_FLAGS, segment.flags),
+        long(at + P_OFFSET, segment.offset),
+        long(at + P_VADDR, segment.address),
+        long(at + P_PADDR, segment.address),
+        long(at + P_FILESZ, segment.file_size),
+        long(at + P_MEMSZ, segment.memory_size),
+        long(at + P_ALIGN, PAGE),
     ]
 }
 

@@ -3,27 +3,28 @@ ghost use Rattle.std.specs.List.{list_all};
 ghost use Rattle.std.specs.Option.{option_or};
 ghost use Rattle.rv_image.specs.Image.{IsImageSize};
 ghost use Rattle.elf_bytes.specs.Fields.{number_at};
-ghost use Rattle.elf_image.specs.Header.{fields_of, data_start, is_inside};
+ghost use Rattle.elf_image.specs.Header.{headers_size, fields_of, data_start, is_inside};
 ghost use Rattle.elf_image.specs.Spelling.{spelling};
 ghost use Rattle.elf_image.specs.Fault.{first_wrong, first_nonzero, version_in, code_of, init_of, length_fault, fault_of};
 
 use super::field::Field;
 use super::header::{
-    HEADERS, PAGE, code_segment, data_offset, data_segment, elf_header, program_header,
-    shadow_segment,
+    CODE_HEADER, DATA_HEADER, HEADERS, PAGE, SHADOW_HEADER, code_segment, data_offset,
+    data_segment, elf_header, program_header, shadow_segment,
 };
 use super::refusal::ImageRefusal;
 use byteorder::{ByteOrder, LittleEndian};
+use elf_bytes::places::{P_FILESZ, P_MEMSZ};
 use elf_bytes::u64_at;
 use rv_image::{Image, ImageVersion};
 
 /// Where the headers name the length of the code and of the data: `p_filesz` of their segments.
-const CODE_LENGTH: u64 = 152;
+const CODE_LENGTH: u64 = CODE_HEADER + P_FILESZ;
 
-const INIT_LENGTH: u64 = 96;
+const INIT_LENGTH: u64 = DATA_HEADER + P_FILESZ;
 
 /// Where they name the size of the shadow stack, by which versions differ: `p_memsz` of its segment.
-const SHADOW_LENGTH: usize = 216;
+const SHADOW_LENGTH: u64 = SHADOW_HEADER + P_MEMSZ;
 
 /// What a file is made of: its version, where its code ends and where its data begin.
 #[derive(Clone, Copy)]
@@ -61,7 +62,7 @@ fn parts_of(bytes: &[u8]) -> Result<Parts, ImageRefusal>
     let (code, init) = named_lengths(bytes)?;
     let version = named_version(bytes);
     if let Some(at) = first_wrong_field(bytes, version, code, init) {
-        return Err(ImageRefusal::Byte(at as u64));
+        return Err(ImageRefusal::Byte(at));
     }
     let start = data_place(bytes, code, init)?;
     let end = PAGE as usize + code as usize;
@@ -77,10 +78,10 @@ fn parts_of(bytes: &[u8]) -> Result<Parts, ImageRefusal>
 
 /// The lengths of code and data that the program headers name.
 fn named_lengths(bytes: &[u8]) -> Result<(u64, u64), ImageRefusal>
-    ensures long { OnOk result (232 ≤ length bytes.now) }
+    ensures long { OnOk result (headers_size ≤ length bytes.now) }
     ensures code { IfOk result (λ lengths. lengths.0 ≡ code_of bytes.now) }
     ensures init { IfOk result (λ lengths. lengths.1 ≡ init_of bytes.now) }
-    ensures short { IfErr result (λ e. (length bytes.now < 232) × (e ≡ ImageRefusal.Short (length bytes.now))) }
+    ensures short { IfErr result (λ e. (length bytes.now < headers_size) × (e ≡ ImageRefusal.Short (length bytes.now))) }
 {
     let len = bytes.len() as u64;
     match (u64_at(bytes, CODE_LENGTH), u64_at(bytes, INIT_LENGTH)) {
@@ -91,7 +92,7 @@ fn named_lengths(bytes: &[u8]) -> Result<(u64, u64), ImageRefusal>
 
 /// The version whose shadow stack has the size that the program headers name, and version 1 where neither has.
 fn named_version(bytes: &[u8]) -> ImageVersion
-    requires { 232 ≤ length bytes.now }
+    requires { headers_size ≤ length bytes.now }
     ensures { result ≡ version_in bytes.now }
 {
     if number(bytes, SHADOW_LENGTH, 8) == u128::from(ImageVersion::EightHarts.shadow_size()) {
@@ -102,21 +103,24 @@ fn named_version(bytes: &[u8]) -> ImageVersion
 }
 
 /// The offset of the first field of the headers that is not as this version and these lengths want it.
-fn first_wrong_field(bytes: &[u8], version: ImageVersion, code: u64, init: u64) -> Option<usize>
-    requires { 232 ≤ length bytes.now }
+fn first_wrong_field(bytes: &[u8], version: ImageVersion, code: u64, init: u64) -> Option<u64>
+    requires { headers_size ≤ length bytes.now }
     ensures { result ≡ first_wrong bytes.now (fields_of version code init) }
 {
     let (code, init) = (u128::from(code), u128::from(init));
+    let of_data = program_header(DATA_HEADER, data_segment(code, init));
+    let of_code = program_header(CODE_HEADER, code_segment(code));
+    let of_shadow = program_header(SHADOW_HEADER, shadow_segment(version));
     first_fault(bytes, &elf_header())
-        .or(first_fault(bytes, &program_header(64, data_segment(code, init))))
-        .or(first_fault(bytes, &program_header(120, code_segment(code))))
-        .or(first_fault(bytes, &program_header(176, shadow_segment(version))))
+        .or(first_fault(bytes, &of_data))
+        .or(first_fault(bytes, &of_code))
+        .or(first_fault(bytes, &of_shadow))
 }
 
 /// The offset of the first of these fields that has another value.
 #[tactic(auto, unfolding(crate::specs::Fault::first_wrong))]
-fn first_fault(bytes: &[u8], fields: &[Field]) -> Option<usize>
-    requires long { 232 ≤ length bytes.now }
+fn first_fault(bytes: &[u8], fields: &[Field]) -> Option<u64>
+    requires long { headers_size ≤ length bytes.now }
     requires inside { IsTrue (list_all is_inside fields.now) }
     ensures { result ≡ first_wrong bytes.now fields.now }
 {
@@ -130,13 +134,13 @@ fn first_fault(bytes: &[u8], fields: &[Field]) -> Option<usize>
 
 /// The number in the `size` bytes at `at`.
 #[tactic(auto, unfolding(elf_bytes::specs::Fields::number_at))]
-fn number(bytes: &[u8], at: usize, size: usize) -> u128
+fn number(bytes: &[u8], at: u64, size: usize) -> u128
     requires some { 1 ≤ size }
     requires most { size ≤ 16 }
     requires inside { at + size ≤ length bytes.now }
     ensures { result ≡ number_at bytes.now at size }
 {
-    LittleEndian::read_uint128(&bytes[at..], size)
+    LittleEndian::read_uint128(&bytes[at as usize..], size)
 }
 
 /// Where the data begin, if the file ends with them.
@@ -164,7 +168,7 @@ fn first_wrong_padding(bytes: &[u8], end: usize, start: usize) -> Option<usize>
     requires order { 0x1000 ≤ end }
     requires room { end ≤ start }
     requires inside { start ≤ length bytes.now }
-    ensures { result ≡ option_or (first_nonzero bytes.now 232 0x1000) (first_nonzero bytes.now end start) }
+    ensures { result ≡ option_or (first_nonzero bytes.now headers_size 0x1000) (first_nonzero bytes.now end start) }
 {
     nonzero_within(bytes, HEADERS, PAGE as usize).or_else(|| nonzero_within(bytes, end, start))
 }

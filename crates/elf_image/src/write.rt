@@ -7,8 +7,8 @@ ghost use Rattle.elf_image.specs.Spelling.{field_bytes, headers, zeros, spelling
 
 use super::field::Field;
 use super::header::{
-    HEADERS, PAGE, code_segment, data_offset, data_segment, elf_header, program_header,
-    shadow_segment,
+    CODE_HEADER, DATA_HEADER, HEADERS, PAGE, SHADOW_HEADER, code_segment, data_offset,
+    data_segment, elf_header, program_header, shadow_segment,
 };
 use rv_image::ImageVersion;
 use rv_word::NoMemory;
@@ -55,9 +55,12 @@ fn put_headers(
     ensures { OnOk result (file.new.items ≡ file.old.items ++ headers version code init) }
 {
     put_fields(file, &elf_header())?;
-    put_fields(file, &program_header(64, data_segment(code, init)))?;
-    put_fields(file, &program_header(120, code_segment(code)))?;
-    put_fields(file, &program_header(176, shadow_segment(version)))
+    put_fields(file, &program_header(DATA_HEADER, data_segment(code, init)))?;
+    put_fields(file, &program_header(CODE_HEADER, code_segment(code)))?;
+    put_fields(
+        file,
+        &program_header(SHADOW_HEADER, shadow_segment(version)),
+    )
 }
 
 /// Appends the values of these fields.

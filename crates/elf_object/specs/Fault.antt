@@ -3,6 +3,7 @@ use Rattle.std.specs.Prelude.{◌≡◌, ℕ, ◌+◌, nat_lt, Bool, ◌==◌, �
 use Rattle.std.specs.Option.{option_or}
 use Rattle.elf_object.specs.declared.fault.ObjectFault.{ObjectFault}
 use Rattle.elf_object.specs.declared.fault.ObjectFault.TheVariants.{NotElf, NotRelocatable, NotRiscv, Flags, Truncated, BadTable, SectionKind, BadSymbol}
+use Rattle.elf_bytes.specs.declared.values.TheConstants as values
 use Rattle.rv_word.specs.declared.end.End.{End}
 use Rattle.rv_word.specs.declared.end.End.TheVariants.{Fault, NoMemory}
 use Rattle.least.specs.First.{first_below}
@@ -20,7 +21,7 @@ unfoldable pub header_fault : List ℕ → Option ObjectFault
 header_fault bytes =
     if not (is_elf bytes) then Some NotElf else
     if not (e_type bytes == 1) then Some (NotRelocatable (e_type bytes)) else
-    if not (e_machine bytes == 243) then Some (NotRiscv (e_machine bytes)) else
+    if not (e_machine bytes == values.EM_RISCV) then Some (NotRiscv (e_machine bytes)) else
     if not (are_flags_taken (e_flags bytes)) then Some (Flags (e_flags bytes)) else None
 
 -- the bytes of a section leave the file

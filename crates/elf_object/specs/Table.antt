@@ -1,5 +1,6 @@
 -- Wrong tables of names, symbols and relocations (System V gABI, "Special Sections", "sh_link and sh_info Interpretation").
 use Rattle.std.specs.Prelude.{ℕ, nat_lt, nat_le, Bool, false, ◌==◌, ◌&&◌, ◌||◌, not, is_some, is_none, Option, Some, None, List}
+use Rattle.elf_bytes.specs.declared.places.TheConstants as offsets
 use Rattle.elf_tables.specs.declared.header.SectionHeader.{SectionHeader}
 use Rattle.least.specs.First.{first_below}
 use Rattle.elf_tables.specs.Header.{e_shoff, e_shentsize, e_shnum, e_shstrndx}
@@ -15,7 +16,7 @@ is_string_table bytes index = nat_lt index (e_shnum bytes) && (section_header by
 -- or one without a table of names
 abbrev pub has_wrong_header : List ℕ → Bool
 has_wrong_header bytes =
-    not (e_shentsize bytes == 64) || nat_le 0xff00 (e_shnum bytes) || not (is_string_table bytes (e_shstrndx bytes))
+    not (e_shentsize bytes == offsets.SECTION_HEADER_SIZE) || nat_le 0xff00 (e_shnum bytes) || not (is_string_table bytes (e_shstrndx bytes))
 
 abbrev pub is_wrong_start : List ℕ → Bool
 is_wrong_start bytes =

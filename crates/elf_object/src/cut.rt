@@ -2,11 +2,13 @@
 
 ghost use Rattle.std.specs.Prelude.{◌≡◌, ◌<◌, ◌≤◌, None, Some, IfOk, OnOk, IfErr, length};
 ghost use Rattle.rv_word.specs.End.{IsFaultOf};
+ghost use Rattle.elf_bytes.specs.declared.places.TheConstants.{ELF_HEADER_SIZE};
 ghost use Rattle.elf_tables.specs.Header.{e_shnum};
 ghost use Rattle.least.specs.First.{first_below};
 ghost use Rattle.elf_object.specs.Fault.{is_cut, cut_section, truncated};
 
 use crate::fault::ObjectFault;
+use elf_bytes::places::E_SHOFF;
 use elf_tables::{Sections, long};
 use least::first_below;
 use rv_word::End;
@@ -39,13 +41,13 @@ pub(crate) fn cut_section(sections: &Sections) -> Option<ObjectFault>
 /// The sections of a file with room for the ELF header, if they and their headers lie in it.
 #[tactic(auto, unfolding(crate::specs::Fault::truncated))]
 pub(crate) fn whole_sections<'a>(bytes: &'a [u8]) -> Result<Sections<'a>, End<ObjectFault>>
-    requires { 64 ≤ length bytes.now }
+    requires { ELF_HEADER_SIZE ≤ length bytes.now }
     ensures file { IfOk result (λ s. s ≡ bytes.now) }
     ensures whole { OnOk result (truncated bytes.now ≡ None) }
     ensures truncated { IfErr result (IsFaultOf (truncated bytes.now)) }
 {
     let Some(sections) = Sections::of(bytes) else {
-        return Err(End::Fault(ObjectFault::Truncated(long(bytes, 40))));
+        return Err(End::Fault(ObjectFault::Truncated(long(bytes, E_SHOFF))));
     };
     match cut_section(&sections) {
         Some(fault) => Err(End::Fault(fault)),

@@ -6,7 +6,7 @@ ghost use Rattle.elf_tables.specs.Symbol.{symbol_count};
 ghost use Rattle.elf_tables.specs.Relocation.{relocation_bytes, relocation_count};
 ghost use Rattle.elf_object.specs.Stray.{stray_at, stray_in, stray_symbol};
 
-use elf_tables::constants::ENTRY_SIZE;
+use elf_bytes::places::ENTRY_SIZE;
 use elf_tables::{Lookup, Reloc};
 use least::{least_below, least_below_u64};
 

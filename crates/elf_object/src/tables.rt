@@ -6,9 +6,8 @@ ghost use Rattle.elf_tables.specs.Table.{is_symbol_table, relocates, symbol_tabl
 ghost use Rattle.elf_object.specs.Table.{has_wrong_header, is_number, is_string_table, is_wrong_rel, is_wrong_rela, is_wrong_rela_of_kept, is_wrong_start, is_wrong_symbol_table, is_wrong_table, is_wrong_table_of};
 ghost use Rattle.elf_tables.specs.Relocation.{relocations_of};
 
-use elf_tables::constants::{
-    SECTION_HEADER_SIZE, SHN_LORESERVE, SHT_REL, SHT_RELA, SHT_STRTAB, SHT_SYMTAB,
-};
+use elf_bytes::places::SECTION_HEADER_SIZE;
+use elf_tables::constants::{SHN_LORESERVE, SHT_REL, SHT_RELA, SHT_STRTAB, SHT_SYMTAB};
 use elf_tables::{Lookup, SectionHeader, Sections};
 use least::first_below;
 

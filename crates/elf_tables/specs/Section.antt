@@ -1,6 +1,7 @@
 -- Sections: their headers and their bytes (System V gABI, "Sections").
 use Rattle.std.specs.Prelude.{ℕ, ◌+◌, ◌*◌, nat_lt, Bool, ◌==◌, ◌||◌, not, if◌then◌else◌, Option, List, [], take, drop}
 use Rattle.elf_bytes.specs.Fields.{number_at, string_at}
+use Rattle.elf_bytes.specs.declared.places.TheConstants as offsets
 use Rattle.elf_tables.specs.declared.header.SectionHeader.{SectionHeader}
 use Rattle.elf_tables.specs.Header.{e_shoff, e_shnum, e_shstrndx}
 
@@ -8,19 +9,19 @@ use Rattle.elf_tables.specs.Header.{e_shoff, e_shnum, e_shstrndx}
 unfoldable pub section_header_at : List ℕ → ℕ → SectionHeader
 section_header_at bytes at = record {
   name = number_at bytes at 4;  -- sh_name
-  kind = number_at bytes (at + 4) 4;  -- sh_type
-  flags = number_at bytes (at + 8) 8;  -- sh_flags
-  offset = number_at bytes (at + 24) 8;  -- sh_offset
-  size = number_at bytes (at + 32) 8;  -- sh_size
-  link = number_at bytes (at + 40) 4;  -- sh_link
-  info = number_at bytes (at + 44) 4;  -- sh_info
-  align = number_at bytes (at + 48) 8;  -- sh_addralign
-  entry_size = number_at bytes (at + 56) 8;  -- sh_entsize
+  kind = number_at bytes (at + offsets.SH_TYPE) 4;
+  flags = number_at bytes (at + offsets.SH_FLAGS) 8;
+  offset = number_at bytes (at + offsets.SH_OFFSET) 8;
+  size = number_at bytes (at + offsets.SH_SIZE) 8;
+  link = number_at bytes (at + offsets.SH_LINK) 4;
+  info = number_at bytes (at + offsets.SH_INFO) 4;
+  align = number_at bytes (at + offsets.SH_ADDRALIGN) 8;
+  entry_size = number_at bytes (at + offsets.SH_ENTSIZE) 8;
 }
 
 -- the header of the section with this index
 abbrev pub section_header : List ℕ → ℕ → SectionHeader
-section_header bytes index = section_header_at bytes (e_shoff bytes + 64 * index)
+section_header bytes index = section_header_at bytes (e_shoff bytes + offsets.SECTION_HEADER_SIZE * index)
 
 -- a section that has bytes in the file: any but SHT_NULL and SHT_NOBITS
 abbrev pub is_in_file : SectionHeader → Bool

@@ -1,6 +1,7 @@
 -- Symbols (System V gABI, "Symbol Table").
 use Rattle.std.specs.Prelude.{ℕ, ◌+◌, ◌*◌, ◌/◌, ◌%◌, ◌^◌, Option, Some, None, List, [], length, slice_index}
 use Rattle.elf_bytes.specs.Fields.{number_at, string_at}
+use Rattle.elf_bytes.specs.declared.places.TheConstants as offsets
 use Rattle.elf_tables.specs.declared.entry.SymbolEntry.{SymbolEntry}
 use Rattle.elf_tables.specs.Section.{section_header, section_bytes}
 use Rattle.elf_tables.specs.Table.{symbol_table}
@@ -22,16 +23,16 @@ symbol_names bytes = linked_bytes bytes (symbol_table bytes)
 
 -- how many symbols there are, number 0 among them
 abbrev pub symbol_count : List ℕ → ℕ
-symbol_count bytes = length (symbol_bytes bytes) / 24
+symbol_count bytes = length (symbol_bytes bytes) / offsets.ENTRY_SIZE
 
 -- the symbol with a number in the bytes of a symbol table
 unfoldable pub symbol_in : List ℕ → ℕ → SymbolEntry
 symbol_in table number = record {
-  name = number_at table (24 * number) 4;  -- st_name
-  info = slice_index table (24 * number + 4);  -- st_info
-  section = number_at table (24 * number + 6) 2;  -- st_shndx
-  value = number_at table (24 * number + 8) 8;  -- st_value
-  size = number_at table (24 * number + 16) 8;  -- st_size
+  name = number_at table (offsets.ENTRY_SIZE * number) 4;  -- st_name
+  info = slice_index table (offsets.ENTRY_SIZE * number + offsets.ST_INFO);
+  section = number_at table (offsets.ENTRY_SIZE * number + offsets.ST_SHNDX) 2;
+  value = number_at table (offsets.ENTRY_SIZE * number + offsets.ST_VALUE) 8;
+  size = number_at table (offsets.ENTRY_SIZE * number + offsets.ST_SIZE) 8;
 }
 
 abbrev pub symbol : List ℕ → ℕ → SymbolEntry

@@ -1,5 +1,6 @@
 -- The tables of symbols and relocations (System V gABI, "Special Sections", "sh_link and sh_info Interpretation").
 use Rattle.std.specs.Prelude.{ℕ, ◌%◌, Bool, ◌==◌, ◌&&◌, Option, List}
+use Rattle.elf_bytes.specs.declared.places.TheConstants as offsets
 use Rattle.elf_tables.specs.declared.header.SectionHeader.{SectionHeader}
 use Rattle.least.specs.First.{first_below}
 use Rattle.elf_tables.specs.Header.{e_shnum}
@@ -17,6 +18,6 @@ symbol_table bytes = first_below (is_symbol_table bytes) (e_shnum bytes)
 abbrev pub relocates : List ℕ → ℕ → ℕ → Bool
 relocates bytes target index = (section_header bytes index).kind == 4 && (section_header bytes index).info == target
 
--- whole entries of 24 bytes, as of Elf64_Sym and Elf64_Rela
+-- whole entries, as of Elf64_Sym and Elf64_Rela
 abbrev pub has_entries : SectionHeader → Bool
-has_entries h = h.entry_size == 24 && h.size % 24 == 0
+has_entries h = h.entry_size == offsets.ENTRY_SIZE && h.size % offsets.ENTRY_SIZE == 0

@@ -3,9 +3,6 @@
 /// The `e_type` of a relocatable file.
 pub const ET_REL: u16 = 1;
 
-/// The `e_machine` of RISC-V.
-pub const EM_RISCV: u16 = 243;
-
 /// The bit of `e_flags` that asks for the memory order RVTSO (RISC-V ELF psABI, "File Header").
 pub const EF_RISCV_TSO: u32 = 0x10;
 
@@ -92,9 +89,3 @@ pub const STB_GLOBAL: u8 = 1;
 
 /// The binding of a symbol that yields to a global one of its name.
 pub const STB_WEAK: u8 = 2;
-
-/// The size of a section header, `Elf64_Shdr`.
-pub const SECTION_HEADER_SIZE: u64 = 64;
-
-/// The size of a symbol, `Elf64_Sym`, and of a relocation with an addend, `Elf64_Rela`.
-pub const ENTRY_SIZE: u64 = 24;

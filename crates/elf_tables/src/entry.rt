@@ -1,9 +1,10 @@
 ghost use Rattle.std.specs.Prelude.{◌≡◌, ◌+◌, ◌*◌, ◌≤◌, length};
+ghost use Rattle.elf_bytes.specs.declared.places.TheConstants.{ENTRY_SIZE};
 ghost use Rattle.elf_tables.specs.Symbol.{symbol_binding, symbol_in, symbol_type};
 ghost use Rattle.elf_tables.specs.Relocation.{relocation_in};
 
-use crate::constants::ENTRY_SIZE;
 use crate::field::{half, long, word};
+use elf_bytes::places::{ENTRY_SIZE, R_ADDEND, R_INFO, ST_INFO, ST_SHNDX, ST_SIZE, ST_VALUE};
 
 /// A symbol as it stands in the symbol table (System V gABI, "Symbol Table"): where its name begins
 /// in the table of names, and its `st_info`, `st_shndx`, `st_value` and `st_size`.
@@ -20,16 +21,16 @@ impl SymbolEntry {
     /// The symbol with this number in the bytes of a symbol table.
     #[tactic(auto, unfolding(crate::specs::Symbol::symbol_in))]
     pub fn read(table: &[u8], number: u64) -> SymbolEntry
-        requires { 24 * number + 24 ≤ length table.now }
+        requires { ENTRY_SIZE * number + ENTRY_SIZE ≤ length table.now }
         ensures { result ≡ symbol_in table.now number }
     {
         let at = ENTRY_SIZE * number;
         SymbolEntry {
             name: word(table, at),
-            info: table[(at + 4) as usize],
-            section: half(table, at + 6),
-            value: long(table, at + 8),
-            size: long(table, at + 16),
+            info: table[(at + ST_INFO) as usize],
+            section: half(table, at + ST_SHNDX),
+            value: long(table, at + ST_VALUE),
+            size: long(table, at + ST_SIZE),
         }
     }
 
@@ -62,16 +63,16 @@ impl Reloc {
     /// The relocation with this index in the bytes of an `SHT_RELA` section.
     #[tactic(auto, unfolding(crate::specs::Relocation::relocation_in))]
     pub fn read(table: &[u8], index: u64) -> Reloc
-        requires { 24 * index + 24 ≤ length table.now }
+        requires { ENTRY_SIZE * index + ENTRY_SIZE ≤ length table.now }
         ensures { result ≡ relocation_in table.now index }
     {
         let at = ENTRY_SIZE * index;
-        let info = long(table, at + 8);
+        let info = long(table, at + R_INFO);
         Reloc {
             offset: long(table, at),
             symbol: (info >> 32) as u32,
             kind: (info & 0xffff_ffff) as u32,
-            addend: long(table, at + 16).cast_signed(),
+            addend: long(table, at + R_ADDEND).cast_signed(),
         }
     }
 }

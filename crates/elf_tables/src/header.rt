@@ -1,12 +1,14 @@
 ghost use Rattle.std.specs.Prelude.{◌≡◌, ◌+◌, ◌≤◌, length};
+ghost use Rattle.elf_bytes.specs.declared.places.TheConstants.{SECTION_HEADER_SIZE};
 ghost use Rattle.elf_tables.specs.Section.{section_header_at, is_in_file};
 ghost use Rattle.elf_tables.specs.Kept.{is_writable, is_allocated, is_executable, is_thread_local};
 ghost use Rattle.elf_tables.specs.Table.{has_entries};
 
-use crate::constants::{
-    ENTRY_SIZE, SHF_ALLOC, SHF_EXECINSTR, SHF_TLS, SHF_WRITE, SHT_NOBITS, SHT_NULL,
-};
+use crate::constants::{SHF_ALLOC, SHF_EXECINSTR, SHF_TLS, SHF_WRITE, SHT_NOBITS, SHT_NULL};
 use crate::field::{long, word};
+use elf_bytes::places::{
+    ENTRY_SIZE, SH_ADDRALIGN, SH_ENTSIZE, SH_FLAGS, SH_INFO, SH_LINK, SH_OFFSET, SH_SIZE, SH_TYPE,
+};
 
 /// A section header (System V gABI, "Section Header"), without its address.
 #[derive(Clone, Copy)]
@@ -26,19 +28,19 @@ impl SectionHeader {
     /// The section header at `at`, which lies in the file.
     #[tactic(auto, unfolding(crate::specs::Section::section_header_at))]
     pub fn read(bytes: &[u8], at: u64) -> SectionHeader
-        requires { at + 64 ≤ length bytes.now }
+        requires { at + SECTION_HEADER_SIZE ≤ length bytes.now }
         ensures { result ≡ section_header_at bytes.now at }
     {
         SectionHeader {
             name: word(bytes, at),
-            kind: word(bytes, at + 4),
-            flags: long(bytes, at + 8),
-            offset: long(bytes, at + 24),
-            size: long(bytes, at + 32),
-            link: word(bytes, at + 40),
-            info: word(bytes, at + 44),
-            align: long(bytes, at + 48),
-            entry_size: long(bytes, at + 56),
+            kind: word(bytes, at + SH_TYPE),
+            flags: long(bytes, at + SH_FLAGS),
+            offset: long(bytes, at + SH_OFFSET),
+            size: long(bytes, at + SH_SIZE),
+            link: word(bytes, at + SH_LINK),
+            info: word(bytes, at + SH_INFO),
+            align: long(bytes, at + SH_ADDRALIGN),
+            entry_size: long(bytes, at + SH_ENTSIZE),
         }
     }
 
@@ -77,7 +79,7 @@ impl SectionHeader {
         self.flags & SHF_TLS != 0
     }
 
-    /// Whether the section has whole entries of 24 bytes, as of symbols and relocations.
+    /// Whether the section has whole entries, as of symbols and relocations.
     pub fn has_entries(&self) -> bool
         ensures { result ≡ has_entries self.now }
     {

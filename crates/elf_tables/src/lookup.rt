@@ -7,12 +7,13 @@ ghost use Rattle.elf_tables.specs.Table.{is_symbol_table, symbol_table};
 ghost use Rattle.elf_tables.specs.Symbol.{bytes_of, linked_bytes, symbol, symbol_count, symbol_names};
 ghost use Rattle.elf_tables.specs.Relocation.{relocation_bytes, relocations_of};
 
-use crate::constants::{ENTRY_SIZE, SHT_NOTE, SHT_SYMTAB};
+use crate::constants::{SHT_NOTE, SHT_SYMTAB};
 use crate::entry::SymbolEntry;
 use crate::header::SectionHeader;
 use crate::sections::Sections;
 use crate::strings::Strings;
 use crate::targets::first_of_each;
+use elf_bytes::places::ENTRY_SIZE;
 use least::first_below;
 use rv_word::NoMemory;
 use std::alloc::Global;

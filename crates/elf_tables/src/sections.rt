@@ -1,10 +1,11 @@
 ghost use Rattle.std.specs.Prelude.{◌≡◌, ◌+◌, ◌*◌, ◌≤◌, ◌<◌, length, IfSome, OnSome, IfNone, take, drop, Option};
+ghost use Rattle.elf_bytes.specs.declared.places.TheConstants.{ELF_HEADER_SIZE};
 ghost use Rattle.elf_tables.specs.Header.{e_shentsize, e_shnum, e_shoff, e_shstrndx, section_headers_end};
 ghost use Rattle.elf_tables.specs.Section.{content, section_bytes, section_header};
 
-use crate::constants::SECTION_HEADER_SIZE;
 use crate::field::{half, long};
 use crate::header::SectionHeader;
+use elf_bytes::places::{E_SHENTSIZE, E_SHNUM, E_SHOFF, E_SHSTRNDX, SECTION_HEADER_SIZE};
 use std::marker::Model;
 
 /// A file whose section header table lies in it.
@@ -29,13 +30,13 @@ impl<'a> Model for Sections<'a> {
 impl<'a> Sections<'a> {
     /// The sections of a file, none where their headers leave it.
     pub fn of(bytes: &'a [u8]) -> Option<Sections<'a>>
-        requires { 64 ≤ length bytes.now }
+        requires { ELF_HEADER_SIZE ≤ length bytes.now }
         ensures file { IfSome result (λ s. s ≡ bytes.now) }
         ensures inside { OnSome result (section_headers_end bytes.now ≤ length bytes.now) }
         ensures outside { IfNone result (length bytes.now < section_headers_end bytes.now) }
     {
-        let at = long(bytes, 40);
-        let count = u32::from(half(bytes, 60));
+        let at = long(bytes, E_SHOFF);
+        let count = u32::from(half(bytes, E_SHNUM));
         let size = SECTION_HEADER_SIZE * u64::from(count);
         if (bytes.len() as u128) < u128::from(at) + u128::from(size) {
             return None;
@@ -68,14 +69,14 @@ impl<'a> Sections<'a> {
     pub fn header_size(&self) -> u16
         ensures { result ≡ e_shentsize self.now }
     {
-        half(self.bytes, 58)
+        half(self.bytes, E_SHENTSIZE)
     }
 
     /// The index of the section with the sections' names.
     pub fn names_index(&self) -> u32
         ensures { result ≡ e_shstrndx self.now }
     {
-        u32::from(half(self.bytes, 62))
+        u32::from(half(self.bytes, E_SHSTRNDX))
     }
 
     /// The header of the section with this index.

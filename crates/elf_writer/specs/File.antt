@@ -1,5 +1,6 @@
 -- An object file of sections: the ELF header, the contents, and the section headers (System V gABI, "Object Files").
 use Rattle.std.specs.Prelude.{ℕ, ◌+◌, List, [], ◌∷◌, ◌++◌, length, map, codes}
+use Rattle.elf_bytes.specs.declared.places.TheConstants as offsets
 use Rattle.elf_writer.specs.declared.heading.Heading.{Heading}
 use Rattle.elf_writer.specs.FileLayout.{up8, laid_out, place_of}
 use Rattle.elf_writer.specs.Names.{string_table}
@@ -28,14 +29,14 @@ headers_from name at (e ∷ es) =
 
 -- the section headers: that of section 0, and those of the sections, whose names begin after a NUL and whose contents after the ELF header
 unfoldable pub table : List Entry → List ℕ
-table es = header_bytes 0 0 null_heading ++ headers_from 1 64 es
+table es = header_bytes 0 0 null_heading ++ headers_from 1 offsets.ELF_HEADER_SIZE es
 
 abbrev pub table_place : List Entry → ℕ
-table_place es = place_of 64 (contents es) (length es)
+table_place es = place_of offsets.ELF_HEADER_SIZE (contents es) (length es)
 
 -- the file of these sections, the last of which has their names
 unfoldable pub file_of : ℕ → List Entry → List ℕ
-file_of flags es = elf_header flags (table_place es) (length es) ++ laid_out 64 (contents es ++ (table es ∷ []))
+file_of flags es = elf_header flags (table_place es) (length es) ++ laid_out offsets.ELF_HEADER_SIZE (contents es ++ (table es ∷ []))
 
 -- a table of names
 abbrev pub strings_entry : List ℕ → List ℕ → Entry

@@ -1,5 +1,7 @@
 -- The headers of an object, field by field in the order of the file (System V gABI, "ELF Header" and "Section Header").
 use Rattle.std.specs.Prelude.{ℕ, ◌+◌, List, [], ◌∷◌}
+use Rattle.elf_bytes.specs.declared.places.TheConstants as offsets
+use Rattle.elf_bytes.specs.declared.values.TheConstants as values
 use Rattle.elf_tables.specs.declared.header.SectionHeader.{SectionHeader}
 use Rattle.elf_writer.specs.declared.number.Number.{Number}
 use Rattle.elf_writer.specs.declared.heading.Heading.{Heading}
@@ -8,19 +10,19 @@ use Rattle.elf_writer.specs.Numbers.{half, word, long, numbers}
 -- the ELF header of a RISC-V object whose section headers stand at `at`, of so many sections beside section 0, the last with their names
 unfoldable pub elf_numbers : ℕ → ℕ → ℕ → List Number
 elf_numbers flags at sections =
-    long 0x01_01_02_46_4c_45_7f  -- e_ident: 7f "ELF", ELFCLASS64, ELFDATA2LSB, EV_CURRENT
+    long values.IDENT  -- e_ident
     ∷ long 0  -- e_ident: the rest
     ∷ half 1  -- e_type: ET_REL
-    ∷ half 243  -- e_machine: EM_RISCV
-    ∷ word 1  -- e_version: EV_CURRENT
+    ∷ half values.EM_RISCV  -- e_machine
+    ∷ word values.EV_CURRENT  -- e_version
     ∷ long 0  -- e_entry
     ∷ long 0  -- e_phoff
     ∷ long at  -- e_shoff
     ∷ word flags  -- e_flags
-    ∷ half 64  -- e_ehsize
+    ∷ half offsets.ELF_HEADER_SIZE  -- e_ehsize
     ∷ half 0  -- e_phentsize
     ∷ half 0  -- e_phnum
-    ∷ half 64  -- e_shentsize
+    ∷ half offsets.SECTION_HEADER_SIZE  -- e_shentsize
     ∷ half (sections + 1)  -- e_shnum
     ∷ half sections  -- e_shstrndx
     ∷ []

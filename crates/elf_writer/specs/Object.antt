@@ -1,5 +1,6 @@
 -- The file of an object: its sections, the relocations, the symbol table, and the names of symbols and of sections.
 use Rattle.std.specs.Prelude.{ℕ, Bool, ◌==◌, count_by, ◌+◌, List, [], ◌∷◌, ◌++◌, length, map, codes}
+use Rattle.elf_bytes.specs.declared.places.TheConstants as offsets
 use Rattle.elf_tables.specs.Symbol.{symbol_binding}
 use Rattle.elf_writer.specs.declared.heading.Heading.{Heading}
 use Rattle.elf_writer.specs.Names.{string_table}
@@ -13,9 +14,10 @@ section_heading p = record { kind = p.kind; flags = p.flags; size = p.size; link
 abbrev pub section_entry : SectionPart → Entry
 section_entry p = entry p.name (section_heading p) p.content
 
--- entries of 24 bytes, aligned to 8
+-- symbols or relocations, aligned to 8
 abbrev pub entries_heading : ℕ → ℕ → ℕ → ℕ → Heading
-entries_heading kind size link info = record { kind = kind; flags = 0; size = size; link = link; info = info; align = 8; entry_size = 24 }
+entries_heading kind size link info =
+    record { kind = kind; flags = 0; size = size; link = link; info = info; align = 8; entry_size = offsets.ENTRY_SIZE }
 
 -- SHT_RELA, with the symbols of the section `symbols`
 abbrev pub relocations_entry : ℕ → RelocationsPart → Entry

@@ -1,5 +1,6 @@
 -- A file that is being written, section by section. Only private contracts cite this.
 use Rattle.std.specs.Prelude.{ℕ, List, [], ◌∷◌, ◌++◌, length, drop, replicate, codes}
+use Rattle.elf_bytes.specs.declared.places.TheConstants as offsets
 use Rattle.elf_writer.specs.declared.writer.Writer.{Writer}
 use Rattle.elf_writer.specs.FileLayout.{up8, padded}
 use Rattle.elf_writer.specs.Names.{ended}
@@ -17,7 +18,7 @@ view_of w = record { body = w.body.items; headers = w.headers.items; names = w.n
 
 -- room for the ELF header
 unfoldable pub room : List ℕ
-room = replicate 64 0
+room = replicate offsets.ELF_HEADER_SIZE 0
 
 -- section 0 alone
 abbrev pub begun : Written
@@ -42,4 +43,4 @@ own_names names = strings_entry (codes ".shstrtab") (names ++ ended (codes ".shs
 -- the file, with so many sections beside section 0
 abbrev pub finished : ℕ → ℕ → Written → List ℕ
 finished flags sections w =
-    elf_header flags (up8 (length w.body)) sections ++ drop 64 (padded w.body ++ w.headers)
+    elf_header flags (up8 (length w.body)) sections ++ drop offsets.ELF_HEADER_SIZE (padded w.body ++ w.headers)

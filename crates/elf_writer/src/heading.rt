@@ -6,7 +6,9 @@ ghost use Rattle.elf_writer.specs.Numbers.{is_number};
 ghost use Rattle.elf_writer.specs.Header.{elf_numbers, names_heading, null_heading, section_numbers};
 
 use crate::number::{Number, half, long, word};
-use elf_tables::constants::{EM_RISCV, ET_REL, SECTION_HEADER_SIZE, SHT_STRTAB};
+use elf_bytes::places::{ELF_HEADER_SIZE, SECTION_HEADER_SIZE};
+use elf_bytes::values::{EM_RISCV, EV_CURRENT, IDENT};
+use elf_tables::constants::{ET_REL, SHT_STRTAB};
 
 /// What a section's header says beside where its name and its bytes stand, by the names of its fields. Of
 /// `sh_info` the lowest 32 bits are written.
@@ -77,16 +79,16 @@ pub(crate) fn elf_numbers(flags: u32, at: u64, sections: u64) -> [Number; 15]
     ensures sizes { IsTrue (list_all is_number result) }
 {
     [
-        long(0x01_01_02_46_4c_45_7f), // e_ident: 7f "ELF", ELFCLASS64, ELFDATA2LSB, EV_CURRENT
+        long(IDENT), // e_ident
         long(0), // e_ident: the rest
         half(u64::from(ET_REL)), // e_type
         half(u64::from(EM_RISCV)), // e_machine
-        word(1), // e_version: EV_CURRENT
+        word(u64::from(EV_CURRENT)), // e_version
         long(0), // e_entry
         long(0), // e_phoff
         long(at), // e_shoff
         word(u64::from(flags)), // e_flags
-        half(64), // e_ehsize
+        half(ELF_HEADER_SIZE), // e_ehsize
         half(0), // e_phentsize
         half(0), // e_phnum
         half(SECTION_HEADER_SIZE), // e_shentsize

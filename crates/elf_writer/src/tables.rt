@@ -7,8 +7,8 @@ ghost use Rattle.elf_writer.specs.Tables.{null_symbol, relocation_numbers, reloc
 
 use crate::number::{Number, byte, half, long, put_numbers, word, zeros};
 use crate::parts::Symbol;
+use elf_bytes::places::ENTRY_SIZE;
 use elf_tables::Reloc;
-use elf_tables::constants::ENTRY_SIZE;
 use std::alloc::{AllocError, Global};
 
 /// The bytes of the symbol table and of the table of its names.

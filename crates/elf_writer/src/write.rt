@@ -9,7 +9,8 @@ use crate::heading::{Heading, names_heading};
 use crate::parts::{Parts, Relocations, Section, Symbol};
 use crate::tables::{relocations_bytes, symbol_tables};
 use crate::writer::Writer;
-use elf_tables::constants::{ENTRY_SIZE, SHT_RELA, SHT_SYMTAB, STB_LOCAL};
+use elf_bytes::places::ENTRY_SIZE;
+use elf_tables::constants::{SHT_RELA, SHT_SYMTAB, STB_LOCAL};
 use rv_word::NoMemory;
 use std::alloc::{AllocError, Global};
 

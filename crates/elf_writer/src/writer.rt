@@ -7,10 +7,8 @@ ghost use Rattle.elf_writer.specs.Writing.{added, begun, finished, own_names, ro
 use crate::heading::{Heading, elf_numbers, names_heading, null_heading, section_numbers};
 use crate::number::{put_numbers, zeros};
 use crate::tables::{no_names, put_name};
+use elf_bytes::places::ELF_HEADER_SIZE;
 use std::alloc::{AllocError, Global};
-
-/// How many bytes the ELF header has.
-const HEADER: usize = 64;
 
 /// The name of the table of the sections' names.
 const NAMES: &[u8] = b".shstrtab";
@@ -77,7 +75,7 @@ fn no_headers(alloc: Global) -> Result<Vec<u8>, AllocError>
 fn no_contents(alloc: Global) -> Result<Vec<u8>, AllocError>
     ensures { IfOk result (λ body. body.items ≡ room) }
 {
-    zeros(alloc, HEADER)
+    zeros(alloc, ELF_HEADER_SIZE as usize)
 }
 
 /// The bytes from `at` on, none where there are fewer.
@@ -139,7 +137,7 @@ impl Writer {
         self.body.extend_from_slice(&self.headers)?;
         let mut file = Vec::new(alloc);
         put_numbers(&mut file, &elf_numbers(flags, at, sections))?;
-        file.extend_from_slice(after(&self.body, HEADER))?;
+        file.extend_from_slice(after(&self.body, ELF_HEADER_SIZE as usize))?;
         Ok(file)
     }
 }
