@@ -47,7 +47,9 @@ def looked_at(found):
             taken, begun = seconds(process)
         except (OSError, ValueError, IndexError):
             continue  # it has ended
-        kind = "tests" if "--test" in line else "proof" if inside == str(ROOT / "crates" / crate) else "edits"
+        if inside != str(ROOT / "crates" / crate) and not Path(inside).name.startswith("rt-edit"):
+            continue  # of another run
+        kind = "tests" if "--test" in line else "edits" if "rt-edit" in inside else "proof"
         found[process.name, begun] = crate, kind, taken
 
 

@@ -8,7 +8,8 @@ comes to, beside files of its own.
 
 It also asks that the table of docs/COMPILING.md has just the numbers and names that the definitions of refusals have; that in
 docs/ARCHITECTURE.md the table of additions is what additions.py prints, and groups and crates are those of crates.txt, each crate on
-earlier ones; and that scripts import along LAYERS, each folder from earlier ones and by whole names, so that there is no ring.
+earlier ones; that no lemma stands twice; and that scripts import along LAYERS, each folder from earlier ones and by whole names, so that
+there is no ring.
 """
 
 import ast
@@ -19,7 +20,7 @@ from pathlib import Path
 sys.dont_write_bytecode = True
 sys.path.insert(0, str(Path(__file__).resolve().parents[2]))
 
-from tests.named import additions
+from tests.named import additions, lemmas
 from tests.shared.paths import CRATES, ROOT
 
 HERE = Path(__file__).resolve().parent
@@ -153,7 +154,7 @@ def imports():
 
 
 def main():
-    told = [faults(name, names) for name, names in LISTS.items()] + [refusals(), architecture(), imports()]
+    told = [faults(name, names) for name, names in LISTS.items()] + [refusals(), architecture(), lemmas.twice(), imports()]
     wrong = [line for lines, _ in told for line in lines]
     print("\n".join(wrong + [f"{sum(right for _, right in told)} passed, {len(wrong)} failed"]))
     return 1 if wrong else 0

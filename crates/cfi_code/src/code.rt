@@ -13,12 +13,12 @@ ghost use Rattle.cfi_code.specs.Prologue.{before_call, begins_with, call_with, s
 use cfi_emit::emit;
 use cfi_unit::Unit;
 use rv_code::encode;
-use rv_instr::{Immediate, ImmediateOp, Instr, Reg, RegisterOp, ShiftOp, UpperOp};
 use rv_image::memory_map::CODE_START;
 use rv_image::profile::{
     LEAN_OPENING_CALL, LEAN_OPENING_CALL_OF_HARTS, OPENING_CALL, OPENING_CALL_OF_HARTS,
 };
 use rv_image::{GraphVersion, ImageVersion, Versions};
+use rv_instr::{Immediate, ImmediateOp, Instr, Reg, RegisterOp, ShiftOp, UpperOp};
 use rv_word::NoMemory;
 use std::alloc::Global;
 

@@ -7,9 +7,9 @@ ghost use Rattle.cfi_compare.specs.Told.{told_item};
 
 use crate::call_text::CallText;
 use rv_code::Events;
+use rv_image::profile::START;
 use rv_machine::Turn;
 use rv_sys::Event;
-use rv_image::profile::START;
 use rv_word::{Bytes, NoMemory};
 use src_machine::SourceTurn;
 use std::alloc::Global;

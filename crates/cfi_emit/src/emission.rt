@@ -8,11 +8,11 @@ ghost use Rattle.cfi_unit.specs.UnitWords.{BAD_TARGET, Fits, MaskFits, Reaches, 
 use crate::template::unit_code;
 use cfi_unit::handlers::{BAD_RETURN, BAD_TARGET, DEEP};
 use cfi_unit::{Mask, Unit, is_close, is_reached};
-use rv_instr::{Immediate, Instr, UpperOp};
 use rv_image::unit_words::{
     BRANCH_WORDS, CALL_WORDS, ENTER_WORDS, ICALL_WORDS, IJUMP_WORDS, LEAN_TRANSFER_WORDS,
     RETURN_WORDS,
 };
+use rv_instr::{Immediate, Instr, UpperOp};
 use rv_word::{NoMemory, Numbers};
 use std::alloc::Global;
 

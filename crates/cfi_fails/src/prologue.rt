@@ -7,8 +7,8 @@ ghost use Rattle.cfi_scan.specs.Pieces.{prologue_count};
 ghost use Rattle.cfi_rules.specs.Rules.{fits_table, is_link, prologue_word_fits};
 
 use rv_code::decode;
-use rv_instr::Instr;
 use rv_image::{GraphVersion, ImageVersion, Versions};
+use rv_instr::Instr;
 
 /// The words in version 1. Word 13 is the opening's `jal x1` to the entry, which may lead anywhere.
 const PROLOGUE: [u32; 16] = [

@@ -20,7 +20,6 @@ use Rattle.cfi_flow.specs.Spans.{goes_inside, in_span}
 use Rattle.cfi_class.proofs.Finding.{find_none, find_some}
 use Rattle.cfi_flow.proofs.Listing.{below_same}
 
-
 module _ (program : Program) (lines : List PolicyLine) (k : ℕ) where
   pub by_line : (kind : SiteKind) (j : ℕ) → Some j ≡ line_for program lines k → allowed program (get_or lines j no_line) ≡ targets_under program lines kind k
   by_line kind j e =

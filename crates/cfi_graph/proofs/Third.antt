@@ -70,4 +70,3 @@ module _ (rest : List ℕ) {parts : List (List ℕ)} {line : List ℕ} (p : part
     right_list calls e =
         mapped small_in (calls_of (words_of line)) numbers (sym is) (λ ns found small.
         is_listed ∙ ap (λ o. listed o parts (lines_of rest)) found ∙ rw (sym (judges ns small) ∙ e) refl)
-

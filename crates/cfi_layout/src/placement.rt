@@ -6,8 +6,8 @@ ghost use Rattle.rv_word.specs.declared.end.End.TheVariants.{Fault, NoMemory as 
 
 use crate::code_too_large::CodeTooLarge;
 use crate::starts::{code_size, starts_of};
-use rv_image::memory_map::CODE_SIZE;
 use rv_image::Form;
+use rv_image::memory_map::CODE_SIZE;
 use rv_word::End;
 use std::alloc::Global;
 use std::marker::Model;

@@ -7,8 +7,8 @@ ghost use Rattle.cfi_layout.specs.Lengthening.{starts_with};
 ghost use Rattle.cfi_layout.specs.LongSet.{sizes_where};
 ghost use Rattle.cfi_layout.specs.Starts.{code_size, flag, starts_from};
 
-use rv_image::memory_map::CODE_START;
 use rv_image::Form;
+use rv_image::memory_map::CODE_START;
 use rv_word::NoMemory;
 use std::alloc::Global;
 

@@ -13,12 +13,12 @@ use cfi_leads::Leads;
 use obj_input::ItemKind;
 use obj_program::Item;
 use rv_code::decode;
-use rv_instr::Instr;
+use rv_image::GraphVersion;
 use rv_image::unit_words::{
     BRANCH_WORDS, CALL_WORDS, ICALL_WORDS, IJUMP_WORDS, LEAN_TRANSFER_WORDS, LONG_STORE_WORDS,
     RETURN_WORDS, SHORT_STORE_WORDS, STORE_WORDS,
 };
-use rv_image::GraphVersion;
+use rv_instr::Instr;
 use rv_word::{NoMemory, Numbers};
 use std::alloc::Global;
 

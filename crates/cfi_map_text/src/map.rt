@@ -1,8 +1,8 @@
 ghost use Rattle.std.specs.Prelude.{◌≡◌, ◌<◌, ◌==◌, ◌++◌, ◌∷◌, [], length, slice_get, Ok, OnErr, OnOk, Some};
 ghost use Rattle.cfi_map_text.specs.Map.{IsMap, is_gate, map_line_below, map_line_in_range, place_below};
 
-use rv_image::memory_map::{CODE_SIZE, CODE_START};
 use rv_image::Form;
+use rv_image::memory_map::{CODE_SIZE, CODE_START};
 use rv_word::NoMemory;
 use std::alloc::Global;
 use std::marker::Model;

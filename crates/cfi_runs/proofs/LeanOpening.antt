@@ -27,7 +27,6 @@ use Rattle.cfi_unit.proofs.PrologueEffect.{same_trans}
 use Rattle.cfi_runs.specs.Openings.{AtOpening, EntryFits, LeanOpeningDoes, LeanOpeningRuns}
 use Rattle.cfi_runs.specs.Within.{Within}
 
-
 -- the registers where the call of the entry stands: both stacks are set up, and x4 holds the mask of stores
 record Ready (hart : ℕ) (r regs : Registers) : Type 0 where
   same : SameRegisters (set_reg r 2 (stack_of hart)) regs

@@ -9,9 +9,9 @@ ghost use Rattle.cfi_script.specs.ScriptText.{changes_of_lines, for_several, lin
 use crate::script::Script;
 use crate::script_line::{ScriptLine, harts_of, line_of};
 use crate::script_turns::read_turns;
-use rv_machine::Change;
 use rv_image::memory_map::DATA_END;
 use rv_image::profile::MOST_HARTS;
+use rv_machine::Change;
 use rv_word::{End, NoMemory};
 use std::alloc::Global;
 use text_lines::{LineFault, LineForm, MAX_STEP, Reason, after_one_of, cut, read_lines};

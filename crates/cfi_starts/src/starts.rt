@@ -20,9 +20,9 @@ use cfi_graph::{Class, Graph, GraphLine};
 use cfi_rules::Asks;
 use cfi_scan::{Entry, Listing};
 use rv_code::decode;
-use rv_instr::Instr;
 use rv_image::memory_map::CODE_START;
 use rv_image::{GraphVersion, Versions};
+use rv_instr::Instr;
 use rv_word::sext;
 use std::marker::Model;
 

@@ -7,11 +7,11 @@ ghost use Rattle.cfi_step.specs.Hostile.{first_slot, hart_zeros, holds_site, sit
 
 use cfi_script::Meddler;
 use cfi_unit::handlers::MOST_PENDING;
+use rv_image::memory_map::{DATA_END, PART_SIZE, SHADOW_START};
 use rv_instr::Reg;
 use rv_machine::{Change, Machine};
 use rv_mem::Memory;
 use rv_word::NoMemory;
-use rv_image::memory_map::{DATA_END, PART_SIZE, SHADOW_START};
 use std::alloc::Global;
 
 /// How many double words are looked at from x2 on.

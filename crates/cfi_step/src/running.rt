@@ -25,8 +25,8 @@ use crate::turns::TakenTurns;
 use crate::walks::HartWalks;
 use cfi_script::Meddler;
 use cfi_verify::Checked;
-use rv_machine::{Change, Machine, Turn};
 use rv_image::Image;
+use rv_machine::{Change, Machine, Turn};
 use rv_word::NoMemory;
 use std::alloc::Global;
 

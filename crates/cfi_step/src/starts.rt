@@ -6,8 +6,8 @@ ghost use Rattle.cfi_rules.specs.Split.{code_words};
 ghost use Rattle.cfi_step.specs.Starts.{AreStartsOf};
 
 use cfi_verify::Checked;
-use rv_word::NoMemory;
 use rv_image::memory_map::CODE_START;
+use rv_word::NoMemory;
 use std::alloc::Global;
 use std::marker::Model;
 

@@ -95,4 +95,3 @@ left_by_caller other = true
 
 abbrev pub by_caller : Flow → Bool
 by_caller f = saved_by_caller f.sites && left_by_caller f.exit
-

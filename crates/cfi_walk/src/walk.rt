@@ -2,8 +2,8 @@ ghost use Rattle.std.specs.Prelude.{◌≡◌, ◌<◌, ◌≤◌, ◌∷◌, If
 ghost use Rattle.cfi_rules.specs.Walks.{walk_start};
 ghost use Rattle.cfi_walk.specs.Moves.{HasRoom, MOST_SITES, after};
 
-use rv_word::NoMemory;
 use rv_image::profile::START;
+use rv_word::NoMemory;
 use std::alloc::Global;
 use std::marker::Model;
 

@@ -181,4 +181,3 @@ unfolding leaves_in
 leaf_lines_tell layout OneLabel = refl
 leaf_lines_tell layout TwoLabels = refl
 leaf_lines_tell layout CalleeSaves = tells_from layout 0 (count layout.program)
-

@@ -11,8 +11,8 @@ use crate::chosen::{Chosen, is_call};
 use cfi_closed::Side;
 use cfi_graph::{Graph, GraphLine, GraphLines, SiteKind};
 use obj_input::ItemKind;
-use rv_image::profile::START;
 use rv_image::GraphVersion;
+use rv_image::profile::START;
 use rv_word::{NoMemory, Places};
 use std::alloc::Global;
 

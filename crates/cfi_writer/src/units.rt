@@ -17,8 +17,8 @@ use cfi_map::is_store;
 use cfi_rules::jump_word;
 use cfi_unit::{Mask, SystemOp, Unit};
 use obj_input::ItemKind;
-use rv_instr::{BranchOp, Immediate, Instr};
 use rv_image::GraphVersion;
+use rv_instr::{BranchOp, Immediate, Instr};
 use rv_word::{NoMemory, Numbers};
 use std::alloc::Global;
 

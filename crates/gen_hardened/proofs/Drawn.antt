@@ -49,4 +49,3 @@ unfolding functions_from
 near_functions n zero i s whole most = tt
 near_functions n (suc count) i s whole most =
     (near_function n i s whole (omega arith), near_functions n count (i + 1) (next (next (next s))) whole (omega arith))
-

@@ -9,8 +9,8 @@ ghost use Rattle.obj_input.specs.DataLayout.{address_by, after, after_if, aligne
 use crate::input::Input;
 use crate::parts::{Block, Sort};
 use crate::section::Section;
-use rv_word::NoMemory;
 use rv_image::memory_map::DATA_START;
+use rv_word::NoMemory;
 use std::alloc::Global;
 use std::marker::Model;
 

@@ -27,7 +27,6 @@ use Rattle.obj_items.specs.Ranges.{HasSmall, IsBlock, IsInput, IsSection, IsSmal
 use Rattle.obj_items.specs.Values.{gate_value, place_at, value_of}
 use Rattle.obj_items.proofs.Addresses.{after_none}
 
-
 aligned_bound : (at align : ℕ) → align < 2 ^ 64 → aligned at align < at + 2 ^ 64
 aligned_bound at align small =
     let most = div-mul-le_self (at + (max align 1 - 1)) (max align 1) in

@@ -30,7 +30,6 @@ use Rattle.obj_items.specs.Values.{use_value}
 use Rattle.obj_items.proofs.Bounds.{each_section, value_right}
 use Rattle.obj_items.proofs.NoFault.{IsRight, IsRightUse, no_use}
 
-
 -- what is placed reaches from its address on
 placed_length : (so_far bytes : List ℕ) (address : ℕ) → address - DATA_START + length bytes ≤ length (placed so_far address bytes)
 placed_length so_far bytes address =

@@ -7,8 +7,8 @@ ghost use Rattle.obj_items.specs.InitialData.{init_below, placed};
 
 use obj_input::{DataLayout, Input, Section};
 use obj_program::InitialData;
-use rv_word::NoMemory;
 use rv_image::memory_map::DATA_START;
+use rv_word::NoMemory;
 use std::alloc::Global;
 
 /// The address of the section with this index, 0 of one that is no data.

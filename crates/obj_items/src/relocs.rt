@@ -15,8 +15,8 @@ use crate::init::section_address;
 use crate::values::use_value;
 use obj_input::{DataLayout, Input, RelocKind, Relocation, Section};
 use obj_program::{DataReloc, PackedItem, PackedReloc};
-use rv_word::NoMemory;
 use rv_image::memory_map::DATA_START;
+use rv_word::NoMemory;
 use std::alloc::Global;
 
 /// Where an offset of the section of data with this index stands in initialised data. What needs more bytes than there

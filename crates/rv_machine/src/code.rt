@@ -10,10 +10,10 @@ ghost use Rattle.rv_machine.specs.Ready.{instr_of};
 
 use crate::ready::Ready;
 use rv_code::decode;
+use rv_image::memory_map::CODE_START;
 use rv_instr::Instr;
 use rv_mem::Memory;
 use rv_word::NoMemory;
-use rv_image::memory_map::CODE_START;
 use std::alloc::Global;
 use std::marker::Model;
 

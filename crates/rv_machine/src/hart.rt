@@ -6,11 +6,11 @@ ghost use Rattle.rv_mem.specs.Cells.{has_room, memory_of};
 ghost use Rattle.rv_sys.specs.Calls.{after_call, shared_of};
 ghost use Rattle.rv_machine.specs.Harts.{rest_of};
 
+use rv_image::profile::START;
 use rv_instr::{Reg, Regs};
 use rv_mem::Memory;
 use rv_sys::{SysEnd, System};
 use rv_word::NoMemory;
-use rv_image::profile::START;
 use std::alloc::Global;
 use std::marker::Model;
 

@@ -19,14 +19,14 @@ use crate::code::Code;
 use crate::hart::Hart;
 use crate::ready::Ready;
 use rv_code::{Events, Turn};
+use rv_image::memory_map::{CODE_SIZE, CODE_START};
+use rv_image::{Image, ImageVersion};
 use rv_instr::{
     BranchOp, Immediate, ImmediateOp, Instr, LoadOp, Reg, RegisterOp, ShiftOp, ShiftWordOp,
     StoreOp, UpperOp,
 };
 use rv_mem::{Change, LoadFault, Memory, StoreFault};
 use rv_sys::{SysEnd, System};
-use rv_image::memory_map::{CODE_SIZE, CODE_START};
-use rv_image::{Image, ImageVersion};
 use rv_word::{Bytes, End, NoMemory, sext};
 use std::alloc::Global;
 use std::marker::Model;

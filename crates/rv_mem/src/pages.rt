@@ -3,9 +3,9 @@ ghost use Rattle.rv_word.specs.Memory.{placed, zeros};
 ghost use Rattle.rv_mem.specs.Pages.{PAGE_COUNT, PAGE_SIZE, AreMade, byte_of, entry, is_made, page_of};
 
 use crate::page::{PAGE_SIZE, Page};
-use rv_word::NoMemory;
 use rv_image::memory_map::DATA_END;
 use rv_image::profile::SHADOW_SIZE_OF_HARTS;
+use rv_word::NoMemory;
 use std::alloc::Global;
 use std::marker::Model;
 

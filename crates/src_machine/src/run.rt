@@ -7,8 +7,8 @@ use crate::placed::Placed;
 use crate::state::State;
 use crate::step::step;
 use crate::turn::SourceTurn;
-use rv_machine::Processor;
 use rv_image::Form;
+use rv_machine::Processor;
 use rv_word::NoMemory;
 use std::marker::Model;
 

@@ -11,9 +11,9 @@ ghost use Rattle.cfi_map.specs.Untame.{sum_of};
 ghost use Rattle.cfi_map.specs.GraphAtMap.{ProgramAtMap};
 
 use rv_code::immediate_value;
+use rv_image::Form;
 use rv_instr::{Immediate, Instr, Reg};
 use rv_machine::{Processor, Turn};
-use rv_image::Form;
 use rv_word::NoMemory;
 use std::alloc::Global;
 use std::marker::Model;

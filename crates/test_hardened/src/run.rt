@@ -3,8 +3,8 @@ ghost use Rattle.cfi_script.specs.Script.{IsScript};
 
 use cfi_script::Script;
 use cfi_step::{Handler, Hostile, RunEnd, RunReport};
-use rv_machine::Change;
 use rv_image::ImageVersion;
+use rv_machine::Change;
 use sample_programs::{ECHO, ECHO_GRAPH, P, P_DATA, P_GRAPH};
 use sample_runs::{Program, is_same_again, report};
 use std::alloc::Global;

@@ -3,8 +3,8 @@ ghost use Rattle.cfi_script.specs.Script.{IsScript};
 
 use cfi_script::Script;
 use cfi_step::{Handler, HartWalk, Hostile, RunEnd, RunReport};
-use rv_machine::Change;
 use rv_image::ImageVersion;
+use rv_machine::Change;
 use sample_programs::{
     A_OF_HARTS, A_OF_HARTS_GRAPH, JOBS, JOBS_DATA, JOBS_GRAPH, SHARED, SHARED_GRAPH,
 };

@@ -2,8 +2,8 @@
 //! prints this, by its model of the rules.
 
 use crate::pairs::verifies;
-use rv_image::ImageVersion::{EightHarts, OneHart};
 use rv_image::ImageVersion;
+use rv_image::ImageVersion::{EightHarts, OneHart};
 use rv_word::NoMemory;
 use sample_calls::{image_as, put};
 use sample_programs::{code, code_of_harts};

@@ -1,10 +1,10 @@
 //! Machines with one and several harts, and with a shadow stack of either version's size.
 
 use crate::steps::{LOADS, STEPS, TESTED, code, numbers};
+use rv_image::{Image, ImageVersion};
 use rv_instr::Reg;
 use rv_machine::{Change, Machine, Turn};
 use rv_sys::{Event, System};
-use rv_image::{Image, ImageVersion};
 use sample_programs::numbers::{number, rows, word};
 use std::alloc::Global;
 

@@ -1,8 +1,8 @@
 use crate::steps::{LOADS, STEPS, TESTED, X12, code, numbers};
 use rv_code::decode;
+use rv_image::{Image, ImageVersion};
 use rv_instr::{BranchOp, Instr, Reg};
 use rv_machine::{Change, Processor, Turn, branches};
-use rv_image::{Image, ImageVersion};
 use sample_programs::numbers::{number, rows, word};
 use sample_programs::{A, PROLOGUE, STATUS};
 use std::alloc::{AllocError, Global};

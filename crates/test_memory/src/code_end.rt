@@ -1,7 +1,7 @@
 //! Accesses where the region of code ends: loads reach eight bytes past it, which are zero; stores do not.
 use crate::memory::read_of;
-use rv_mem::{Memory, StoreFault, region};
 use rv_image::{Image, ImageVersion};
+use rv_mem::{Memory, StoreFault, region};
 use rv_word::End;
 use sample_programs::numbers::{number, rows};
 use std::alloc::{AllocError, Global};

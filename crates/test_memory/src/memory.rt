@@ -1,5 +1,5 @@
-use rv_mem::{Change, LoadFault, Memory, StoreFault, region};
 use rv_image::{Image, ImageVersion, Region};
+use rv_mem::{Change, LoadFault, Memory, StoreFault, region};
 use rv_word::End;
 use sample_programs::numbers::{name, number, rows};
 use std::alloc::{AllocError, Global};

@@ -2,8 +2,8 @@
 
 use cfi_script::Meddler;
 use cfi_step::Hostile;
-use rv_machine::{Change, Machine, Turn};
 use rv_image::{Image, ImageVersion};
+use rv_machine::{Change, Machine, Turn};
 use std::alloc::{AllocError, Global};
 
 /// Code whose first three words no hart executes. A hart loads its x2 and x3 from the 16 bytes at 10000h + 16 times

@@ -1,6 +1,6 @@
 use cfi_script::{Meddler, Script};
-use rv_machine::{Change, Machine};
 use rv_image::Image;
+use rv_machine::{Change, Machine};
 use rv_word::{End, NoMemory};
 use std::alloc::{AllocError, Global};
 use text_lines::LineFault;

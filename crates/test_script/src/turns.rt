@@ -2,8 +2,8 @@
 
 use crate::script::{is_read_as, text_with};
 use cfi_script::{Meddler, Script};
-use rv_machine::Machine;
 use rv_image::{Image, ImageVersion};
+use rv_machine::Machine;
 use rv_word::{End, NoMemory};
 use std::alloc::{AllocError, Global};
 use std::fmt::Write;
