@@ -1,10 +1,9 @@
 -- What the rules say of an image and its graph.
-use Rattle.std.specs.Prelude.{◌≡◌, ◌⊎◌, ℕ, List, Some, Result, Ok, Err}
+use Rattle.std.specs.Prelude.{◌≡◌, ◌⊎◌, ℕ, List, Result, Ok, Err}
 use Rattle.rv_image.specs.Image.{Contents}
-use Rattle.cfi_graph.specs.Graph.{GraphParts, calls_in}
+use Rattle.cfi_graph.specs.Graph.{GraphParts}
 use Rattle.cfi_confined.specs.Confined.{IsConfined}
 use Rattle.cfi_rules.specs.Along.{IsSafe}
-use Rattle.cfi_rules.specs.Listed.{IsListed}
 use Rattle.cfi_rules.specs.Rules.{IsRejected, IsWellFormed, pair_profile}
 use Rattle.cfi_pair.specs.Spelled.{Spell}
 use Rattle.cfi_pair.specs.declared.judging.Verdict.{Verdict}
@@ -13,12 +12,11 @@ use Rattle.rv_word.specs.declared.end.End.{End}
 use Rattle.cfi_pair.specs.declared.opening.PairFault.{PairFault}
 use Rattle.rv_word.specs.declared.end.End.TheVariants.{NoMemory}
 
--- accepted: the pair meets every rule, and is safe, where the graph has a list of system calls the program makes no others, and it is
--- confined; rejected: by the first rule that fails
+-- accepted: the pair meets every rule, is safe and is confined, so that where the graph has a list of system calls the program makes no
+-- others (`confined_is_listed` of cfi_confined); rejected: by the first rule that fails
 abbrev pub IsJudgement : Contents → GraphParts → Verdict → Type 0
 IsJudgement image graph Accepted =
     IsWellFormed (pair_profile image graph) image graph × IsSafe (pair_profile image graph) image graph
-    × ((calls : List ℕ) → calls_in graph.lines ≡ Some calls → IsListed (pair_profile image graph) image calls)
     × IsConfined (pair_profile image graph) image graph
 IsJudgement image graph (Rejected reject) = IsRejected (pair_profile image graph) image graph reject
 

@@ -72,6 +72,6 @@ verdict_status Accepted = 0
 verdict_status (Refused refusal) = 1
 verdict_status (Rejected reject) = 1
 
--- the files spell an image and a graph that meet every rule, are safe and keep to their list, and the text says so
+-- the files spell an image and a graph that meet every rule, are safe and confined, and the text says so
 abbrev pub IsAccepted : Content → VerifyWords → List ℕ → Type 0
 IsAccepted content asks text = ExplainsVerdict content asks Accepted × (text ≡ with_newline (verdict_line Accepted))

@@ -19,7 +19,7 @@ use Rattle.cfi_writer.specs.Hardened.{HardenedParts}
 use Rattle.cfi_harden.specs.Hardened.{IsHardened}
 use Rattle.cfi_harden.specs.Refused.{Refuses}
 use Rattle.cfi_harden.specs.Request as asks
-use Rattle.cfi_meaning.specs.Hardened.{KeepsMeaningAtMap, NeverDiffersAtMap}
+use Rattle.cfi_meaning.specs.Hardened.{KeepsMeaningAtMap}
 use Rattle.tool_common.specs.Lines.{with_newline}
 use Rattle.tool_common.specs.Reads.{Content, GaveNamed}
 use Rattle.refusals.specs.Refusals.{refusal_line}
@@ -121,11 +121,11 @@ pub record IsSpelledOut (words : RewriteWords) (hardened : HardenedParts) (writt
   pub map_right : IsMap hardened.map
   pub sizes : HasSizes hardened.image hardened.graph written.sizes
 
--- a hardened program of a request, which means what the request's program means
+-- a hardened program of a request, which means what the request's program means; so no comparison tells a difference
+-- (`hardened_never_differs` of cfi_meaning)
 pub record IsMade (request : asks.Request) (hardened : HardenedParts) : Type 0 where
   pub is_hardened : IsHardened request hardened
   pub meaning_kept : KeepsMeaningAtMap (asks.program_request request) hardened
-  pub never_differs : NeverDiffersAtMap (asks.program_request request) hardened
 
 -- the program is refused, or hardened
 abbrev pub IsRewriteOf : RewriteWords → Given → Option (List ℕ) → RewriteOutcome → Type 0

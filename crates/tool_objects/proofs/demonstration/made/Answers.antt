@@ -26,7 +26,6 @@ pub returns-in-Ok-clause-made : goal.returns-in-Ok-clause-made
 returns-in-Ok-clause-made c = λ request prepared. record {
   is_hardened = (prepared.0, c.in-Ok.ensures.hardens (program_request request) prepared.1);
   meaning_kept = (c.args.prepared.now, prepared.1, c.in-Ok.ensures.meaning_kept);
-  never_differs = (c.args.prepared.now, prepared.1, c.in-Ok.ensures.never_differs);
 }
 
 pub returns-in-Ok-clause-same : goal.returns-in-Ok-clause-same

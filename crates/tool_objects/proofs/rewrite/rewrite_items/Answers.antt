@@ -1,7 +1,7 @@
 use Rattle.std.proofs.Common.{Ok, Err}
 use Rattle.std.specs.Prelude.{option_copied}
 use Rattle.rv_word.specs.declared.end.End.TheVariants.{Fault}
-use Rattle.cfi_rewrite.proofs.OfHardened.{differs_read, hardens_read, keeps_read}
+use Rattle.cfi_rewrite.proofs.OfHardened.{hardens_read, keeps_read}
 use Rattle.tool_objects.specs.Rewrite.{request_of, rewrite_asked}
 use Rattle.tool_objects.proofs.rewrite.rewrite_items.Goals as goal
 
@@ -14,7 +14,6 @@ returns-in_ok-spelled_out-in-Ok c = λ given gives.
       record {
         is_hardened = hardens_read request items (Ok hardened) gives c.in-Ok.ensures.hardens;
         meaning_kept = keeps_read request items (Ok hardened) gives c.in-Ok.ensures.meaning_kept;
-        never_differs = differs_read request items (Ok hardened) gives c.in-Ok.ensures.never_differs;
       },
       c.in_ok-spelled_out-in-Ok.ensures,
     )
