@@ -12,8 +12,10 @@ use Rattle.cfi_meaning.specs.ImageOf.{IsImageOf}
 use Rattle.cfi_meaning.specs.Hardened.{HardenedKeepsMeaning, HardenedNeverDiffers, HoldsOf, HoldsOfWritten}
 use Rattle.cfi_meaning.specs.Meaning.{KeepsMeaning}
 use Rattle.cfi_meaning.specs.NeverDiffers.{NoRunDiffers}
-use Rattle.cfi_meaning.proofs.Kept.{meaning_kept}
+use Rattle.cfi_meaning.specs.StepLaws.{HardenedKeepsSteps, HardenedPastFirst, KeepsStep, StandsPastFirst}
+use Rattle.cfi_meaning.proofs.Kept.{meaning_kept, stands_past_first}
 use Rattle.cfi_meaning.proofs.NeverDiffers.{never_differs}
+use Rattle.cfi_meaning.proofs.StepKept.{step_kept}
 
 -- what holds of each image of an accepted choice with its data
 module _ (Holds : ProgramAtMap → Contents → Type 0)
@@ -38,6 +40,12 @@ module _ (Holds : ProgramAtMap → Contents → Type 0)
 
 pub hardened_keeps_meaning : HardenedKeepsMeaning
 hardened_keeps_meaning = at_map (λ layout image. (input : List ℕ) → KeepsMeaning layout image input) (λ m image of init input. meaning_kept m image input of init)
+
+pub hardened_keeps_steps : HardenedKeepsSteps
+hardened_keeps_steps = at_map KeepsStep (λ m image of init. step_kept m image of)
+
+pub hardened_past_first : HardenedPastFirst
+hardened_past_first = at_map (λ layout image. (input : List ℕ) → StandsPastFirst layout input) (λ m image of init input. stands_past_first m image of input init)
 
 pub hardened_never_differs : HardenedNeverDiffers
 hardened_never_differs = at_map NoRunDiffers (λ m image of init. never_differs m image of init)

@@ -15,17 +15,18 @@ use Rattle.cfi_runs.specs.WholeRun.{RunsTo, undisturbed}
 use Rattle.cfi_writer.specs.Units.{Choice, is_later_at}
 use Rattle.cfi_writer.proofs.Grouping.{other_first}
 use Rattle.cfi_meaning.specs.ImageOf.{IsImageOf}
-use Rattle.cfi_meaning.specs.LaterStores.{IsPastFirst, is_at_later}
+use Rattle.cfi_meaning.specs.LaterStores.{is_at_later}
 use Rattle.cfi_meaning.specs.Bounds.{most_steps}
 use Rattle.cfi_meaning.specs.Matches.{Matches, gate_of, own_of}
 use Rattle.cfi_meaning.specs.Meaning.{EndsAs, MeaningKept}
 use Rattle.cfi_meaning.specs.PlaceSteps.{PlacesRun, holds_store, place_step, places_start}
 use Rattle.cfi_meaning.specs.PlacesKept.{KeepsPlaces}
+use Rattle.cfi_meaning.specs.StepLaws.{IsPastFirst, StandsPastFirst}
 use Rattle.cfi_meaning.proofs.AtLater.{at_later_is, at_no_later, free_place}
 use Rattle.cfi_meaning.proofs.LedSteps.{Led, led, there}
 use Rattle.cfi_meaning.proofs.Matching.{from_own}
 use Rattle.cfi_meaning.proofs.PlacesKept.{places_kept, steps_rise}
-use Rattle.cfi_meaning.proofs.StepKept.{ends_as, step_kept}
+use Rattle.cfi_meaning.proofs.StepKept.{ends_as}
 use Rattle.cfi_meaning.proofs.Steps.{Stepped, at_closing, at_place, has_ended, is_untame, stepped}
 use Rattle.cfi_meaning.proofs.StoreSteps.{goes_or_untame, store_goes}
 
@@ -82,6 +83,9 @@ module _ (m : Choice) (image : Contents) (of : IsImageOf m image) (input : List 
         same = leader.world;
       }
 
+  pub stands_past_first : StandsPastFirst m.layout input
+  stands_past_first n st e later = past_first n st e later st.place refl
+
   -- of a step that goes on or is untame nothing is asked
   nothing_asked : (n : ℕ) (st : Source) → ((source_step m.layout st).turn ≡ ran) ⊎ ((why : Reason) × (k : ℕ) × ((source_step m.layout st).turn ≡ untame why k)) →
       RunsTo p image input (most_steps m.layout (n + 1)) (EndsAs m.layout (source_step m.layout st).turn (source_step m.layout st).state)
@@ -125,6 +129,4 @@ pub meaning_kept : MeaningKept
 meaning_kept m image input of init = record {
   goes = λ n st e free. goes m image of input init n st e free;
   ends = λ n st e. ends_so m image of input init n st e (stepped m image of st);
-  stays = step_kept m image of;
-  later = λ n st e later. past_first m image of input init n st e later st.place refl;
 }

@@ -12,9 +12,10 @@ use Rattle.cfi_runs.specs.Own.{Own, OwnAfter}
 use Rattle.cfi_writer.specs.Units.{Choice, behind, is_later_at}
 use Rattle.cfi_writer.proofs.Grouping.{first_behind, later_behind, later_store}
 use Rattle.cfi_meaning.specs.ImageOf.{IsImageOf}
-use Rattle.cfi_meaning.specs.LaterStores.{LeadsOver, is_at_later}
+use Rattle.cfi_meaning.specs.LaterStores.{is_at_later}
 use Rattle.cfi_meaning.specs.Matches.{own_of}
 use Rattle.cfi_meaning.specs.PlaceSteps.{PlacesRun, TamePlace, holds_store, place_step}
+use Rattle.cfi_meaning.specs.StepLaws.{LeadsOver}
 use Rattle.cfi_meaning.proofs.AtLater.{at_later_is}
 use Rattle.cfi_meaning.proofs.KindActs.{IsOwn}
 use Rattle.cfi_meaning.proofs.KindFits.{Fits}

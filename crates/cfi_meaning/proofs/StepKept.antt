@@ -39,13 +39,14 @@ use Rattle.cfi_runs.proofs.WholeRun.{path_fit}
 use Rattle.cfi_writer.specs.Units.{Choice, behind, entry_arrival, is_later_at, unit_here}
 use Rattle.cfi_meaning.specs.Bounds.{most_words, most_words_by}
 use Rattle.cfi_meaning.specs.ImageOf.{IsImageOf}
-use Rattle.cfi_meaning.specs.LaterStores.{LeadsOver, is_at_later, is_at_store}
+use Rattle.cfi_meaning.specs.LaterStores.{is_at_later}
 use Rattle.cfi_meaning.specs.Matches.{Matches, address_of, own_of, shown_of}
-use Rattle.cfi_meaning.specs.Meaning as law
-use Rattle.cfi_meaning.specs.Meaning.{Answers, EndsAs}
+use Rattle.cfi_meaning.specs.Meaning.{EndsAs}
 use Rattle.cfi_meaning.specs.PlaceLaws.{ComesThrough, at_unit, shown}
 use Rattle.cfi_meaning.specs.PlaceSteps.{TamePlace, holds_store, place_step}
 use Rattle.cfi_meaning.specs.PlacesKept.{EndsLike}
+use Rattle.cfi_meaning.specs.StepLaws as law
+use Rattle.cfi_meaning.specs.StepLaws.{Answers, LeadsOver, is_at_store}
 use Rattle.cfi_meaning.proofs.AtLater.{at_later_is}
 use Rattle.cfi_meaning.proofs.GoesOn.{step_goes_on}
 use Rattle.cfi_meaning.proofs.GroupSteps.{group_runs}

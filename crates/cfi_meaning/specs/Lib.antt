@@ -10,3 +10,4 @@ pub mod Meaning
 pub mod Compared
 pub mod NeverDiffers
 pub mod Hardened
+pub mod StepLaws

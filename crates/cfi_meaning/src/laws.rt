@@ -1,10 +1,11 @@
 //! Each function states one law; nothing is computed.
 ghost use Rattle.cfi_meaning.specs.Hardened.{HardenedKeepsMeaning, HardenedNeverDiffers};
 ghost use Rattle.cfi_meaning.specs.Matches.{MatchesIsOwn};
-ghost use Rattle.cfi_meaning.specs.Meaning.{MeaningKept, StepKept};
+ghost use Rattle.cfi_meaning.specs.Meaning.{MeaningKept};
 ghost use Rattle.cfi_meaning.specs.NeverDiffers.{NeverDiffers};
 ghost use Rattle.cfi_meaning.specs.PlaceLaws.{EntryRuns, GroupRuns, NextGate, PlaceRuns, StepGoesOn, StepOfKind, TargetBears, WrittenPrologue};
 ghost use Rattle.cfi_meaning.specs.PlacesKept.{PlacesKept};
+ghost use Rattle.cfi_meaning.specs.StepLaws.{HardenedKeepsSteps, HardenedPastFirst, StepKept};
 
 /// The opening and the closing stand in an image of what is written.
 pub fn written_prologue()
@@ -78,6 +79,17 @@ pub fn never_differs()
 /// The hardened program of a request keeps the meaning of the request's program.
 pub fn hardened_keeps_meaning()
     ensures { HardenedKeepsMeaning }
+{}
+
+/// From any state of its image that matches, the next step of a request's program is kept, as `step_kept` says.
+pub fn hardened_keeps_steps()
+    ensures { HardenedKeepsSteps }
+{}
+
+/// At a later store of a group a request's program is fewer than sixteen steps past a state at none, with the same input left, output and
+/// system calls.
+pub fn hardened_past_first()
+    ensures { HardenedPastFirst }
 {}
 
 /// Compared with its image, no run of a request's program differs.

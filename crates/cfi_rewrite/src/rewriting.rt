@@ -32,8 +32,9 @@ pub fn rewrite_as(
     // With each input: when the program at the map has run n tame steps, goes on and is at no later store of a group, the image,
     // whose hart 0 runs alone and which nothing disturbs, is within 21 n + 13 steps, or 21 n + 17 in the forms for several harts,
     // at a state that matches; where the program's next step ends it, the image has ended alike within that of n + 1, with the
-    // same events; and from any state that matches the next tame step is kept within 21. In the forms `split` and `harts-split` it
-    // is 22 in place of 21.
+    // same events. In the forms `split` and `harts-split` it is 22 in place of 21. That from any state that matches the next tame
+    // step is kept, and how near a later store stands to one that is none, are laws of `cfi_meaning`: `hardened_keeps_steps` and
+    // `hardened_past_first`.
     ensures meaning_kept { IfOk result (λ h. KeepsMeaningAtMap (program_request (record { form = form; given = alone object.now; entry = entry.now; policy = option_copied policy.entry })) h) }
     // With each input and each limit: comparing the events and the end of the program's run with those of the image's tells no
     // difference.

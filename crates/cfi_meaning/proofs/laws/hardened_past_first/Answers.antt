@@ -1,0 +1,5 @@
+use Rattle.cfi_meaning.proofs.Hardened as proof
+use Rattle.cfi_meaning.proofs.laws.hardened_past_first.Goals as goal
+
+pub returns : goal.returns
+returns c = proof.hardened_past_first
