@@ -5,3 +5,4 @@ pub mod Giving
 pub mod Preparing
 pub mod Joining
 pub mod Ready
+pub mod Right

@@ -15,10 +15,11 @@ use Rattle.cfi_harden.specs.Hardened.{IsWrittenOf}
 use Rattle.cfi_writer.specs.Laws.{written_code}
 use Rattle.cfi_map.specs.Placing.{IsPlacementOf, Spaced}
 use Rattle.cfi_harden.specs.Prepared.{PreparedParts}
+use Rattle.cfi_harden.proofs.Right.{lines_same}
 use Rattle.cfi_single.specs.OneWay.{HardenedInOneWay}
 use Rattle.cfi_single.proofs.Placed.{layout_unique, sizes_same}
 use Rattle.cfi_single.proofs.Prepared.{prepared_unique}
-use Rattle.cfi_single.proofs.Written.{bytes_same, labels_unique, lines_same, under, units_same}
+use Rattle.cfi_single.proofs.Written.{bytes_same, labels_unique, under, units_same}
 
 module _ (p : PreparedParts) (s t : Spaced) (labels others code more init filled : List ℕ) (h g : HardenedParts)
     (hs : IsPlacementOf p.form p.program p.closed p.entry s) (ht : IsPlacementOf p.form p.program p.closed p.entry t)

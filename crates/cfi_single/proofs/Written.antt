@@ -1,4 +1,4 @@
--- One list of labels, one code and one map are right, and the units of places depend on no flags but those of branches and stores.
+-- One list of labels and one code are right, and the units of places depend on no flags but those of branches and stores.
 use Rattle.std.proofs.Common.{◌≡◌, ℕ, zero, suc, ◌+◌, ◌*◌, ◌%◌, ◌^◌, ◌<◌, ◌≤◌, Bool, true, inl, inr, List, [], ◌∷◌, ◌++◌, length, get_or, drop, take, map, refl, sym, ap, subst, ◌∙◌, arith, cond, Option}
 use Rattle.std.specs.Prelude.{◌-◌, ◌&&◌, not, if◌then◌else◌, slice_get, slice_index, Some, false}
 use Rattle.std.proofs.Math.Seq.{take-suc}
@@ -12,7 +12,6 @@ use Rattle.obj_input.specs.declared.item_kind.ItemKind.{ItemKind}
 use Rattle.obj_input.specs.declared.item_kind.ItemKind.TheVariants as is
 use Rattle.obj_program.specs.declared.item.Item.{Item}
 use Rattle.obj_program.specs.Program.{count, item_of, no_item}
-use Rattle.cfi_map_text.specs.declared.map.MapLine.{MapLine}
 use Rattle.cfi_class.specs.Labels.{AreLabels, IsLeastFree}
 use Rattle.cfi_map.specs.GraphAtMap.{ProgramAtMap, aim_of, entered_in}
 use Rattle.cfi_leads.specs.Leaves.{in_leaf}
@@ -203,25 +202,3 @@ bytes_same (a ∷ b ∷ c ∷ d ∷ xs) (e ∷ f ∷ g ∷ h ∷ ys) m n small l
     (ap (λ (ws : List ℕ). drop 1 ws) same) in
     ap (λ (x : ℕ). x ∷ b ∷ c ∷ d ∷ xs) here.0 ∙ ap (λ (x : ℕ). e ∷ x ∷ c ∷ d ∷ xs) here.1 ∙ ap (λ (x : ℕ). e ∷ f ∷ x ∷ d ∷ xs) here.2
     ∙ ap (λ (x : ℕ). e ∷ f ∷ g ∷ x ∷ xs) here.3 ∙ ap (λ (zs : List ℕ). e ∷ f ∷ g ∷ h ∷ zs) rest
-
--- lines of a map
-abbrev gates : List MapLine → List ℕ
-gates lines = map (λ (l : MapLine). l.gate) lines
-
-abbrev sections : List MapLine → List ℕ
-sections lines = map (λ (l : MapLine). l.section) lines
-
-abbrev offsets : List MapLine → List ℕ
-offsets lines = map (λ (l : MapLine). l.offset) lines
-
-pub lines_same : (a b : List MapLine) → gates a ≡ gates b → sections a ≡ sections b → offsets a ≡ offsets b → a ≡ b
-lines_same [] [] g s o = refl
-lines_same [] (m ∷ b) g s o = absurd (cc)
-lines_same (l ∷ a) [] g s o = absurd (cc)
-lines_same (l ∷ a) (m ∷ b) g s o =
-    let gate = ap (λ (xs : List ℕ). get_or xs 0 0) g in
-    let section = ap (λ (xs : List ℕ). get_or xs 0 0) s in
-    let offset = ap (λ (xs : List ℕ). get_or xs 0 0) o in
-    let line : l ≡ m = λ i. record { gate = gate i; section = section i; offset = offset i } in
-    let rest = lines_same a b (ap (λ (xs : List ℕ). drop 1 xs) g) (ap (λ (xs : List ℕ). drop 1 xs) s) (ap (λ (xs : List ℕ). drop 1 xs) o) in
-    ap (λ (x : MapLine). x ∷ a) line ∙ ap (λ (xs : List MapLine). m ∷ xs) rest

@@ -6,6 +6,8 @@ use Rattle.cfi_map_text.specs.MapText.{map_of}
 use Rattle.cfi_map_text.proofs.MapLaws.{map_of-map_text}
 use Rattle.cfi_map.specs.GraphAtMap.{ProgramAtMap}
 use Rattle.cfi_map.specs.LegalMap.{IsLegalMap}
+use Rattle.cfi_harden.specs.Request.{program_request}
+use Rattle.cfi_harden.proofs.Right.{hardened_is_right}
 use Rattle.tool_common.specs.Writes.{OutputParts}
 use Rattle.tool_objects.specs.Compare.{form_told}
 use Rattle.tool_objects.specs.Laws.{WrittenIsRead}
@@ -14,7 +16,8 @@ use Rattle.tool_objects.proofs.FormProfile.{pair_formed}
 pub written_is_read : WrittenIsRead
 written_is_read words request hardened written made is =
     let (object, (p, prepared, (s, labels, code, init, placed, room, in_range, w))) = made.is_hardened in
-    let read = ap (λ (o : OutputParts). map_of o.bytes) is.map ∙ map_of-map_text hardened.map is.map_right in
+    let right = hardened_is_right (program_request request) p hardened prepared (s, labels, code, init, placed, room, in_range, w) in
+    let read = ap (λ (o : OutputParts). map_of o.bytes) is.map ∙ map_of-map_text hardened.map right.1 in
     record {
       hardened = hardened;
       image = record { version = image_version p.form; code = code; init = init };
@@ -23,7 +26,7 @@ written_is_read words request hardened written made is =
         image_is = ap (λ (o : OutputParts). o.bytes) is.image ∙ w.image;
         size = w.bytes.size;
         graph_is = ap (λ (o : OutputParts). o.bytes) is.graph;
-        parts = is.graph_right;
+        parts = right.0;
       };
       well_formed =
           pair_formed p.form (record { version = image_version p.form; code = code; init = init }) hardened.graph refl

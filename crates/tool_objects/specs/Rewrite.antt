@@ -10,8 +10,7 @@ use Rattle.rv_image.specs.Image.{IsImageSize}
 use Rattle.rv_image.specs.declared.form.Form.{Form}
 use Rattle.rv_image.specs.declared.form.Form.TheVariants.{Plain}
 use Rattle.elf_image.specs.Spelling.{spelling}
-use Rattle.cfi_graph.specs.Graph.{GraphParts, IsGraph, is_class, is_site}
-use Rattle.cfi_map_text.specs.Map.{IsMap}
+use Rattle.cfi_graph.specs.Graph.{GraphParts, is_class, is_site}
 use Rattle.cfi_map_text.specs.MapText.{map_text}
 use Rattle.cfi_graph.specs.Text.{graph_text}
 use Rattle.cfi_harden.specs.Given.{Given}
@@ -111,14 +110,12 @@ pub record HasSizes (image : List ℕ) (graph : GraphParts) (sizes : Sizes) : Ty
   pub classes : sizes.classes ≡ count_by is_class graph.lines
   pub sites : sizes.sites ≡ count_by is_site graph.lines
 
--- a hardened program as it is written: its image, and the spellings of its graph and its map, which are read back, under the names that
--- were asked for
+-- a hardened program as it is written: its image, and the spellings of its graph and its map, which are read back (`written_is_read`),
+-- under the names that were asked for
 pub record IsSpelledOut (words : RewriteWords) (hardened : HardenedParts) (written : Rewritten) : Type 0 where
   pub image : written.image ≡ record { name = words.image; bytes = hardened.image }
   pub graph : written.graph ≡ record { name = words.graph; bytes = graph_text hardened.graph }
   pub map : written.map ≡ record { name = words.map; bytes = map_text hardened.map }
-  pub graph_right : IsGraph hardened.graph
-  pub map_right : IsMap hardened.map
   pub sizes : HasSizes hardened.image hardened.graph written.sizes
 
 -- a hardened program of a request, which means what the request's program means; so no comparison tells a difference

@@ -277,9 +277,6 @@ fn with_texts<'a>(
     requires { IsSpelledWith image graph.now }
     ensures { IfOk result (IsSpelledOut (rewrite_asked request.now) (record { image = image; graph = graph.now; map = map.now })) }
 {
-    // These compute nothing: they tell the proof that graph and map are what is read back.
-    let _code = graph.code();
-    let _lines = map.as_slice();
     let sizes = sizes_of(image.as_slice(), graph);
     let graph = write_graph(alloc, graph)?;
     let map = write_map(alloc, map)?;
