@@ -7,3 +7,4 @@ pub mod Numbers
 pub mod Sets
 pub mod Finding
 mod Entering
+pub mod Rising

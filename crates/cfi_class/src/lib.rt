@@ -10,6 +10,7 @@ mod class;
 mod entry;
 mod groups;
 mod label;
+pub mod laws;
 mod passes;
 mod repeats;
 mod table;

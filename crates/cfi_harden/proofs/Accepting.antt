@@ -10,9 +10,11 @@ use Rattle.cfi_graph.specs.Graph.{has_leaves}
 use Rattle.obj_program.specs.AtMap.{instr_at}
 use Rattle.obj_program.specs.Program.{Program, count, is_end, item_of}
 use Rattle.cfi_graph.specs.Calls.{may_be_calls}
+use Rattle.cfi_class.proofs.Rising.{labels_rise}
 use Rattle.cfi_map.proofs.Values.{values_there}
 use Rattle.cfi_closed.specs.Closed.{ClosedGraph, Side}
 use Rattle.cfi_flow.specs.Closing.{IsClosed, IsSide}
+use Rattle.cfi_flow.specs.Labels.{used_labels}
 use Rattle.cfi_map.specs.GraphAtMap.{ProgramAtMap, program_at}
 use Rattle.cfi_map.specs.Groups.{AreGroups, bounds_in}
 use Rattle.cfi_map.specs.Placement.{whole_at, words_from}
@@ -103,7 +105,7 @@ module _ (p : PreparedParts) (ready : IsReady p) (s : Spaced) (fitting : IsFitti
         sites = site_of p.program policy raw is p.closed.version p.closed.sides closes.sorts closes.sides;
         counted = given.counted;
         labels = given.least;
-        labels_rise = given.rising;
+        labels_rise = labels_rise (used_labels p.program) labels given.least;
         labels_small = given.small;
         shorts = placed_here.shorts;
       }

@@ -45,7 +45,7 @@ ready request p prepared sound fits small = record {
 pub written_accepted : WrittenIsAccepted
 written_accepted request p s labels code init h prepared fitting written =
     let of = fitting.placed.of in
-    let is = ready request p prepared (subst (λ (l : ProgramAtMap). IsSound l.program) of written.sound)
+    let is = ready request p prepared (subst (λ (l : ProgramAtMap). IsSound l.program) of fitting.placed.placed.sound)
     (subst (λ (l : ProgramAtMap). FitsMaps l.program) of written.fits_maps)
     (subst (λ (l : ProgramAtMap). (k : ℕ) → k < count l.program → (item_of l.program k).word < 2 ^ 32) of written.words) in
     accepted p is s fitting labels (subst (λ (l : ProgramAtMap). AreGiven l.program l.closed labels) of written.labelled)

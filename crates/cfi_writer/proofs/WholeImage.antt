@@ -82,13 +82,11 @@ written_as form s labels code init image graph map able code_is init_is image_is
       code,
       init,
       record {
-        sound = able.accepted.sound;
         fits_maps = able.fits_maps;
         words = able.accepted.words;
         labelled = record {
           counted = able.accepted.counted;
           least = able.accepted.labels;
-          rising = able.accepted.labels_rise;
           small = able.accepted.labels_small;
         };
         code_is = code_is;

@@ -1,7 +1,6 @@
 -- A hardened program: its image, its graph and its map.
 use Rattle.std.specs.Prelude.{◌≡◌, ℕ, ◌<◌, ◌^◌, List, length, Some}
 use Rattle.std.specs.List.{All}
-use Rattle.std.specs.List.Sorted.{IsStrictlyIncreasing}
 use Rattle.rv_image.specs.Form.{graph_version, image_version, profile_for}
 use Rattle.rv_image.specs.declared.form.Form.{Form}
 use Rattle.elf_image.specs.Spelling.{spelling}
@@ -11,7 +10,6 @@ use Rattle.cfi_class.specs.Labels.{AreLabels}
 use Rattle.obj_program.specs.DataAtMap.{data_at}
 use Rattle.obj_program.specs.MapFit.{FitsMaps}
 use Rattle.obj_program.specs.Program.{Program, count, item_of}
-use Rattle.obj_program.specs.Sound.{IsSound}
 use Rattle.cfi_closed.specs.Closed.{ClosedGraph}
 use Rattle.cfi_map.specs.GraphAtMap.{graph_lines}
 use Rattle.cfi_map.specs.LabelOf.{tagged}
@@ -37,18 +35,16 @@ INIT_ROOM = 2 ^ 25
 abbrev pub chosen : Spaced → List ℕ → Choice
 chosen s labels = record { layout = s.layout; whole = s.whole; labels = labels }
 
--- labels for all classes: the least that are free, which rise and have 20 bits
+-- labels for all classes: the least that are free, so that they rise (`labels_rise` of cfi_class), of 20 bits
 pub record AreGiven (program : Program) (closed : ClosedGraph) (labels : List ℕ) : Type 0 where
   pub counted : length labels ≡ length (tagged closed.sides)
   pub least : AreLabels (used_labels program) labels
-  pub rising : IsStrictlyIncreasing labels
   pub small : All (λ label. label < 2 ^ 20) labels
 
 -- what is written in a form of a program at a placement: the image of the units' code and of the data at the map, the graph at the map, and the
 -- map, which is legal
 pub record IsWritten (form : Form) (s : Spaced) (labels code init : List ℕ) (h : HardenedParts) : Type 0 where
-  -- the program is sound and fits maps, and its words have 32 bits
-  pub sound : IsSound s.layout.program
+  -- the program fits maps, and its words have 32 bits
   pub fits_maps : FitsMaps s.layout.program
   pub words : (k : ℕ) → k < count s.layout.program → (item_of s.layout.program k).word < 2 ^ 32
   pub labelled : AreGiven s.layout.program s.layout.closed labels
