@@ -25,7 +25,9 @@ use Rattle.cfi_harden.specs.Fitting.{IsFitting}
 use Rattle.cfi_writer.specs.GraphOf.{IsGraphOf}
 use Rattle.cfi_writer.specs.Hardened.{AreGiven, chosen}
 use Rattle.cfi_map.specs.Placing.{IsPlacement, Spaced}
+use Rattle.cfi_map.specs.PlacingLaws.{Fits}
 use Rattle.cfi_map.specs.Source.{first_astray}
+use Rattle.cfi_map.proofs.PlacingLaws.{placements_fit}
 use Rattle.cfi_harden.specs.Prepared.{IsClosedUnder, PreparedParts, entered_of}
 use Rattle.cfi_harden.specs.Ready.{IsReady}
 use Rattle.cfi_harden.proofs.Listing.{asked_right}
@@ -69,6 +71,9 @@ module _ (p : PreparedParts) (ready : IsReady p) (s : Spaced) (fitting : IsFitti
   placed_here : IsPlacement p.form here
   placed_here = subst (λ (l : ProgramAtMap). IsPlacement p.form (record { layout = l; whole = s.whole })) fitting.placed.of fitting.placed.placed
 
+  fits_here : Fits p.form here
+  fits_here = placements_fit p.form here placed_here
+
   pub none_astray : first_astray here.layout ≡ None
   none_astray = subst (λ (l : ProgramAtMap). first_astray l ≡ None) fitting.placed.of fitting.in_range
 
@@ -94,7 +99,7 @@ module _ (p : PreparedParts) (ready : IsReady p) (s : Spaced) (fitting : IsFitti
         entry_there = ready.entered;
         legal = placed_here.legal;
         groups = groups_here;
-        room = room_there (chosen here labels) ready.sound values (record { sorts = closes.sorts; counted = given.counted }) groups_here (is_form_profile p.form) placed_here.legal placed_here.size;
+        room = room_there (chosen here labels) ready.sound values (record { sorts = closes.sorts; counted = given.counted }) groups_here (is_form_profile p.form) placed_here.legal fits_here.size;
         values = values;
         calls = ready.calls;
         sorts = closes.sorts;
@@ -107,7 +112,7 @@ module _ (p : PreparedParts) (ready : IsReady p) (s : Spaced) (fitting : IsFitti
         labels = given.least;
         labels_rise = labels_rise (used_labels p.program) labels given.least;
         labels_small = given.small;
-        shorts = placed_here.shorts;
+        shorts = fits_here.shorts;
       }
 
   pub accepted : IsAccepted (chosen s labels)

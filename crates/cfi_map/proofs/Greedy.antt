@@ -6,11 +6,15 @@ use Rattle.std.proofs.lemmas.List.{get_or_append_left, get_or_past, get_or_push,
 use Rattle.obj_program.specs.declared.item.Item.{Item}
 use Rattle.obj_program.specs.Program.{Program, count, item_of, no_item}
 use Rattle.cfi_leads.specs.Entered.{Entered}
-use Rattle.cfi_map.specs.Groups.{AreGreedy, AreGreedyTo, AreGroups, AreFirstStores, Bounds, bounds_in, is_store, joins_in, may_join, members_after, members_before}
+use Rattle.cfi_map.specs.Groups.{AreGreedy, AreGroups, AreFirstStores, Bounds, bounds_in, is_store, joins_in, may_join, members_after, members_before}
 use Rattle.cfi_map.specs.Placement.{whole_at}
 use Rattle.cfi_map.proofs.GroupFacts.{later_parts}
 
 module _ (items : ℕ → Item) (bounds : Bounds) where
+  -- so it is among the first places
+  abbrev pub AreGreedyTo : (ℕ → Bool) → ℕ → Type 0
+  AreGreedyTo whole n = (k : ℕ) → k < n → is_store (items k).kind ≡ true → whole k ≡ not (may_join items bounds k (members_before items whole k))
+
   -- they are groups
   pub greedy_groups : (whole : ℕ → Bool) → AreGreedy items bounds whole → AreGroups items bounds whole
   greedy_groups whole greedy k later =
@@ -28,9 +32,9 @@ module _ (items : ℕ → Item) (bounds : Bounds) where
       rw (here, rest) refl
 
   -- one place on
-  pub greedy_next : (whole other : ℕ → Bool) (n : ℕ) → AreGreedyTo items bounds whole n → ((j : ℕ) → j < n → other j ≡ whole j) →
+  pub greedy_next : (whole other : ℕ → Bool) (n : ℕ) → AreGreedyTo whole n → ((j : ℕ) → j < n → other j ≡ whole j) →
       (is_store (items n).kind ≡ true → other n ≡ not (may_join items bounds n (members_before items whole n))) →
-      AreGreedyTo items bounds other (n + 1)
+      AreGreedyTo other (n + 1)
   greedy_next whole other n greedy same last k below store =
       let before : members_before items whole k ≡ members_before items other k =
       before_same whole other k (λ j less. sym (same j (omega arith))) in

@@ -3,7 +3,23 @@ use Rattle.std.proofs.Common.{◌≡◌, ℕ, zero, suc, ◌+◌, ◌-◌, ◌<�
 use Rattle.std.specs.Prelude.{not}
 use Rattle.std.proofs.lemmas.Bool.{and_from, and_parts, cases_eq, cases_lt, eqb-true, leb-true, ltb-true, not-true, not_from_false}
 use Rattle.obj_program.specs.declared.item.Item.{Item}
-use Rattle.cfi_map.specs.Groups.{AreGroups, Bounds, Grouped, IsGroup, MOST_APART, MOST_STORES, all_from, base, fits_mask, is_later, is_own_at, is_store, level, may_join, may_share, members_before}
+use Rattle.cfi_map.specs.Groups.{AreGroups, Bounds, MOST_APART, MOST_STORES, all_from, base, fits_mask, is_later, is_own_at, is_store, level, may_join, may_share, members_before}
+
+-- these places are a group: the first store has its whole size, and those after it are later members
+pub record IsGroup (items : ℕ → Item) (whole : ℕ → Bool) (k n : ℕ) : Type 0 where
+  pub stores : (i : ℕ) → i < n → is_store (items (k + i)).kind ≡ true
+  pub first : whole k ≡ true
+  pub others : (i : ℕ) → 1 ≤ i → i < n → whole (k + i) ≡ false
+
+-- what holds of the stores of a group: they are few, with their own immediates, one base register and offsets that are near, and none but
+-- the first may be entered
+pub record Grouped (items : ℕ → Item) (bounds : Bounds) (k n : ℕ) : Type 0 where
+  pub most : n ≤ MOST_STORES
+  pub own : (i : ℕ) → i < n → is_own_at items (k + i) ≡ true
+  pub bases : (i j : ℕ) → i < n → j < n → base items (k + i) ≡ base items (k + j)
+  pub near : (i j : ℕ) → i < n → j < n → level items (k + i) ≤ level items (k + j) + MOST_APART
+  pub free : (i : ℕ) → 1 ≤ i → i < n → bounds.entered (k + i) ≡ false
+  pub mask : (i : ℕ) → 1 ≤ i → i < n → fits_mask bounds.short_masks (items k) (items (k + i)) ≡ true
 
 -- what holds at all numbers holds at each
 pub all_each : (test : ℕ → Bool) (first n i : ℕ) → all_from test first n ≡ true → i < n → test (first + i) ≡ true

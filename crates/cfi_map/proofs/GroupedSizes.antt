@@ -18,7 +18,8 @@ use Rattle.cfi_leads.specs.Leads.{lead_size}
 use Rattle.cfi_leads.specs.Leaves.{in_leaf}
 use Rattle.cfi_map.specs.Groups.{is_short, is_store}
 use Rattle.cfi_map.specs.Placement.{is_ecall, kind_size, lean_size, size_by, size_of, whole_at}
-use Rattle.cfi_map.specs.Sizes.{grouped_parts, grouped_size, grouped_sizes, part_sizes, saved_bytes, whole_size, whole_sizes}
+use Rattle.cfi_map.specs.PlacingLaws.{grouped_size, saved_bytes}
+use Rattle.cfi_map.specs.Sizes.{grouped_parts, grouped_sizes, part_sizes, whole_size, whole_sizes}
 use Rattle.cfi_map.proofs.Placing.{drop_step}
 
 pub length_grouped : (of : Entered) (whole : List Bool) (k : ℕ) (items : List Item) → length (grouped_sizes of whole k items) ≡ length items

@@ -16,7 +16,8 @@ use Rattle.cfi_leads.specs.Entered.{Entered, entered_at}
 use Rattle.cfi_leads.specs.Leaves.{head, is_spoilt_by}
 use Rattle.cfi_map.specs.Groups.{all_from, joins_in}
 use Rattle.cfi_map.specs.Shorts.{shorts_below, shorts_of}
-use Rattle.cfi_map.specs.Sizes.{grouped_parts, grouped_sizes, part_sizes, saved_bytes}
+use Rattle.cfi_map.specs.PlacingLaws.{saved_bytes}
+use Rattle.cfi_map.specs.Sizes.{grouped_parts, grouped_sizes, part_sizes}
 
 abbrev at : ℕ → ItemKind → ℕ → Option ℕ → Item
 at offset kind word target = record { section = 1; offset = offset; kind = kind; word = word; patch = put.Own; target = target; taken = false }

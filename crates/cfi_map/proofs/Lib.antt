@@ -10,7 +10,8 @@ pub mod GroupsAgree
 mod DirectTargets
 pub mod LaterPlaces
 pub mod LaterRuns
-mod Shortened
+pub mod Shortened
+pub mod PlacingLaws
 mod Placements
 mod LeanRows
 mod LeanLines

@@ -90,6 +90,20 @@ parts_many of whole k (item ∷ items) =
     let size = lead_size of k + size_of of k item (whole_at whole k) in
     omega (arith, parts_many of whole (k + 1) items, unit_many of k item (whole_at whole k), sum_by-cons (λ (x : ℕ). x) size (part_sizes of whole (k + 1) items))
 
+-- gates of parts one after another are their starts
+pub gates_told : (of : Entered) (whole : List Bool) (k at : ℕ) (items : List Item) (gates : List ℕ) → AreGates of whole k at items gates →
+    gates ≡ take (length items) (starts_from at (part_sizes of whole k items))
+unfolding part_sizes starts_from AreGates
+gates_told of whole k at [] [] are = refl
+gates_told of whole k at [] (gate ∷ gates) are = absurd are
+gates_told of whole k at (item ∷ items) [] are = absurd are
+gates_told of whole k at (item ∷ items) (gate ∷ gates) are =
+    let size = size_of of k item (whole_at whole k) in
+    let e : at + lead_size of k + size ≡ at + (lead_size of k + size) = omega arith in
+    let rest = gates_told of whole (k + 1) (at + lead_size of k + size) items gates are.1 in
+    ap (λ (g : ℕ). g ∷ gates) are.0
+    ∙ ap (λ (gs : List ℕ). at ∷ gs) (rest ∙ ap (λ (n : ℕ). take (length items) (starts_from n (part_sizes of whole (k + 1) items))) e)
+
 -- parts one after another have their starts as gates
 pub gates_are : (of : Entered) (whole : List Bool) (k at : ℕ) (items : List Item) →
     AreGates of whole k at items (take (length items) (starts_from at (part_sizes of whole k items)))

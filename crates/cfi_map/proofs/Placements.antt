@@ -26,15 +26,16 @@ use Rattle.cfi_layout.proofs.Offsets.{length_starts, length_where, start_most, s
 use Rattle.cfi_leads.specs.Entered.{Entered}
 use Rattle.cfi_map.specs.Groups.{AreFirstStores, is_store, joins_in, members_before}
 use Rattle.cfi_map.specs.Placement.{AreGates, whole_at}
-use Rattle.cfi_map.specs.Placing.{IsPlacement, IsPlacementOf, IsShortened, joined}
-use Rattle.cfi_map.specs.Shorts.{shorts_of, IsShortAt, is_branch}
+use Rattle.cfi_map.specs.Placing.{IsPlacement, IsPlacementOf}
+use Rattle.cfi_map.specs.Shortening.{IsShortened, joined}
+use Rattle.cfi_map.specs.Shorts.{shorts_of, is_branch}
 use Rattle.cfi_map.specs.GraphAtMap.{ProgramAtMap, program_at}
 use Rattle.cfi_map.specs.Sizes.{grouped_parts, part_sizes}
-use Rattle.cfi_map.proofs.GroupedSizes.{code_shorter, grouped_less, grouped_same, length_grouped}
+use Rattle.cfi_map.proofs.GroupedSizes.{grouped_less, grouped_same, length_grouped}
 use Rattle.cfi_map.proofs.Greedy.{past_store}
 use Rattle.cfi_map.proofs.PartSizes.{gates_are, gates_rise}
 use Rattle.cfi_map.proofs.ShortList.{parts_are, parts_within}
-use Rattle.cfi_map.proofs.Shortened.{branch_reaches, sizes_are, starts_are}
+use Rattle.cfi_map.proofs.Shortened.{starts_are}
 
 -- a set of parts that is known at branches alone
 sets_same : (branches : List Short) (long other : ℕ → Bool) → ((k : ℕ) → is_part branches k ≡ true → long k ≡ other k) → is_whole branches long ≡ is_whole branches other
@@ -149,13 +150,6 @@ module _ (form : Form) (of : Entered) (firsts : List Bool) (p : Placed) (is : Is
         ∙ ap (starts_under (profile_for form).units_from (whole_at whole) (shorts_of of)) grouped
         ∙ starts_are form of whole sound
 
-    size : code_size (profile_for form).units_from (part_sizes of whole 0 of.program.items) ≤ CODE_SIZE
-    size =
-        let sizes = ap sum (sizes_are of whole sound) in
-        let less = sum_where (is_whole (shorts_of of) (whole_at whole)) 0 (grouped_parts of whole) in
-        let fewer = grouped_less of whole in
-        omega (arith, sizes, less, fewer, is.room)
-
     legal : AreGates of whole 0 (profile_for form).units_from of.program.items (take (count of.program) p.starts)
     legal =
         subst (λ (xs : List ℕ). AreGates of whole 0 (profile_for form).units_from of.program.items (take (count of.program) xs)) (sym starts)
@@ -169,13 +163,8 @@ module _ (form : Form) (of : Entered) (firsts : List Bool) (p : Placed) (is : Is
       at_starts = record {
         sound = sound;
         room = is.room;
-        size = size;
         legal = legal;
         groups = firsts_same of firsts whole at_store are;
-        shorter = code_shorter form of whole;
-        shorts = λ k target lt branch short aim.
-            subst (λ (xs : List ℕ). IsShortAt (program_at form of.program of.closed (take (count of.program) xs) of.entry) k target) (sym starts)
-            (branch_reaches form of whole sound least.closed k target lt branch short aim);
         least = least;
       }
 

@@ -21,7 +21,8 @@ use Rattle.cfi_leads.specs.Entered.{Entered}
 use Rattle.cfi_leads.specs.Leads.{lead_size}
 use Rattle.cfi_leads.specs.Leaves.{in_leaf}
 use Rattle.cfi_map.specs.Placement.{is_ecall, kind_size, lean_size, size_by, size_of, whole_at}
-use Rattle.cfi_map.specs.Shorts.{short_to, shorts_of, IsShortAt, is_branch}
+use Rattle.cfi_map.specs.PlacingLaws.{IsShortAt}
+use Rattle.cfi_map.specs.Shorts.{short_to, shorts_of, is_branch}
 use Rattle.cfi_map.specs.GraphAtMap.{program_at}
 use Rattle.cfi_map.specs.Groups.{is_short, is_store}
 use Rattle.cfi_map.specs.Sizes.{grouped_parts, grouped_sizes, part_sizes, whole_sizes}

@@ -1,6 +1,6 @@
 -- Groups of stores. Stores that stand one after another may share one mask: a store joins the group that ends right before its place and
 -- is then a later member of it, which has one word, the store itself.
-use Rattle.std.specs.Prelude.{List, ◌≡◌, ℕ, zero, suc, ◌+◌, ◌-◌, ◌%◌, ◌<◌, ◌≤◌, nat_le, nat_lt, Bool, true, false, not, ◌==◌, ◌&&◌, ◌||◌, if◌then◌else◌, Option, Some, slice_index_or}
+use Rattle.std.specs.Prelude.{List, ◌≡◌, ℕ, zero, suc, ◌+◌, ◌-◌, ◌%◌, nat_le, nat_lt, Bool, true, false, not, ◌==◌, ◌&&◌, ◌||◌, if◌then◌else◌, Option, Some, slice_index_or}
 use Rattle.std.specs.List.{list_any}
 use Rattle.rv_instr.specs.declared.instr.Instr.{Instr}
 use Rattle.rv_instr.specs.declared.instr.Instr.TheVariants.{Store}
@@ -108,21 +108,12 @@ module _ (items : ℕ → Item) (whole : ℕ → Bool) where
   members_before zero = 0
   members_before (suc k) = if is_store (items k).kind then (if whole k then 1 else members_before k + 1) else 0
 
-  -- these places are a group: the first store has its whole size, and those after it are later members
-  pub record IsGroup (k n : ℕ) : Type 0 where
-    pub stores : (i : ℕ) → i < n → is_store (items (k + i)).kind ≡ true
-    pub first : whole k ≡ true
-    pub others : (i : ℕ) → 1 ≤ i → i < n → whole (k + i) ≡ false
-
 module _ (items : ℕ → Item) (bounds : Bounds) (whole : ℕ → Bool) where
   -- each later member may be one
   abbrev pub AreGroups : Type 0
   AreGroups = (k : ℕ) → is_later items whole k ≡ true → may_join items bounds k (members_before items whole k) ≡ true
 
-  -- from left to right each store is a later member that may be one: among the first places, and among all
-  abbrev pub AreGreedyTo : ℕ → Type 0
-  AreGreedyTo n = (k : ℕ) → k < n → is_store (items k).kind ≡ true → whole k ≡ not (may_join items bounds k (members_before items whole k))
-
+  -- from left to right each store is a later member that may be one
   abbrev pub AreGreedy : Type 0
   AreGreedy = (k : ℕ) → is_store (items k).kind ≡ true → whole k ≡ not (may_join items bounds k (members_before items whole k))
 
@@ -137,13 +128,3 @@ joins_in of k n = may_join (item_of of.program) (bounds_in of) k n
 -- these flags say which stores of a program begin a group, from left to right
 abbrev pub AreFirstStores : Entered → List Bool → Type 0
 AreFirstStores of flags = AreGreedy (item_of of.program) (bounds_in of) (λ k. slice_index_or flags k true)
-
--- what holds of the stores of a group: they are few, with their own immediates, one base register and offsets that are near, and none but
--- the first may be entered
-pub record Grouped (items : ℕ → Item) (bounds : Bounds) (k n : ℕ) : Type 0 where
-  pub most : n ≤ MOST_STORES
-  pub own : (i : ℕ) → i < n → is_own_at items (k + i) ≡ true
-  pub bases : (i j : ℕ) → i < n → j < n → base items (k + i) ≡ base items (k + j)
-  pub near : (i j : ℕ) → i < n → j < n → level items (k + i) ≤ level items (k + j) + MOST_APART
-  pub free : (i : ℕ) → 1 ≤ i → i < n → bounds.entered (k + i) ≡ false
-  pub mask : (i : ℕ) → 1 ≤ i → i < n → fits_mask bounds.short_masks (items k) (items (k + i)) ≡ true

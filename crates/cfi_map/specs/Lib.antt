@@ -8,6 +8,8 @@ pub mod Mapped
 pub mod Sizes
 pub mod Shorts
 pub mod Placing
+pub mod Shortening
+pub mod PlacingLaws
 pub mod Source
 pub mod World
 pub mod Untame

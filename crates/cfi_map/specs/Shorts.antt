@@ -1,12 +1,11 @@
 -- The branches of a program that may be written short, as a placement of its parts is asked for them.
-use Rattle.std.specs.Prelude.{◌≡◌, ℕ, zero, suc, ◌+◌, ◌≤◌, ◌==◌, ◌&&◌, Bool, true, false, if◌then◌else◌, Option, Some, None, option_map, List, [], ◌∷◌, ◌++◌}
+use Rattle.std.specs.Prelude.{ℕ, zero, suc, ◌+◌, ◌==◌, ◌&&◌, Bool, true, false, if◌then◌else◌, Option, Some, None, option_map, List, [], ◌∷◌, ◌++◌}
 use Rattle.obj_input.specs.declared.item_kind.ItemKind.{ItemKind}
 use Rattle.obj_input.specs.declared.item_kind.ItemKind.TheVariants as is
 use Rattle.obj_program.specs.Program.{count, item_of}
 use Rattle.cfi_layout.specs.declared.short.Short.{Short}
 use Rattle.cfi_leads.specs.Entered.{Entered}
 use Rattle.cfi_leads.specs.Leads.{lead_size}
-use Rattle.cfi_map.specs.GraphAtMap.{ProgramAtMap, entered_in, gate, word}
 
 abbrev pub is_branch : ItemKind → Bool
 is_branch is.Branch = true
@@ -21,12 +20,6 @@ is_skipped kind lead = false
 -- a branch over just one such place is kept long
 abbrev pub is_kept : Entered → ℕ → ℕ → Bool
 is_kept of k target = target == k + 2 && is_skipped (item_of of.program (k + 1)).kind (lead_size of (k + 1))
-
--- a short branch reaches its target, and is not kept
-pub record IsShortAt (layout : ProgramAtMap) (k target : ℕ) : Type 0 where
-  pub back : word layout k ≤ gate layout target + 4096
-  pub ahead : gate layout target ≤ word layout k + 4092
-  pub free : is_kept (entered_in layout) k target ≡ false
 
 -- the branch at a place to a target: behind the words of its part that stand before it; where it is kept, it is long wherever it stands
 abbrev pub short_to : Entered → ℕ → ℕ → Short

@@ -1,6 +1,6 @@
 -- How many bytes the parts of a program's code have. The part of a place is the words before its unit, if there are any,
 -- and its unit.
-use Rattle.std.specs.Prelude.{ℕ, ◌+◌, ◌-◌, Bool, true, not, ◌&&◌, ◌||◌, if◌then◌else◌, List, [], ◌∷◌}
+use Rattle.std.specs.Prelude.{ℕ, ◌+◌, Bool, not, ◌||◌, List, [], ◌∷◌}
 use Rattle.rv_image.specs.Form.{profile_for}
 use Rattle.rv_image.specs.declared.form.Form.{Form}
 use Rattle.obj_program.specs.declared.item.Item.{Item}
@@ -21,12 +21,6 @@ grouped_sizes of whole k [] = []
 grouped_sizes of whole k (item ∷ items) =
     (lead_size of k + size_of of k item (whole_at whole k || not (is_store item.kind))) ∷ grouped_sizes of whole (k + 1) items
 
--- how many bytes later members of groups save then: each the mask that it would have
-unfoldable pub saved_bytes : Entered → List Bool → ℕ → List Item → ℕ
-saved_bytes of whole k [] = 0
-saved_bytes of whole k (item ∷ items) =
-    (if is_store item.kind && not (whole_at whole k) then size_of of k item true - 4 else 0) + saved_bytes of whole (k + 1) items
-
 -- the parts of a program whose units all have their whole size
 abbrev pub whole_sizes : Entered → List ℕ
 whole_sizes of = part_sizes of [] 0 of.program.items
@@ -35,9 +29,6 @@ whole_sizes of = part_sizes of [] 0 of.program.items
 abbrev pub whole_size : Form → Entered → ℕ
 whole_size form of = code_size (profile_for form).units_from (whole_sizes of)
 
--- the parts of a program whose branches are long and whose stores are grouped, and how many bytes its code then has
+-- the parts of a program whose branches are long and whose stores are grouped
 abbrev pub grouped_parts : Entered → List Bool → List ℕ
 grouped_parts of whole = grouped_sizes of whole 0 of.program.items
-
-abbrev pub grouped_size : Form → Entered → List Bool → ℕ
-grouped_size form of whole = code_size (profile_for form).units_from (grouped_parts of whole)

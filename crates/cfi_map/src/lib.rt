@@ -9,6 +9,7 @@ pub use sizes::unit_size;
 pub use spacing::{Spacing, place_program};
 
 mod groups;
+pub mod laws;
 mod mapped;
 mod reason;
 mod shorts;

@@ -8,7 +8,8 @@ ghost use Rattle.cfi_layout.specs.Starts.{flag};
 ghost use Rattle.cfi_leads.specs.Entered.{entered_at};
 ghost use Rattle.cfi_map.specs.Groups.{AreFirstStores};
 ghost use Rattle.cfi_map.specs.Placement.{whole_at};
-ghost use Rattle.cfi_map.specs.Placing.{IsPlacementOf, IsShortened, PlaceEnds, joined};
+ghost use Rattle.cfi_map.specs.Placing.{IsPlacementOf, PlaceEnds};
+ghost use Rattle.cfi_map.specs.Shortening.{IsShortened, joined};
 ghost use Rattle.cfi_map.specs.Sizes.{whole_size};
 
 use crate::groups::{Grouping, is_store};

@@ -29,7 +29,8 @@ use Rattle.cfi_flow.specs.Sites.{site_kind}
 use Rattle.cfi_unit.specs.UnitWords.{words_of}
 use Rattle.cfi_rules.specs.Placed.{code_from}
 use Rattle.cfi_writer.specs.Accepted.{IsAccepted}
-use Rattle.cfi_map.specs.Shorts.{IsShortAt, is_branch}
+use Rattle.cfi_map.specs.PlacingLaws.{IsShortAt}
+use Rattle.cfi_map.specs.Shorts.{is_branch}
 use Rattle.cfi_writer.specs.Units.{Choice, bounds_at, followers, is_later_at, units_of}
 use Rattle.cfi_writer.proofs.Grouping.{later_below}
 use Rattle.cfi_writer.proofs.LeanRows.{calling_leaf, no_sides}

@@ -20,10 +20,10 @@ use Rattle.obj_program.specs.Program.{Program, count, item_of}
 use Rattle.obj_program.specs.Sound.{is_own}
 use Rattle.cfi_graph.specs.Graph.{has_leaves}
 use Rattle.cfi_map.specs.GraphAtMap.{words_at}
-use Rattle.cfi_map.specs.Groups.{Grouped, base, base_of, is_forward, is_short, is_store, level_of}
+use Rattle.cfi_map.specs.Groups.{base, base_of, is_forward, is_short, is_store, level_of}
 use Rattle.cfi_map.specs.Groups as groups
 use Rattle.cfi_map.specs.Placement.{whole_at}
-use Rattle.cfi_map.proofs.GroupFacts.{grouped}
+use Rattle.cfi_map.proofs.GroupFacts.{Grouped, grouped}
 use Rattle.cfi_map.proofs.LaterRuns.{store_no_end}
 use Rattle.cfi_unit.specs.declared.mask.Mask.{Mask}
 use Rattle.cfi_unit.specs.declared.mask.Mask.TheVariants.{Shifts, Short, Long}

@@ -18,7 +18,8 @@ use Rattle.cfi_map.specs.GraphAtMap.{entered_in, words_at}
 use Rattle.cfi_map.specs.LabelOf.{tagged}
 use Rattle.cfi_flow.specs.Labels.{used_labels}
 use Rattle.cfi_map.specs.Placement.{AreGates, whole_at}
-use Rattle.cfi_map.specs.Shorts.{IsShortAt, is_branch}
+use Rattle.cfi_map.specs.PlacingLaws.{IsShortAt}
+use Rattle.cfi_map.specs.Shorts.{is_branch}
 use Rattle.cfi_flow.specs.Sites.{site_kind}
 use Rattle.cfi_rules.specs.Placed.{placed_code}
 use Rattle.cfi_map.specs.Groups.{AreGroups}
