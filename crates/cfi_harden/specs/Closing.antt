@@ -1,4 +1,5 @@
--- What a program and a policy come to: a closed graph for a version of graphs, or a wrong line of the policy.
+-- What a program and a policy come to: a closed graph for a version of graphs, or a wrong line of the policy. Only private contracts cite
+-- this.
 use Rattle.std.specs.Prelude.{ℕ, List, Option, Some, None, Result, Ok, Err}
 use Rattle.rv_image.specs.declared.version.GraphVersion.{GraphVersion}
 use Rattle.rv_word.specs.declared.end.End.{End}

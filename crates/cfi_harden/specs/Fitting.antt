@@ -1,9 +1,7 @@
 -- What a prepared program comes to before its units are written: a placement in which its data have room and no value leaves its range,
 -- or the first of three refusals.
-use Rattle.std.specs.Prelude.{◌≡◌, ◌<◌, ◌≤◌, Some, None, Result, Ok, Err}
+use Rattle.std.specs.Prelude.{◌≡◌, ◌<◌, ◌≤◌, Some, None}
 use Rattle.rv_image.specs.MemoryMap.{CODE_SIZE}
-use Rattle.rv_word.specs.declared.end.End.{End}
-use Rattle.rv_word.specs.declared.end.End.TheVariants.{Fault, NoMemory}
 use Rattle.obj_program.specs.DataAtMap.{init_size}
 use Rattle.refusals.specs.declared.refusal.Refusal.{Refusal}
 use Rattle.refusals.specs.declared.refusal.Refusal.TheVariants.{CodeTooLarge, DataTooLarge, RelocRange}
@@ -27,9 +25,3 @@ RefusesPlaced p (RelocRange section offset) =
     (s : Spaced) × IsPlacementOf p.form p.program p.closed p.entry s × HasDataRoom p.program
     × (first_astray s.layout ≡ Some (record { section = section; offset = offset }))
 RefusesPlaced p other = ⊥
-
--- only want of memory is free
-abbrev pub FitsOr : PreparedParts → Result Spaced (End Refusal) → Type 0
-FitsOr p (Ok s) = IsFitting p s
-FitsOr p (Err (Fault refusal)) = RefusesPlaced p refusal
-FitsOr p (Err NoMemory) = Unit {0}

@@ -8,5 +8,6 @@ pub mod Joining
 pub mod Room
 pub mod Hardened
 pub mod Fitting
+pub mod Placing
 pub mod Ready
 pub mod HardenedLaws

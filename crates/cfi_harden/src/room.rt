@@ -3,7 +3,7 @@
 ghost use Rattle.std.specs.Prelude.{◌≡◌, ◌↔◌, ◌<◌, IsTrue};
 ghost use Rattle.rv_image.specs.Form.{graph_version};
 ghost use Rattle.obj_program.specs.Program.{count};
-ghost use Rattle.cfi_harden.specs.Fitting.{FitsOr};
+ghost use Rattle.cfi_harden.specs.Placing.{FitsOr};
 ghost use Rattle.cfi_harden.specs.Room.{HasDataRoom};
 
 use crate::prepared::Prepared;

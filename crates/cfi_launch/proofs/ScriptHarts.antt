@@ -16,7 +16,8 @@ use Rattle.text_lines.specs.Answers.{line_fault}
 use Rattle.cfi_script.specs.Script.{Changes, ScriptParts}
 use Rattle.cfi_script.specs.ScriptText.{changes_of_lines, for_one, for_several, harts_of, script_names, script_of, turns_read, with_count, with_harts}
 use Rattle.cfi_launch.specs.SafeRun.{undisturbed_script}
-use Rattle.cfi_launch.specs.Launch.{lacks_harts, script_given}
+use Rattle.cfi_launch.specs.Launch.{script_given}
+use Rattle.cfi_launch.specs.ScriptHarts.{lacks_harts}
 
 -- every image may have one hart
 pub one_may_run : (version : ImageVersion) → MayRun (profile_of version) 1

@@ -1,9 +1,8 @@
 -- A run of an image with its graph under a script, and why there is none.
-use Rattle.std.specs.Prelude.{◌≡◌, ◌⊎◌, ◌<◌, nat_lt, Bool, false, ℕ, List, ⊤, Option, Some, None, Result, Ok, Err}
+use Rattle.std.specs.Prelude.{◌≡◌, ◌⊎◌, ◌<◌, ℕ, List, ⊤, Option, Some, None, Result, Ok, Err}
 use Rattle.rv_image.specs.Image.{Contents, image_profile}
 use Rattle.rv_image.specs.MemoryMap.{MayRun}
-use Rattle.rv_image.specs.declared.version.ImageVersion.{ImageVersion}
-use Rattle.rv_image.specs.declared.version.ImageVersion.TheVariants.{OneHart, EightHarts}
+use Rattle.rv_image.specs.declared.version.ImageVersion.TheVariants.{OneHart}
 use Rattle.rv_word.specs.declared.end.End.{End}
 use Rattle.text_lines.specs.declared.fault.LineFault.{LineFault}
 use Rattle.text_lines.specs.Answers.{line_fault}
@@ -25,11 +24,6 @@ use Rattle.cfi_launch.specs.declared.launching.Launched.TheVariants.{Rejected, R
 abbrev pub script_given : Option (List ℕ) → Result ScriptParts (End LineFault)
 script_given None = Ok undisturbed_script
 script_given (Some text) = script_of text
-
--- a script is for several harts, and an image of this version for one. Only a private contract cites this
-abbrev pub lacks_harts : ImageVersion → ℕ → Bool
-lacks_harts OneHart harts = nat_lt 1 harts
-lacks_harts EightHarts harts = false
 
 -- the image is refused where its bytes have a fault, then the graph, then the script, each at its first line that fails; without
 -- a script none is refused. A script for several harts is refused last, where the image is for one

@@ -1,2 +1,3 @@
 pub mod SafeRun
 pub mod Launch
+pub mod ScriptHarts

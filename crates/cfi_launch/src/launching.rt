@@ -3,7 +3,8 @@ ghost use Rattle.rv_image.specs.Image.{image_profile};
 ghost use Rattle.rv_image.specs.MemoryMap.{MayRun};
 ghost use Rattle.text_lines.specs.Answers.{Answers};
 ghost use Rattle.cfi_pair.specs.Spelled.{Spell};
-ghost use Rattle.cfi_launch.specs.Launch.{IsComplete, IsLaunchEnd, IsLaunchOf, IsLaunchOfPair, lacks_harts, script_given};
+ghost use Rattle.cfi_launch.specs.Launch.{IsComplete, IsLaunchEnd, IsLaunchOf, IsLaunchOfPair, script_given};
+ghost use Rattle.cfi_launch.specs.ScriptHarts.{lacks_harts};
 
 use cfi_pair::{Pair, PairFault, open_pair};
 use cfi_script::Script;

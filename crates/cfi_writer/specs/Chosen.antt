@@ -1,4 +1,4 @@
--- What is kept beside a choice while its code and graph are written.
+-- What is kept beside a choice while its code and graph are written. Only private contracts cite this.
 use Rattle.std.specs.Prelude.{◌≡◌, ℕ, zero, suc, ◌+◌, ◌≤◌, ◌<◌, ◌^◌, if◌then◌else◌, Option, Some, None, List, [], ◌∷◌, length, slice_index}
 use Rattle.rv_instr.specs.declared.instr.Instr.{Instr}
 use Rattle.obj_program.specs.Program.{is_end, item_of}

@@ -4,7 +4,8 @@ use Rattle.std.specs.Prelude.{count_by}
 use Rattle.elf_image.specs.Header.{data_start}
 use Rattle.elf_image.proofs.Only.{read_as}
 use Rattle.cfi_graph.specs.Graph.{GraphParts, is_class, is_site}
-use Rattle.tool_objects.specs.Rewrite.{HasSizes, IsSpelledWith}
+use Rattle.tool_objects.specs.Rewrite.{HasSizes}
+use Rattle.tool_objects.specs.Spelled.{IsSpelledWith}
 use Rattle.tool_objects.specs.declared.rewrite.Sizes.{Sizes}
 
 module _ (bytes : List ℕ) (graph : GraphParts) (is : IsSpelledWith bytes graph) where

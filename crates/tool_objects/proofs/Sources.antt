@@ -16,6 +16,7 @@ use Rattle.cfi_map_text.specs.Map.{MapParts}
 use Rattle.cfi_map_text.specs.MapText.{map_of}
 use Rattle.cfi_map.specs.GraphAtMap.{ProgramAtMap}
 use Rattle.cfi_map.specs.MapFault.{IsWrongLine}
+use Rattle.cfi_map.specs.Source.{source_start}
 use Rattle.cfi_harden.specs.Given.{Given}
 use Rattle.cfi_harden.specs.Room.{HasDataRoom}
 use Rattle.cfi_harden.specs.Prepared.{IsPrepared, PreparedParts}
@@ -31,13 +32,14 @@ use Rattle.cfi_flow.specs.Policy.{instruction_at}
 use Rattle.src_machine.specs.Beginning.{Ends, IsBegun}
 use Rattle.src_machine.specs.declared.source_fault.SourceFault.{SourceFault}
 use Rattle.src_machine.specs.Laws.{WrongIsNotLegal}
-use Rattle.src_machine.specs.Running.{SourceParts}
+use Rattle.src_machine.specs.Running.{SourceParts, source_of}
 use Rattle.cfi_meaning.specs.Compared.{compared}
 use Rattle.cfi_compare.specs.Told.{told_answer}
 use Rattle.cfi_compare.specs.declared.answer.Compared as A
 use Rattle.tool_objects.specs.declared.compare.CompareOutcome.{CompareOutcome}
 use Rattle.tool_objects.specs.declared.compare.CompareOutcome.TheVariants as outcome
-use Rattle.tool_objects.specs.Compare.{IsAfterImage, IsCompareOf, IsCompareRefused, IsComparison, IsImageCompared, IsResult, IsRoomy, IsRoomyEnd, IsRunnable, IsSourceAt, asked_at, first_out, map_form}
+use Rattle.tool_objects.specs.Compare.{IsCompareOf, IsCompareRefused, IsComparison, IsMapOf, IsRoomy, IsRunnable, asked_at, at_map, first_out, map_form}
+use Rattle.tool_objects.specs.Comparing.{IsAfterImage, IsImageCompared, IsResult, IsRoomyEnd}
 use Rattle.tool_objects.specs.Demonstration.{IsSourceOn}
 
 -- a request in the form of a map that a text spells is one at that text
@@ -66,6 +68,15 @@ pub begins : (p : PreparedParts) (input : List ℕ) (m : MapParts) (section offs
     MatchResult result (IsSourceOn p m input) (Ends p.program p.closed p.entry m)
 begins p input m section offset (Ok run) at is = source_on p input m run (is p.entry at)
 begins p input m section offset (Err e) at is = is p.entry at
+
+-- a program at the map that a text spells, from its start
+pub record IsSourceAt (p : PreparedParts) (map input : List ℕ) (run : SourceParts) : Type 0 where
+  pub at : MapParts
+  pub map_is : IsMapOf p map at
+  pub in_range : first_out p at ≡ None
+  pub layout : run.layout ≡ at_map p at
+  pub state : source_of run ≡ source_start run.layout input
+  pub steps : run.steps ≡ 0
 
 pub source_is : (p : PreparedParts) (map input : List ℕ) (m : MapParts) (run : SourceParts)
     → map_of map ≡ Ok m → IsSourceOn p m input run → IsSourceAt p map input run

@@ -1,16 +1,14 @@
 -- `compare OBJECT ENTRY POLICY IMAGE MAP INPUT STEPS`: the system calls of an image against those of its object, which is run as a
 -- program at the map, in the map's form. The word `none` for POLICY or INPUT means no file. `compare-link ENTRY POLICY IMAGE MAP INPUT
 -- STEPS OBJECT ..` compares an image with several objects, which are joined.
-use Rattle.std.specs.Prelude.{◌≡◌, ℕ, List, [], ◌∷◌, ◌++◌, codes, ⊤, Option, Some, None, option_map, Result, Ok, Err}
+use Rattle.std.specs.Prelude.{◌≡◌, ℕ, List, [], ◌∷◌, ◌++◌, codes, Option, Some, None, option_map, Result, Ok, Err}
 use Rattle.rv_image.specs.Image.{Contents, image_profile}
 use Rattle.rv_word.specs.declared.end.End.{End}
-use Rattle.rv_word.specs.declared.end.End.TheVariants.{Fault, NoMemory}
 use Rattle.rv_image.specs.declared.form.Form.{Form}
 use Rattle.rv_image.specs.declared.form.Form.TheVariants.{Plain}
 use Rattle.text_lines.specs.Answers.{line_fault}
 use Rattle.text_lines.specs.declared.fault.LineFault.{LineFault}
 use Rattle.elf_image.specs.Fault.{fault_of}
-use Rattle.elf_image.specs.declared.refusal.ImageRefusal.{ImageRefusal}
 use Rattle.obj_program.specs.DataAtMap.{init_size}
 use Rattle.obj_program.specs.Range.{out_of_range}
 use Rattle.least.specs.declared.place.Place as found
@@ -23,9 +21,7 @@ use Rattle.cfi_harden.specs.Room.{HasDataRoom}
 use Rattle.cfi_harden.specs.Prepared.{IsPrepared, PreparedParts}
 use Rattle.cfi_harden.specs.Refused.{Refuses}
 use Rattle.cfi_harden.specs.Request as asks
-use Rattle.cfi_map.specs.Source.{source_start}
 use Rattle.cfi_map.specs.GraphAtMap.{ProgramAtMap, program_at, words_at}
-use Rattle.src_machine.specs.Running.{SourceParts, source_of}
 use Rattle.cfi_meaning.specs.Compared.{compared}
 use Rattle.cfi_compare.specs.Text.{answer_text}
 use Rattle.cfi_compare.specs.Told.{told_answer}
@@ -125,41 +121,6 @@ IsCompareRefused request image map (Graph line reason) = ⊥
 IsCompareRefused request image map (Script line reason) = ⊥
 IsCompareRefused request image map (Harts count) = ⊥
 IsCompareRefused request image map early = Refuses request early
-
--- why there is no program whose data have room, where only want of memory is free. Only private contracts cite this
-abbrev pub IsRoomyEnd : asks.Request → End Refusal → Type 0
-IsRoomyEnd request (Fault refusal) = (image map : List ℕ) → IsCompareRefused request image map refusal
-IsRoomyEnd request NoMemory = ⊤
-
--- what is told of a map that is none, where an image's own refusal goes first. Only private contracts cite this
-pub record IsAfterImage (image : List ℕ) (map result : Refusal) : Type 0 where
-  pub wrong : (refusal : ImageRefusal) → fault_of image ≡ Some refusal → result ≡ Image refusal
-  pub right : fault_of image ≡ None → result ≡ map
-
--- a program at the map that a text spells, from its start
-pub record IsSourceAt (p : PreparedParts) (map input : List ℕ) (run : SourceParts) : Type 0 where
-  pub at : MapParts
-  pub map_is : IsMapOf p map at
-  pub in_range : first_out p at ≡ None
-  pub layout : run.layout ≡ at_map p at
-  pub state : source_of run ≡ source_start run.layout input
-  pub steps : run.steps ≡ 0
-
--- a program's run is at its start
-pub record IsFresh (input : List ℕ) (run : SourceParts) : Type 0 where
-  pub steps : run.steps ≡ 0
-  pub state : source_of run ≡ source_start run.layout input
-
--- what comes of a program at its start and of a file that should be an image
-pub record IsResult (run : SourceParts) (image input : List ℕ) (limit : ℕ) (result : A.Compared) : Type 0 where
-  pub contents : Contents
-  pub image_is : IsImage image contents
-  pub result_is : result ≡ told_answer run.layout.program (compared (image_profile contents) run.layout contents input limit)
-
-abbrev pub IsImageCompared : SourceParts → List ℕ → List ℕ → ℕ → CompareOutcome → Type 0
-IsImageCompared run image input limit (outcome.Refused (Image refusal)) = fault_of image ≡ Some refusal
-IsImageCompared run image input limit (outcome.Refused other) = ⊥
-IsImageCompared run image input limit (outcome.Compared result) = IsResult run image input limit result
 
 -- the program is run at the map, the image beside it, and this is how they compare
 pub record IsComparison (request : asks.Request) (image map input : List ℕ) (limit : ℕ) (result : A.Compared) : Type 0 where

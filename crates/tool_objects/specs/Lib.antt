@@ -1,6 +1,9 @@
 pub mod Objects
+pub mod GivenBytes
 pub mod Rewrite
+pub mod Spelled
 pub mod Compare
+pub mod Comparing
 pub mod Demo
 pub mod Demonstration
 pub mod Complete

@@ -3,8 +3,6 @@ use Rattle.std.specs.Prelude.{ℕ, List, ◌∷◌, ◌++◌, map, Option, Some}
 use Rattle.cfi_harden.specs.Given.{Given, alone, joined}
 use Rattle.tool_common.specs.Held.{AreHeld, IsHeld}
 use Rattle.tool_common.specs.Reads.{Content, Gave, GaveAll}
-use Rattle.tool_objects.specs.declared.objects.ObjectBytes as bytes
-use Rattle.tool_objects.specs.declared.objects.ObjectBytes.TheVariants as given
 use Rattle.tool_objects.specs.declared.objects.Objects as R
 use Rattle.tool_objects.specs.declared.objects.Objects.TheVariants as kept
 
@@ -29,11 +27,7 @@ HoldObjects content (one name) (alone object) = IsHeld (content name) object
 HoldObjects content (several names) (joined objects) = AreHeld content (map Some names) objects
 HoldObjects content objects given = ⊥
 
--- objects as the tool keeps them, their names and their bytes
+-- objects as the tool keeps them, by their names
 abbrev pub objects_asked : R.Objects → Objects
 objects_asked (kept.Alone name) = one name.now
 objects_asked (kept.Joined names) = several (map (λ name. name.now) names.items)
-
-abbrev pub given_by : bytes.ObjectBytes → Given
-given_by (given.Alone object) = alone object.now
-given_by (given.Joined objects) = joined (map (λ object. object.items) objects.now)

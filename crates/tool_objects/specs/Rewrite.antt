@@ -86,17 +86,6 @@ rewrite_asked r = record { form = r.form; objects = objects_asked r.objects; ent
 abbrev pub request_of : RewriteWords → Given → Option (List ℕ) → asks.Request
 request_of words given policy = record { form = words.form; given = given; entry = words.entry; policy = policy }
 
--- the bytes of a file are an image's of a version
-abbrev pub IsSpelled : ImageVersion → List ℕ → Type 0
-IsSpelled version bytes =
-    (code : List ℕ) × (init : List ℕ) × IsImageSize (length code) (length init) × (bytes ≡ spelling version code init)
-
--- so they are, and the code has the length that a graph tells. Only private contracts cite this
-abbrev pub IsSpelledWith : List ℕ → GraphParts → Type 0
-IsSpelledWith bytes graph =
-    (version : ImageVersion) × (code : List ℕ) × (init : List ℕ) × IsImageSize (length code) (length init)
-    × (bytes ≡ spelling version code init) × (graph.code ≡ length code)
-
 -- what is told of an image and its graph: the lengths of code and initialised data, and the numbers of lines
 pub record HasSizes (image : List ℕ) (graph : GraphParts) (sizes : Sizes) : Type 0 where
   pub version : ImageVersion

@@ -16,8 +16,9 @@ ghost use Rattle.cfi_harden.specs.Prepared.{PreparedParts};
 ghost use Rattle.cfi_harden.specs.Preparing.{Reads};
 ghost use Rattle.cfi_harden.specs.Request.{Request};
 ghost use Rattle.src_machine.specs.Beginning.{Ends};
-ghost use Rattle.tool_objects.specs.Compare.{ExplainsCompare, IsAfterImage, IsCompareOf, IsCompareRefused, IsFresh, IsImageCompared, IsRoomy, IsRoomyEnd, answer_status, asked_at, compare_asked, compare_line, compare_link_words, compare_names, compare_status, compare_words};
-ghost use Rattle.tool_objects.specs.Objects.{given_by};
+ghost use Rattle.tool_objects.specs.Compare.{ExplainsCompare, IsCompareOf, IsCompareRefused, IsRoomy, answer_status, asked_at, compare_asked, compare_line, compare_link_words, compare_names, compare_status, compare_words};
+ghost use Rattle.tool_objects.specs.Comparing.{IsAfterImage, IsFresh, IsImageCompared, IsRoomyEnd};
+ghost use Rattle.tool_objects.specs.GivenBytes.{given_by};
 
 use crate::objects::{ObjectBytes, Objects, program_given};
 use crate::source::{roomy, source_on};

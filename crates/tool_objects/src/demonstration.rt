@@ -13,7 +13,8 @@ ghost use Rattle.cfi_meaning.specs.Hardened.{NeverDiffersOf};
 ghost use Rattle.cfi_launch.specs.SafeRun.{IsSafeRun, undisturbed_script};
 ghost use Rattle.tool_objects.specs.Demo.{STEP_LIMIT};
 ghost use Rattle.tool_objects.specs.Demonstration.{CanRunAt, IsAnswerAt, IsDemoPrepared, IsDrawn, IsImageIn, IsSourceOn};
-ghost use Rattle.tool_objects.specs.Rewrite.{IsMade, IsSpelled};
+ghost use Rattle.tool_objects.specs.Rewrite.{IsMade};
+ghost use Rattle.tool_objects.specs.Spelled.{IsSpelled};
 
 use crate::source::source_on;
 use cfi_compare::{Compared, compare};

@@ -4,7 +4,8 @@
 ghost use Rattle.std.specs.Prelude.{◌≡◌, ◌+◌, ◌++◌, [], ℕ, List, Option, Some, IfOk, OnOk, length, map, option_map};
 ghost use Rattle.cfi_harden.specs.Preparing.{Reads};
 ghost use Rattle.tool_common.specs.Reads.{Content, GaveAll};
-ghost use Rattle.tool_objects.specs.Objects.{GaveObjects, given_by, names_with, objects_asked};
+ghost use Rattle.tool_objects.specs.GivenBytes.{given_by};
+ghost use Rattle.tool_objects.specs.Objects.{GaveObjects, names_with, objects_asked};
 
 use cfi_harden::{joined_program, program_of};
 use obj_program::Items;

@@ -10,8 +10,10 @@ ghost use Rattle.tool_common.specs.Lines.{with_newline};
 ghost use Rattle.tool_common.specs.Reads.{Content, GaveAll, IsFault, IsStop, IsTooLong, file_names};
 ghost use Rattle.tool_common.specs.Words.{text_named};
 ghost use Rattle.tool_common.specs.Writes.{AreApart, IsCut, IsTorn, KeepsReads, Wrote};
-ghost use Rattle.tool_objects.specs.Objects.{given_by, objects_asked};
-ghost use Rattle.tool_objects.specs.Rewrite.{AreNamedApart, ExplainsRewrite, HasSizes, IsRewriteOf, IsSpelledOut, IsSpelledWith, harden_words, link_words, outputs_of, rewrite_asked, rewrite_line, rewrite_names, rewrite_outputs, rewrite_status, rewrite_words, words_alone, words_in};
+ghost use Rattle.tool_objects.specs.GivenBytes.{given_by};
+ghost use Rattle.tool_objects.specs.Objects.{objects_asked};
+ghost use Rattle.tool_objects.specs.Rewrite.{AreNamedApart, ExplainsRewrite, HasSizes, IsRewriteOf, IsSpelledOut, harden_words, link_words, outputs_of, rewrite_asked, rewrite_line, rewrite_names, rewrite_outputs, rewrite_status, rewrite_words, words_alone, words_in};
+ghost use Rattle.tool_objects.specs.Spelled.{IsSpelledWith};
 
 use crate::objects::{ObjectBytes, Objects, program_given};
 use cfi_graph::{Graph, write_graph};

@@ -10,7 +10,8 @@ ghost use Rattle.cfi_harden.specs.Prepared.{IsPrepared};
 ghost use Rattle.cfi_harden.specs.Preparing.{Reads};
 ghost use Rattle.cfi_harden.specs.Request.{Request};
 ghost use Rattle.src_machine.specs.Beginning.{Ends};
-ghost use Rattle.tool_objects.specs.Compare.{IsRoomy, IsRoomyEnd};
+ghost use Rattle.tool_objects.specs.Compare.{IsRoomy};
+ghost use Rattle.tool_objects.specs.Comparing.{IsRoomyEnd};
 ghost use Rattle.tool_objects.specs.Demonstration.{IsSourceOn};
 
 use cfi_harden::{Prepared, has_data_room, prepare_program};
