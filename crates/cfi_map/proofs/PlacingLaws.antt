@@ -29,6 +29,6 @@ placements_fit form s is =
       shorter = code_shorter form of s.whole;
       shorts = λ k target lt branch short aim.
           let there = subst (λ (gates : List ℕ). IsShortAt (program_at form of.program of.closed gates of.entry) k target) (sym told)
-              (branch_reaches form of s.whole is.sound is.least.closed k target lt branch short aim) in
+          (branch_reaches form of s.whole is.sound is.least.closed k target lt branch short aim) in
           record { back = there.back; ahead = there.ahead; free = there.free };
     }

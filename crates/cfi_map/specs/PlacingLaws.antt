@@ -1,5 +1,4 @@
--- What holds of each placement: its code has room as it is, and each short branch reaches; and how many bytes groups save. Laws alone cite
--- this.
+-- What follows of each placement: its code has room as it is, and each short branch reaches; and how many bytes groups save.
 use Rattle.std.specs.Prelude.{◌≡◌, ℕ, ◌+◌, ◌-◌, ◌≤◌, ◌<◌, not, ◌&&◌, if◌then◌else◌, Bool, true, false, Some, List, [], ◌∷◌}
 use Rattle.rv_image.specs.Form.{profile_for}
 use Rattle.rv_image.specs.MemoryMap.{CODE_SIZE}
