@@ -7,7 +7,10 @@ from tests.shared.paths import CRATES
 
 LEMMA = re.compile(r"^(?:pub )?([^\s:()]+) : (.*(?:\n[ \t]+.*)*)", re.M)
 USE = re.compile(r"^use ([\w.]+)\.\{([^}]*)\}", re.M)
-APART = {"tool_words/proofs/Leaf.antt cases_option", "elf_writer/proofs/Stands.antt past_content"}  # may stand twice
+APART = {  # may stand twice: between crates that export none of their proofs
+    "tool_words/proofs/Leaf.antt cases_option", "elf_writer/proofs/Stands.antt past_content", "obj_join/proofs/Sorting.antt tie",
+    "obj_join/proofs/Listing.antt listed_next", "obj_items/proofs/NoFault.antt past_sections",
+}
 BOUND = re.compile(r"[({]([^(){}:]+) : ")
 WORD = re.compile(r"(?<![\w.'\-])[^\W\d][\w'\-]*")
 

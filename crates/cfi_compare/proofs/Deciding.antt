@@ -1,27 +1,10 @@
 -- From what is alike before an index and what stands there to the first difference of the whole lists.
 use Rattle.std.proofs.Common.{◌≡◌, Bool, true, false, ℕ, zero, suc, ◌+◌, ◌<◌, ◌≤◌, List, [], ◌∷◌, length, slice_get, Option, Some, None, option_map, is_some, if◌then◌else◌, refl, sym, ap, ◌∙◌, arith, inl, inr}
 use Rattle.std.proofs.lemmas.Bool.{cases_lt}
-use Rattle.rv_image.specs.Image.{Contents}
-use Rattle.rv_image.specs.MemoryMap.{Profile}
-use Rattle.cfi_map.specs.GraphAtMap.{ProgramAtMap}
-use Rattle.cfi_map.specs.Source.{Source}
-use Rattle.cfi_meaning.specs.Bounds.{most_steps}
-use Rattle.cfi_runs.specs.WholeRun.{undisturbed}
-use Rattle.rv_code.specs.State.{After}
-use Rattle.rv_code.specs.declared.event.Event.{Event}
-use Rattle.rv_code.specs.declared.turn.Turn.{Turn}
+use Rattle.cfi_compare.proofs.Prelude.{Contents, Profile, ProgramAtMap, Source, most_steps, undisturbed, After, Event, Turn, Reason, StepTurn, breaks, exits, ran, untame, Program, item_of, told, SourceTurn, source_run, Difference, TraceItem, broke, called, exited, first_difference, has_ended, image_end, running, same, same_item, source_end, stopped, trace, verdict, IsAnswered, IsFollowed, answer_of, end_items, end_told, item_or, same_side, settled, told_answer, told_item, Compared}
 use Rattle.rv_code.specs.declared.turn.Turn.TheVariants as turns
-use Rattle.cfi_map.specs.declared.reason.Reason.{Reason}
-use Rattle.cfi_map.specs.SourceStep.{StepTurn, breaks, exits, ran, untame}
-use Rattle.obj_program.specs.Program.{Program, item_of}
-use Rattle.src_machine.specs.Told.{told}
-use Rattle.src_machine.specs.declared.turn.SourceTurn.{SourceTurn}
 use Rattle.src_machine.specs.declared.turn.SourceTurn.TheVariants as ends
 use Rattle.cfi_meaning.specs.Compared as compared
-use Rattle.cfi_meaning.specs.Compared.{source_run, Difference, TraceItem, broke, called, exited, first_difference, has_ended, image_end, running, same, same_item, source_end, stopped, trace, verdict}
-use Rattle.cfi_compare.specs.Followed.{IsAnswered, IsFollowed, answer_of, end_items, end_told, item_or, same_side, settled}
-use Rattle.cfi_compare.specs.Told.{told_answer, told_item}
-use Rattle.cfi_compare.specs.declared.answer.Compared.{Compared}
 use Rattle.cfi_compare.specs.declared.answer.Compared.TheVariants as answers
 use Rattle.cfi_compare.proofs.ImageRuns.{agree_within, both_there, get_more}
 

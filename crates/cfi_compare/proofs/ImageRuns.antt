@@ -1,18 +1,9 @@
 -- An image's run that is under way: one step of it, and the system calls that are alike so far.
 use Rattle.std.proofs.Common.{◌≡◌, true, false, ℕ, zero, suc, ◌+◌, ◌-◌, ◌<◌, ◌≤◌, List, [], ◌∷◌, ◌++◌, length, replicate, slice_get, Option, Some, None, append-nil, refl, sym, ap, subst, ◌∙◌, arith}
 use Rattle.std.proofs.lemmas.Option.{slice_get_past, slice_get_within}
-use Rattle.rv_image.specs.declared.version.ImageVersion.{ImageVersion}
-use Rattle.rv_image.specs.MemoryMap.{Profile, profile_of}
-use Rattle.rv_code.specs.Run.{ByteChange, next_or_stop, run, run_alone}
-use Rattle.rv_code.specs.State.{After, Hart, Shared}
-use Rattle.rv_code.specs.Step.{step}
-use Rattle.rv_code.specs.declared.event.Event.{Event}
-use Rattle.rv_code.specs.declared.turn.Turn.{Turn}
-use Rattle.rv_code.specs.declared.turn.Turn.TheVariants.{Ran, Exit, Break, LoadFault, StoreFault, FetchFault, Illegal}
+use Rattle.cfi_compare.proofs.Prelude.{ImageVersion, Profile, profile_of, ByteChange, next_or_stop, run, run_alone, After, Hart, Shared, step, Event, Turn, Ran, Exit, Break, LoadFault, StoreFault, FetchFault, Illegal, Parts, after_step, hart_in, shared_in, Agree, agree_at, both_same, is_stop}
 use Rattle.rv_code.proofs.Alone.{alone_next}
 use Rattle.rv_code.proofs.Continued.{events_added}
-use Rattle.rv_machine.specs.Parts.{Parts, after_step, hart_in, shared_in}
-use Rattle.cfi_compare.specs.Followed.{Agree, agree_at, both_same, is_stop}
 
 -- more is added to the list of a run than to what it begins with
 abbrev Adds : List Event → List Event → Type 0

@@ -1,3 +1,4 @@
+pub mod Prelude
 mod ProgramRuns
 mod ImageRuns
 mod Deciding

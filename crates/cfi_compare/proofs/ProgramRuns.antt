@@ -1,16 +1,7 @@
 -- A program's run that is under way: its first steps, each of which ran, and what comes after them.
 use Rattle.std.proofs.Common.{◌≡◌, Bool, true, false, ℕ, zero, suc, ◌+◌, ◌-◌, ◌<◌, ◌≤◌, refl, sym, ap, ◌∙◌, arith}
-use Rattle.cfi_map.specs.GraphAtMap.{ProgramAtMap}
-use Rattle.cfi_map.specs.Source.{Source}
-use Rattle.cfi_map.specs.SourceStep.{StepTurn, breaks, exits, ran, source_step, untame}
-use Rattle.obj_program.specs.Program.{Program}
-use Rattle.src_machine.specs.Running.{IsStep, IsUnchanged, SourceParts, counted, source_of}
-use Rattle.src_machine.specs.Told.{told}
-use Rattle.src_machine.specs.declared.turn.SourceTurn.{SourceTurn}
+use Rattle.cfi_compare.proofs.Prelude.{ProgramAtMap, Source, StepTurn, breaks, exits, ran, source_step, untame, Program, IsStep, IsUnchanged, SourceParts, counted, source_of, told, SourceTurn, SourceRun, run_from, source_run, IsFinished, IsOwnState}
 use Rattle.src_machine.specs.declared.turn.SourceTurn.TheVariants as ends
-use Rattle.cfi_meaning.specs.Compared.{SourceRun, run_from, source_run}
-use Rattle.cfi_compare.specs.Followed.{IsFinished}
-use Rattle.cfi_compare.specs.Told.{IsOwnState}
 
 -- so many steps that ran
 abbrev pub going : ℕ → Source → SourceRun

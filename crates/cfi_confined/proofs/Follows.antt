@@ -3,26 +3,10 @@
 use Rattle.std.proofs.Common.{◌≡◌, ℕ, inl, inr, List, [], ◌∷◌, refl, sym, ap, subst, ◌∙◌, Option, Some, None, arith}
 use Rattle.std.specs.List.{AllByRecursion}
 use Rattle.std.proofs.lemmas.Bool.{cond_both}
-use Rattle.rv_image.specs.Image.{Contents, loaded}
-use Rattle.rv_image.specs.MemoryMap.{Profile, part_of}
-use Rattle.rv_word.specs.Numbers.{is_listed}
-use Rattle.rv_instr.specs.declared.instr.Instr.{Instr}
-use Rattle.rv_instr.specs.declared.instr.Instr.TheVariants.{Ecall}
-use Rattle.rv_code.specs.Run.{HartStep, RunAfter, disturbed, next_or_stop, run, stepped}
-use Rattle.rv_code.specs.State.{After, Hart, Harts, Shared, last_exit, with_hart}
-use Rattle.rv_code.specs.Step.{can_fetch, exec, exec_decoded, step, step_unless_ended, stops}
-use Rattle.rv_code.specs.declared.turn.Turn.{Turn}
-use Rattle.rv_code.specs.declared.turn.Turn.TheVariants.{Ran, FetchFault}
+use Rattle.cfi_confined.proofs.Prelude.{Contents, loaded, Profile, part_of, is_listed, Instr, Ecall, HartStep, RunAfter, disturbed, next_or_stop, run, stepped, After, Hart, Harts, Shared, last_exit, with_hart, can_fetch, exec, exec_decoded, step, step_unless_ended, stops, Turn, Ran, FetchFault, GraphParts, calls_in, IsCodeOf, AreStepsOf, AddsListed, IsListedCall, steps_taken, ConfinedAlong, IsAllowed, MayEcall, Pending, fetched, with_pending, ConfinedIsListed, ConfinedKeepsCode}
 use Rattle.rv_code.proofs.Changes.{changed_above}
-use Rattle.cfi_graph.specs.Graph.{GraphParts, calls_in}
-use Rattle.cfi_unit.specs.Context.{IsCodeOf}
 use Rattle.cfi_unit.proofs.Events.{call_adds, cases_call, quiet}
-use Rattle.cfi_rules.specs.Along.{AreStepsOf}
-use Rattle.cfi_rules.specs.Listed.{AddsListed, IsListedCall}
-use Rattle.cfi_rules.specs.Taken.{steps_taken}
 use Rattle.cfi_rules.proofs.Taken.{after_step}
-use Rattle.cfi_confined.specs.Confined.{ConfinedAlong, IsAllowed, MayEcall, Pending, fetched, with_pending}
-use Rattle.cfi_confined.specs.Laws.{ConfinedIsListed, ConfinedKeepsCode}
 use Rattle.cfi_confined.proofs.Writes.{below_part}
 
 module _ (p : Profile) (graph : GraphParts) (calls : List ℕ) (list_is : calls_in graph.lines ≡ Some calls) (hart : ℕ) (h : Hart) (s : Shared) where

@@ -5,31 +5,14 @@ use Rattle.std.specs.Prelude.{◌==◌, ◌&&◌, not, is_some, option_and_then}
 use Rattle.std.specs.List.{Contains}
 use Rattle.std.proofs.lemmas.Bool.{and_parts, cases_eq, eqb-true, ne_eqb, or_parts, false≢true, not-false}
 use Rattle.std.proofs.lemmas.Option.{none-some, same_Some, slice_get-get_or}
-use Rattle.rv_image.specs.Image.{Contents}
-use Rattle.rv_image.specs.MemoryMap.{IsProfile, Profile}
+use Rattle.cfi_confined.proofs.Prelude.{Contents, IsProfile, Profile, GraphLine, Class, Site, Edge, Call, Address, SiteKind, Sort, ClassLine, GraphParts, IsGraph, class_in, Place, TargetWord, word_count, stands_in, AreBytes, class_with, holds_of, is_among, line_at, or_class, serves, stands_at, targets_for, IsWellFormed, call_of, edge_of, is_call_to, is_edge_to, is_lone_site, is_site_with, same_kind, site_of, code_words, place_at, InClass, Asks, IsSiteTo, NoSite, class_line, past_target}
 use Rattle.rv_word.proofs.Cases.{cases_Option, chosen}
 use Rattle.rv_image.proofs.Profiles.{laid_out}
-use Rattle.cfi_graph.specs.declared.line.GraphLine.{GraphLine}
 use Rattle.cfi_graph.specs.declared.line.Sort.TheVariants as sorts
-use Rattle.cfi_graph.specs.declared.line.GraphLine.TheVariants.{Class, Site, Edge, Call}
-use Rattle.cfi_graph.specs.declared.line.Key.TheVariants.{Address}
-use Rattle.cfi_graph.specs.declared.line.SiteKind.{SiteKind}
 use Rattle.cfi_graph.specs.declared.line.SiteKind.TheVariants as K
-use Rattle.cfi_graph.specs.declared.line.Sort.{Sort}
-use Rattle.cfi_graph.specs.Graph.{ClassLine, GraphParts, IsGraph, class_in}
-use Rattle.cfi_unit.specs.declared.place.Place.{Place}
 use Rattle.cfi_unit.specs.declared.place.Place.TheVariants.{Body as body}
-use Rattle.cfi_unit.specs.declared.target_word.TargetWord.{TargetWord}
 use Rattle.cfi_unit.specs.declared.unit.Unit as U
 use Rattle.cfi_unit.specs.declared.unit.Unit.TheVariants as V
-use Rattle.cfi_unit.specs.UnitWords.{word_count}
-use Rattle.cfi_pending.specs.StartLaw.{stands_in}
-use Rattle.cfi_rules.specs.Laws.{AreBytes}
-use Rattle.cfi_rules.specs.Lines.{class_with, holds_of, is_among, line_at, or_class, serves, stands_at, targets_for}
-use Rattle.cfi_rules.specs.Rules.{IsWellFormed, call_of, edge_of, is_call_to, is_edge_to, is_lone_site, is_site_with, same_kind, site_of}
-use Rattle.cfi_rules.specs.Split.{code_words, place_at}
-use Rattle.cfi_rules.specs.Walk.{InClass}
-use Rattle.cfi_rules.specs.declared.asks.Asks.{Asks}
 use Rattle.cfi_rules.specs.declared.reject.Rule.TheVariants as R
 use Rattle.cfi_rules.proofs.Find.{UnitHere, no_unit}
 use Rattle.cfi_rules.proofs.LineOrder.{line_at-with, with_key}
@@ -37,7 +20,6 @@ use Rattle.cfi_rules.proofs.Leading.{class_parts}
 use Rattle.cfi_rules.proofs.Places.{place_facts}
 use Rattle.cfi_rules.proofs.RuleFacts.{unit_stands_in}
 use Rattle.cfi_rules.proofs.Served.{served}
-use Rattle.cfi_confined.specs.Confined.{IsSiteTo, NoSite, class_line, past_target}
 
 abbrev ListedAs : List GraphLine → ℕ → GraphLine → Type 0
 ListedAs lines a line = Contains lines line × (stands_at a line ≡ true)

@@ -4,51 +4,17 @@ use Rattle.std.proofs.Common.{◌≡◌, ℕ, ◌+◌, ◌-◌, ◌*◌, ◌/◌
 use Rattle.std.specs.Prelude.{option_map, slice_get}
 use Rattle.std.specs.List.{Contains}
 use Rattle.std.proofs.lemmas.Bool.{cases_Bool, cond_both, eq-eqb, false≢true, ne_eqb}
-use Rattle.rv_word.specs.Bits.{wrap}
-use Rattle.rv_image.specs.Image.{Contents, loaded}
-use Rattle.rv_image.specs.MemoryMap.{IsProfile, Profile, can_load, can_store}
-use Rattle.rv_image.specs.declared.version.GraphVersion.{GraphVersion}
-use Rattle.rv_image.specs.declared.version.GraphVersion.TheVariants.{OneLabel, TwoLabels, CalleeSaves}
+use Rattle.cfi_confined.proofs.Prelude.{wrap, Contents, loaded, IsProfile, Profile, can_load, can_store, GraphVersion, OneLabel, TwoLabels, CalleeSaves, Registers, get_reg, Instr, Upper, Jal, Jalr, Branch, Load, Store, Immediate, Shift, ShiftWord, Register, Fence, Ecall, Ebreak, BranchOp, Lui, Auipc, branch_taken, load_size, store_size, After, Hart, Shared, address, exec, offset, Ran, GraphParts, IsGraph, has_leaves, Call, Edge, SiteKind, Place, TargetWord, First, Third, flow_of, HasLabel, Returns, destination, place_instrs, is_full, DEEP, GoesBack, stands_in, Start, StandsBy, fresh, may_stand, saved, OpeningLeads, PlaceLeads, AreBytes, jump_word, IsWellFormed, asks, call_of, edge_of, site_of, code_words, place_at, by_class, ComputedMoves, IsSiteTo, LeadsOver, Moves, NoSite, before_call, before_site, call_line, most_skip, past_target}
 use Rattle.rv_image.proofs.Profiles.{laid_out}
-use Rattle.rv_instr.specs.Registers.{Registers, get_reg}
-use Rattle.rv_instr.specs.declared.instr.Instr.{Instr}
-use Rattle.rv_instr.specs.declared.instr.Instr.TheVariants.{Upper, Jal, Jalr, Branch, Load, Store, Immediate, Shift, ShiftWord, Register, Fence, Ecall, Ebreak}
-use Rattle.rv_instr.specs.declared.instr.BranchOp.{BranchOp}
-use Rattle.rv_instr.specs.declared.instr.UpperOp.TheVariants.{Lui, Auipc}
-use Rattle.rv_code.specs.Arithmetic.{branch_taken, load_size, store_size}
-use Rattle.rv_code.specs.State.{After, Hart, Shared}
-use Rattle.rv_code.specs.Step.{address, exec, offset}
-use Rattle.rv_code.specs.declared.turn.Turn.TheVariants.{Ran}
 use Rattle.rv_code.proofs.Calls.{AfterCall, after_call, answered, ended}
-use Rattle.cfi_graph.specs.Graph.{GraphParts, IsGraph, has_leaves}
-use Rattle.cfi_graph.specs.declared.line.GraphLine.TheVariants.{Call, Edge}
-use Rattle.cfi_graph.specs.declared.line.SiteKind.{SiteKind}
 use Rattle.cfi_graph.specs.declared.line.SiteKind.TheVariants as K
-use Rattle.cfi_unit.specs.declared.place.Place.{Place}
 use Rattle.cfi_unit.specs.declared.place.Place.TheVariants.{Handler as handler, Opening as opening, Closing as closing, Body as body}
-use Rattle.cfi_unit.specs.declared.target_word.TargetWord.{TargetWord}
-use Rattle.cfi_unit.specs.declared.target_word.TargetWord.TheVariants.{First, Third}
 use Rattle.cfi_unit.specs.declared.unit.Unit as U
 use Rattle.cfi_unit.specs.declared.unit.Unit.TheVariants as V
-use Rattle.cfi_unit.specs.Flow.{flow_of}
-use Rattle.cfi_unit.specs.Leads.{HasLabel, Returns, destination}
-use Rattle.cfi_unit.specs.Place.{place_instrs}
-use Rattle.cfi_unit.specs.Templates.{is_full}
-use Rattle.cfi_unit.specs.UnitWords.{DEEP}
-use Rattle.cfi_pending.specs.PendingLeads.{GoesBack}
-use Rattle.cfi_pending.specs.StartLaw.{stands_in}
-use Rattle.cfi_pending.specs.Starts.{Start, StandsBy, fresh, may_stand, saved}
-use Rattle.cfi_rules.specs.Along.{OpeningLeads, PlaceLeads}
-use Rattle.cfi_rules.specs.Laws.{AreBytes}
-use Rattle.cfi_rules.specs.Lines.{jump_word}
-use Rattle.cfi_rules.specs.Rules.{IsWellFormed, asks, call_of, edge_of, site_of}
-use Rattle.cfi_rules.specs.Split.{code_words, place_at}
-use Rattle.cfi_rules.specs.Walk.{by_class}
 use Rattle.cfi_rules.proofs.Moves.{SitesStand}
 use Rattle.cfi_rules.proofs.Places.{at_start, at_unit, place_facts}
 use Rattle.cfi_rules.proofs.RuleFacts.{call_starts, unit_reads, unit_stands_in}
 use Rattle.cfi_rules.proofs.Served.{read_by}
-use Rattle.cfi_confined.specs.Confined.{ComputedMoves, IsSiteTo, LeadsOver, Moves, NoSite, before_call, before_site, call_line, most_skip, past_target}
 use Rattle.cfi_confined.proofs.Lines.{call_listed, edge_listed, no_site, site_to, site_words}
 use Rattle.cfi_confined.proofs.Sites.{SitesOf, Went, class_gate, inner, keeping, labelled, leads_to, low_sites, site_stands}
 use Rattle.cfi_confined.proofs.Words.{AreNewest, BranchFact, CallFact, ComputedFact, Fact, JumpFact, caller_saves, keeps_by}

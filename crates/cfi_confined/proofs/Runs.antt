@@ -4,50 +4,20 @@ use Rattle.std.specs.Prelude.{if◌then◌else◌, slice_get}
 use Rattle.std.specs.List.{AllByRecursion}
 use Rattle.std.proofs.lemmas.Bool.{cases_eq, eq-eqb, ne_eqb}
 use Rattle.std.proofs.lemmas.Option.{same_Some, slice_get_within}
-use Rattle.rv_image.specs.Image.{Contents, loaded}
-use Rattle.rv_image.specs.MemoryMap.{PART_SIZE, START, IsProfile, MayRun, Profile, part_of}
-use Rattle.rv_word.specs.Memory.{Memory}
-use Rattle.rv_word.specs.Same.{SameOn}
+use Rattle.cfi_confined.proofs.Prelude.{Contents, loaded, PART_SIZE, START, IsProfile, MayRun, Profile, part_of, Memory, SameOn, Registers, Instr, Ecall, decoded, ByteChange, HartStep, IsDataChange, changed, disturbed, if_ran, After, Hart, Harts, Shared, last_exit, with_hart, exec, step, Turn, Ran, Exit, Break, LoadFault, StoreFault, FetchFault, Illegal, GraphParts, IsGraph, calls_in, Context, IsCodeOf, MayCall, flow_of, Place, IsWordOf, place_instrs, OPENING, opening_instrs, MOST_PENDING, Stand, MayStand, Fits, Reaches, Start, StandsBy, fresh, may_stand, saved, AreStepsOf, MayBreak, MayEnd, MayExit, MayFault, MayStart, PlaceLeads, Walk, AreBytes, IsWellFormed, code_words, is_handler, place_at, TakenStep, steps_taken, by_class, ConfinedAlong, IsAllowed, IsHandler, MayEcall, MayStop, Moves, Pending, Writes, fetched, most_calls, with_pending, WellFormedIsConfined}
 use Rattle.rv_word.proofs.Cases.{cases_Option}
 use Rattle.rv_image.proofs.Profiles.{laid_out}
-use Rattle.rv_instr.specs.Registers.{Registers}
-use Rattle.rv_instr.specs.declared.instr.Instr.{Instr}
-use Rattle.rv_instr.specs.declared.instr.Instr.TheVariants.{Ecall}
-use Rattle.rv_code.specs.Decode.{decoded}
-use Rattle.rv_code.specs.Run.{ByteChange, HartStep, IsDataChange, changed, disturbed, if_ran}
-use Rattle.rv_code.specs.State.{After, Hart, Harts, Shared, last_exit, with_hart}
-use Rattle.rv_code.specs.Step.{exec, step}
-use Rattle.rv_code.specs.declared.turn.Turn.{Turn}
-use Rattle.rv_code.specs.declared.turn.Turn.TheVariants.{Ran, Exit, Break, LoadFault, StoreFault, FetchFault, Illegal}
 use Rattle.rv_code.proofs.Frames.{read_same}
 use Rattle.rv_code.proofs.Changes.{changed_above}
-use Rattle.cfi_graph.specs.Graph.{GraphParts, IsGraph, calls_in}
-use Rattle.cfi_unit.specs.Context.{Context, IsCodeOf}
-use Rattle.cfi_unit.specs.EventLaw.{MayCall}
-use Rattle.cfi_unit.specs.Flow.{flow_of}
-use Rattle.cfi_unit.specs.declared.place.Place.{Place}
 use Rattle.cfi_unit.specs.declared.place.Place.TheVariants.{Handler as handler, Opening as opening, Closing as closing, Body as body}
 use Rattle.cfi_unit.specs.declared.unit.Unit as U
 use Rattle.cfi_unit.specs.declared.unit.Unit.TheVariants as V
-use Rattle.cfi_unit.specs.Place.{IsWordOf, place_instrs}
-use Rattle.cfi_unit.specs.Prologue.{OPENING, opening_instrs}
-use Rattle.cfi_unit.specs.Shadow.{MOST_PENDING}
-use Rattle.cfi_unit.specs.Stand.{Stand}
-use Rattle.cfi_unit.specs.UnitLaw.{MayStand}
-use Rattle.cfi_unit.specs.UnitWords.{Fits, Reaches}
 use Rattle.cfi_unit.proofs.Context.{at_word}
 use Rattle.cfi_unit.proofs.Events.{place_may}
 use Rattle.cfi_unit.proofs.Others.{other_part}
 use Rattle.cfi_unit.proofs.Sought.{nowhere, opening_lacks}
 use Rattle.cfi_pending.specs.Opening as lean
-use Rattle.cfi_pending.specs.Starts.{Start, StandsBy, fresh, may_stand, saved}
 use Rattle.cfi_pending.proofs.StartSteps.{stacked_of}
-use Rattle.cfi_rules.specs.Along.{AreStepsOf, MayBreak, MayEnd, MayExit, MayFault, MayStart, PlaceLeads, Walk}
-use Rattle.cfi_rules.specs.Laws.{AreBytes}
-use Rattle.cfi_rules.specs.Rules.{IsWellFormed}
-use Rattle.cfi_rules.specs.Split.{code_words, is_handler, place_at}
-use Rattle.cfi_rules.specs.Taken.{TakenStep, steps_taken}
-use Rattle.cfi_rules.specs.Walk.{by_class}
 use Rattle.cfi_rules.proofs.Labels.{full_may_stand, place_stands}
 use Rattle.cfi_rules.proofs.ListedRuns.{act_listed, admitted}
 use Rattle.cfi_rules.proofs.Moves.{Arrived, SitesStand, Stage, most_at}
@@ -55,8 +25,6 @@ use Rattle.cfi_rules.proofs.Places.{PlaceFacts, at_opening, handler_is, nothing_
 use Rattle.cfi_rules.proofs.RuleFacts.{unit_stands_in}
 use Rattle.cfi_rules.proofs.StartKinds.{full_there, stands_there, start_there}
 use Rattle.cfi_rules.proofs.Steps.{InOpens, InUnitNow, Inside, Now, Ready, are_sites, arrived, begins, full_opens, inside_kept, lean_opens, opens_at, starting, step_on, within}
-use Rattle.cfi_confined.specs.Confined.{ConfinedAlong, IsAllowed, IsHandler, MayEcall, MayStop, Moves, Pending, Writes, fetched, most_calls, with_pending}
-use Rattle.cfi_confined.specs.Laws.{WellFormedIsConfined}
 use Rattle.cfi_confined.proofs.Moves.{Standing, moves, sites_of}
 use Rattle.cfi_confined.proofs.Sites.{Went, low_sites, site_stands}
 use Rattle.cfi_confined.proofs.Words.{Here, closing_here, handler_here, lean_opening_here, opening_here, unit_here}

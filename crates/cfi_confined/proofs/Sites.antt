@@ -2,29 +2,13 @@
 use Rattle.std.proofs.Common.{◌≡◌, ℕ, ◌+◌, ◌*◌, ◌%◌, ◌^◌, ◌<◌, ◌≤◌, ◌⊎◌, inl, inr, Bool, true, false, List, [], ◌∷◌, refl, sym, ap, ◌∙◌, Some, None, arith}
 use Rattle.std.proofs.lemmas.Bool.{cases_Bool}
 use Rattle.std.proofs.lemmas.Option.{none-some}
-use Rattle.rv_image.specs.Image.{Contents, loaded}
-use Rattle.rv_image.specs.MemoryMap.{START, IsProfile, Profile}
+use Rattle.cfi_confined.proofs.Prelude.{Contents, loaded, START, IsProfile, Profile, Registers, GraphParts, SiteKind, Place, TargetWord, First, Third, flow_of, HasLabel, Legal, Returns, destination, after_unit, past, GoesBack, PendingLeads, OpeningLeads, PlaceLeads, AreBytes, IsWellFormed, asks, call_of, site_of, code_words, place_at, InClass, by_class}
 use Rattle.rv_image.proofs.Profiles.{laid_out}
-use Rattle.rv_instr.specs.Registers.{Registers}
-use Rattle.cfi_graph.specs.Graph.{GraphParts}
-use Rattle.cfi_graph.specs.declared.line.SiteKind.{SiteKind}
 use Rattle.cfi_graph.specs.declared.line.SiteKind.TheVariants as K
-use Rattle.cfi_unit.specs.declared.place.Place.{Place}
 use Rattle.cfi_unit.specs.declared.place.Place.TheVariants.{Handler as handler, Opening as opening, Closing as closing, Body as body}
-use Rattle.cfi_unit.specs.declared.target_word.TargetWord.{TargetWord}
-use Rattle.cfi_unit.specs.declared.target_word.TargetWord.TheVariants.{First, Third}
 use Rattle.cfi_unit.specs.declared.unit.SystemOp.TheVariants as S
 use Rattle.cfi_unit.specs.declared.unit.Unit as U
 use Rattle.cfi_unit.specs.declared.unit.Unit.TheVariants as V
-use Rattle.cfi_unit.specs.Flow.{flow_of}
-use Rattle.cfi_unit.specs.Leads.{HasLabel, Legal, Returns, destination}
-use Rattle.cfi_unit.specs.UnitWords.{after_unit, past}
-use Rattle.cfi_pending.specs.PendingLeads.{GoesBack, PendingLeads}
-use Rattle.cfi_rules.specs.Along.{OpeningLeads, PlaceLeads}
-use Rattle.cfi_rules.specs.Laws.{AreBytes}
-use Rattle.cfi_rules.specs.Rules.{IsWellFormed, asks, call_of, site_of}
-use Rattle.cfi_rules.specs.Split.{code_words, place_at}
-use Rattle.cfi_rules.specs.Walk.{InClass, by_class}
 use Rattle.cfi_rules.proofs.Bytes.{length-code_words}
 use Rattle.cfi_rules.proofs.Find.{UnitHere}
 use Rattle.cfi_rules.proofs.Labels.{label_in_class}

@@ -1,10 +1,7 @@
 -- An instruction, and where it leads, tell which calls are pending after it.
 use Rattle.std.proofs.Common.{◌≡◌, ℕ, inl, inr, List, drop, sym, ap, ◌∙◌, Some, None, arith}
-use Rattle.rv_instr.specs.declared.instr.Instr.TheVariants.{Branch, Jal, Jalr}
-use Rattle.cfi_graph.specs.Graph.{GraphParts}
+use Rattle.cfi_confined.proofs.Prelude.{Branch, Jal, Jalr, GraphParts, ComputedMoves, PendingIsTold}
 use Rattle.cfi_graph.specs.declared.line.SiteKind.TheVariants as K
-use Rattle.cfi_confined.specs.Confined.{ComputedMoves}
-use Rattle.cfi_confined.specs.Laws.{PendingIsTold}
 
 apart : (rd : ℕ) → rd ≡ 0 → rd ≡ 1 → ⊥
 apart rd zero_is one_is = omega arith

@@ -4,34 +4,16 @@ use Rattle.std.specs.Prelude.{◌==◌, if◌then◌else◌, slice_get}
 use Rattle.std.specs.List.{Contains}
 use Rattle.std.proofs.lemmas.Bool.{and_parts, eq-eqb, false≢true}
 use Rattle.std.proofs.lemmas.Option.{same_Some}
-use Rattle.rv_image.specs.Image.{Contents, loaded}
-use Rattle.rv_image.specs.MemoryMap.{MayRun, Profile, part_of, lean_version_1, version_1, version_2}
-use Rattle.rv_word.specs.Memory.{placed, write}
+use Rattle.cfi_confined.proofs.Prelude.{Contents, loaded, MayRun, Profile, part_of, lean_version_1, version_1, version_2, placed, write, Instr, Branch, Jal, Jalr, decoded, code_of, ByteChange, disturbed, After, Hart, Shared, last_exit, start_hart, start_shared, step, Ran, GraphParts, Call, Class, Edge, Site, SiteKind, words_of, TakenStep, astray_call, astray_call_graph, breaking_closing, breaking_closing_graph, calling_opening, handler_graph, high_pointer, illegal_handler, lean_opening_graph, loading_handler, one_pointer_graph, opening_graph, storing_handler, storing_opening, ConfinedAlong, IsConfined, IsConfinedStep, Moves, Pending, Writes, fetched, with_pending, FaultsAreUnconfined, borrowed_edge, borrowed_edge_graph, running_handler, early_return, early_return_graph, long_branch, long_branch_graph, unlisted_entry, unlisted_entry_graph, unlisted_jump, unlisted_jump_graph, lean_graph, moved_link, saved_early, saved_high, saved_pointer, short_call, short_call_graph}
 use Rattle.rv_image.proofs.Profiles.{LaidOut, laid_out}
-use Rattle.rv_instr.specs.declared.instr.Instr.{Instr}
-use Rattle.rv_instr.specs.declared.instr.Instr.TheVariants.{Branch, Jal, Jalr}
-use Rattle.rv_code.specs.Decode.{decoded}
-use Rattle.rv_code.specs.Encode.{code_of}
-use Rattle.rv_code.specs.Run.{ByteChange, disturbed}
-use Rattle.rv_code.specs.State.{After, Hart, Shared, last_exit, start_hart, start_shared}
-use Rattle.rv_code.specs.Step.{step}
-use Rattle.rv_code.specs.declared.turn.Turn.TheVariants.{Ran}
 use Rattle.rv_code.proofs.Runs.{calm}
-use Rattle.cfi_graph.specs.Graph.{GraphParts}
 use Rattle.cfi_graph.specs.declared.line.Sort.TheVariants as sorts
-use Rattle.cfi_graph.specs.declared.line.GraphLine.TheVariants.{Call, Class, Edge, Site}
-use Rattle.cfi_graph.specs.declared.line.SiteKind.{SiteKind}
 use Rattle.cfi_graph.specs.declared.line.SiteKind.TheVariants as K
-use Rattle.cfi_unit.specs.UnitWords.{words_of}
-use Rattle.cfi_rules.specs.Taken.{TakenStep}
-use Rattle.cfi_rules.specs.Unsafe.{astray_call, astray_call_graph, breaking_closing, breaking_closing_graph, calling_opening, handler_graph, high_pointer, illegal_handler, lean_opening_graph, loading_handler, one_pointer_graph, opening_graph, storing_handler, storing_opening}
 use Rattle.cfi_rules.proofs.Arrivals.{after_calm, calm_and, is_ran, ran_of}
 use Rattle.cfi_rules.proofs.OneHart.{one_may_run}
 use Rattle.cfi_rules.proofs.Starts.{machine_may_start}
 use Rattle.cfi_rules.proofs.Taken.{AreDataChanges, alone_taken, may_come, steps_of, taken_alone}
 use Rattle.cfi_rules.proofs.Unsafe.{calm_is_data}
-use Rattle.cfi_confined.specs.Confined.{ConfinedAlong, IsConfined, IsConfinedStep, Moves, Pending, Writes, fetched, with_pending}
-use Rattle.cfi_confined.specs.Unconfined.{FaultsAreUnconfined, borrowed_edge, borrowed_edge_graph, running_handler, early_return, early_return_graph, long_branch, long_branch_graph, unlisted_entry, unlisted_entry_graph, unlisted_jump, unlisted_jump_graph, lean_graph, moved_link, saved_early, saved_high, saved_pointer, short_call, short_call_graph}
 
 -- no call and no return
 abbrev is_keeping : Option Instr → Bool

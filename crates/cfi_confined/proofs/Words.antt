@@ -5,40 +5,14 @@ use Rattle.std.specs.Prelude.{map, slice_get}
 use Rattle.std.specs.List.{list_all}
 use Rattle.std.proofs.lemmas.Bool.{and_parts}
 use Rattle.std.proofs.lemmas.Option.{same_Some, slice_get_cases, slice_get_within}
-use Rattle.rv_word.specs.Bits.{wrap}
-use Rattle.rv_image.specs.MemoryMap.{IsFullProfile, Profile}
-use Rattle.rv_word.specs.Memory.{Memory}
+use Rattle.cfi_confined.proofs.Prelude.{wrap, IsFullProfile, Profile, Memory, Registers, Instr, Jal, Jalr, Branch, Store, Immediate, Ecall, Ebreak, Addi, BranchOp, Beq, StoreOp, Sd, Hart, address, offset, Place, Member, Mask, Shifts, Short, Long, TargetWord, First, Third, Sites, flow_of, InWord, only, InBranch, branch_test, branch_jump, InGuarded, guarded_load, guarded_test, guarded_other, guarded_call, InStores, stores_mask, stores_store, shifts_addi, shifts_slli, shifts_srli, short_and, long_addi, long_and, InPush, push_slli, push_bne, push_deep, push_auipc, push_addi, push_store, push_grow, InCall, call_push, call_jump, InCheck, check_addi, check_andi, check_lui, check_sub, check_srli, check_region, check_outside, check_lw, check_label, check_opcode, check_word, check_other, InIjump, ijump_check, ijump_jump, InIcall, icall_check, icall_push, icall_jump, InLean, lean_check, lean_upper, lean_lower, lean_jump, InEnter, enter_slli, enter_bne, enter_deep, enter_store, enter_grow, InLeafReturn, leaf_jump, InReturn, return_ld, return_addi, return_beq, return_other, return_jump, InOpening, opening_lone, opening_own, opening_call, InClosing, closing_number, closing_ecall, InUnit, HasLabel, destination, member_instr, place_instrs, place_size, OPENING, call_at, set_up, slot, MOST_PENDING, is_lean, BAD_TARGET, BAD_RETURN, DEEP, CheckFits, Fits, Reaches, check, is_plain, jump, jump_offset, mask_made, near_offset, push, skip_offset, InLone, InOwn, InSetUp, stands_in, edge_of, IsHandler, LeadsOver}
 use Rattle.rv_image.proofs.Profiles.{full_saves, laid_out}
-use Rattle.rv_instr.specs.Registers.{Registers}
-use Rattle.rv_instr.specs.declared.instr.Instr.{Instr}
-use Rattle.rv_instr.specs.declared.instr.Instr.TheVariants.{Jal, Jalr, Branch, Store, Immediate, Ecall, Ebreak}
-use Rattle.rv_instr.specs.declared.instr.ImmediateOp.TheVariants.{Addi}
-use Rattle.rv_instr.specs.declared.instr.BranchOp.{BranchOp}
-use Rattle.rv_instr.specs.declared.instr.BranchOp.TheVariants.{Beq}
-use Rattle.rv_instr.specs.declared.instr.StoreOp.{StoreOp}
-use Rattle.rv_instr.specs.declared.instr.StoreOp.TheVariants.{Sd}
-use Rattle.rv_code.specs.State.{Hart}
-use Rattle.rv_code.specs.Step.{address, offset}
-use Rattle.cfi_unit.specs.declared.place.Place.{Place}
 use Rattle.cfi_unit.specs.declared.place.Place.TheVariants.{Handler as handler, Opening as opening, Closing as closing, Body as body}
-use Rattle.cfi_unit.specs.declared.members.Member.{Member}
-use Rattle.cfi_unit.specs.declared.mask.Mask.{Mask}
-use Rattle.cfi_unit.specs.declared.mask.Mask.TheVariants.{Shifts, Short, Long}
-use Rattle.cfi_unit.specs.declared.target_word.TargetWord.{TargetWord}
-use Rattle.cfi_unit.specs.declared.target_word.TargetWord.TheVariants.{First, Third}
 use Rattle.cfi_unit.specs.declared.unit.SystemOp.TheVariants as S
 use Rattle.cfi_unit.specs.declared.unit.Unit as U
 use Rattle.cfi_unit.specs.declared.unit.Unit.TheVariants as V
 use Rattle.cfi_unit.specs.Flow as F
-use Rattle.cfi_unit.specs.Flow.{Exit, Sites, flow_of}
-use Rattle.cfi_unit.specs.InPlace.{InWord, only, InBranch, branch_test, branch_jump, InGuarded, guarded_load, guarded_test, guarded_other, guarded_call, InStores, stores_mask, stores_store, shifts_addi, shifts_slli, shifts_srli, short_and, long_addi, long_and, InPush, push_slli, push_bne, push_deep, push_auipc, push_addi, push_store, push_grow, InCall, call_push, call_jump, InCheck, check_addi, check_andi, check_lui, check_sub, check_srli, check_region, check_outside, check_lw, check_label, check_opcode, check_word, check_other, InIjump, ijump_check, ijump_jump, InIcall, icall_check, icall_push, icall_jump, InLean, lean_check, lean_upper, lean_lower, lean_jump, InEnter, enter_slli, enter_bne, enter_deep, enter_store, enter_grow, InLeafReturn, leaf_jump, InReturn, return_ld, return_addi, return_beq, return_other, return_jump, InOpening, opening_lone, opening_own, opening_call, InClosing, closing_number, closing_ecall, InUnit}
-use Rattle.cfi_unit.specs.Leads.{HasLabel, destination}
-use Rattle.cfi_unit.specs.Members.{member_instr}
-use Rattle.cfi_unit.specs.Place.{place_instrs, place_size}
-use Rattle.cfi_unit.specs.Prologue.{OPENING, call_at, set_up}
-use Rattle.cfi_unit.specs.Shadow.{slot, MOST_PENDING}
-use Rattle.cfi_unit.specs.Templates.{is_lean}
-use Rattle.cfi_unit.specs.UnitWords.{BAD_TARGET, BAD_RETURN, DEEP, CheckFits, Fits, Reaches, check, is_plain, jump, jump_offset, mask_made, near_offset, push, skip_offset}
+use Rattle.cfi_unit.specs.Flow.{Exit}
 use Rattle.cfi_unit.proofs.ComputedUnits.{arrives}
 use Rattle.cfi_unit.proofs.Context.{slice_get-back, slice_get-front}
 use Rattle.cfi_unit.proofs.GuardedWords.{test_leads, unit_call, unit_jump, unit_load, unit_test}
@@ -47,12 +21,8 @@ use Rattle.cfi_unit.proofs.PlaceWords.{lone_word, own_word}
 use Rattle.cfi_unit.proofs.Parts.{call_site, opening_parts, set_up_length}
 use Rattle.cfi_unit.proofs.StoreUnit.{member_address}
 use Rattle.cfi_unit.proofs.LeanUnits.{arrives_beyond}
-use Rattle.cfi_pending.specs.Opening.{InLone, InOwn, InSetUp}
 use Rattle.cfi_pending.specs.Opening as lean
-use Rattle.cfi_pending.specs.StartLaw.{stands_in}
-use Rattle.cfi_rules.specs.Rules.{edge_of}
 use Rattle.cfi_rules.proofs.LeanOpening.{IsLeanOpening}
-use Rattle.cfi_confined.specs.Confined.{IsHandler, LeadsOver}
 
 -- no site is put on top or taken off
 abbrev pub keeps_by : Sites → Exit → Bool

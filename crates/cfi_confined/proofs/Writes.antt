@@ -2,25 +2,12 @@
 -- nothing. Where callees save sites, the slot is that of the newest site, and that site is what is written.
 use Rattle.std.proofs.Common.{◌≡◌, ℕ, ◌+◌, ◌^◌, ◌<◌, ◌≤◌, ◌⊎◌, inl, inr, Bool, true, false, List, [], ◌∷◌, length, refl, ap, subst, ◌∙◌, arith}
 use Rattle.std.proofs.lemmas.Bool.{cond_both}
-use Rattle.rv_image.specs.MemoryMap.{DATA_END, PART_SIZE, Profile, can_load, can_store}
-use Rattle.rv_word.specs.Memory.{Memory, read, write}
-use Rattle.rv_instr.specs.Registers.{Registers, get_reg}
-use Rattle.rv_instr.specs.declared.instr.Instr.{Instr}
-use Rattle.rv_instr.specs.declared.instr.Instr.TheVariants.{Upper, Branch, Load, Store, Ecall}
-use Rattle.rv_instr.specs.declared.instr.StoreOp.{StoreOp}
-use Rattle.rv_instr.specs.declared.instr.UpperOp.TheVariants.{Lui, Auipc}
-use Rattle.rv_code.specs.Arithmetic.{branch_taken, load_size, store_size}
-use Rattle.rv_code.specs.State.{After, Hart, Shared}
-use Rattle.rv_code.specs.Step.{address, exec, store_at}
+use Rattle.cfi_confined.proofs.Prelude.{DATA_END, PART_SIZE, Profile, can_load, can_store, Memory, read, write, Registers, get_reg, Instr, Upper, Branch, Load, Store, Ecall, StoreOp, Lui, Auipc, branch_taken, load_size, store_size, After, Hart, Shared, address, exec, store_at, Place, slot, MOST_PENDING, StandsBy, fresh, Writes, WritesData, WritesOwn}
 use Rattle.rv_code.proofs.Calls.{AfterCall, after_call, answered, ended}
 use Rattle.rv_code.proofs.Frames.{read_same, read_write, write_outside}
-use Rattle.cfi_unit.specs.declared.place.Place.{Place}
 use Rattle.cfi_unit.specs.declared.place.Place.TheVariants.{Body as body}
 use Rattle.cfi_unit.specs.declared.unit.Unit.TheVariants as V
-use Rattle.cfi_unit.specs.Shadow.{slot, MOST_PENDING}
 use Rattle.cfi_unit.proofs.Regions.{store_size-small}
-use Rattle.cfi_pending.specs.Starts.{StandsBy, fresh}
-use Rattle.cfi_confined.specs.Confined.{Writes, WritesData, WritesOwn}
 use Rattle.cfi_confined.proofs.Words.{Fact, SavesLink, StoreFact}
 
 -- nothing past data is written, so no slot is

@@ -1,35 +1,13 @@
 -- A placement in which no value leaves its range, with labels, makes an accepted choice of a program with its closed graph.
 use Rattle.std.proofs.Common.{◌≡◌, ℕ, ◌+◌, ◌-◌, ◌<◌, true, false, List, Option, Some, None, refl, sym, ap, subst, ◌∙◌, arith}
 use Rattle.std.specs.Prelude.{is_some, slice_get}
-use Rattle.rv_image.specs.declared.version.GraphVersion.{GraphVersion}
+use Rattle.cfi_harden.proofs.Prelude.{GraphVersion, graph_version, profile_for, Form, Plain, Harts, Split, HartsSplit, Lean, HartsLean, has_leaves, instr_at, Program, count, is_end, item_of, may_be_calls, ClosedGraph, Side, IsClosed, IsSide, used_labels, ProgramAtMap, program_at, AreGroups, bounds_in, whole_at, words_from, IsAccepted, IsFitting, IsGraphOf, AreGiven, chosen, IsPlacement, Spaced, Fits, first_astray, IsClosedUnder, PreparedParts, entered_of, IsReady}
 use Rattle.rv_image.proofs.Profiles.{is_form_profile}
-use Rattle.rv_image.specs.Form.{graph_version, profile_for}
-use Rattle.rv_image.specs.declared.form.Form.{Form}
-use Rattle.rv_image.specs.declared.form.Form.TheVariants.{Plain, Harts, Split, HartsSplit, Lean, HartsLean}
-use Rattle.cfi_graph.specs.Graph.{has_leaves}
-use Rattle.obj_program.specs.AtMap.{instr_at}
-use Rattle.obj_program.specs.Program.{Program, count, is_end, item_of}
-use Rattle.cfi_graph.specs.Calls.{may_be_calls}
 use Rattle.cfi_class.proofs.Rising.{labels_rise}
 use Rattle.cfi_map.proofs.Values.{values_there}
-use Rattle.cfi_closed.specs.Closed.{ClosedGraph, Side}
-use Rattle.cfi_flow.specs.Closing.{IsClosed, IsSide}
-use Rattle.cfi_flow.specs.Labels.{used_labels}
-use Rattle.cfi_map.specs.GraphAtMap.{ProgramAtMap, program_at}
-use Rattle.cfi_map.specs.Groups.{AreGroups, bounds_in}
-use Rattle.cfi_map.specs.Placement.{whole_at, words_from}
 use Rattle.cfi_map.proofs.Greedy.{greedy_groups}
 use Rattle.cfi_flow.proofs.Laws.{members_there}
-use Rattle.cfi_writer.specs.Accepted.{IsAccepted}
-use Rattle.cfi_harden.specs.Fitting.{IsFitting}
-use Rattle.cfi_writer.specs.GraphOf.{IsGraphOf}
-use Rattle.cfi_writer.specs.Hardened.{AreGiven, chosen}
-use Rattle.cfi_map.specs.Placing.{IsPlacement, Spaced}
-use Rattle.cfi_map.specs.PlacingLaws.{Fits}
-use Rattle.cfi_map.specs.Source.{first_astray}
 use Rattle.cfi_map.proofs.PlacingLaws.{placements_fit}
-use Rattle.cfi_harden.specs.Prepared.{IsClosedUnder, PreparedParts, entered_of}
-use Rattle.cfi_harden.specs.Ready.{IsReady}
 use Rattle.cfi_harden.proofs.Listing.{asked_right}
 use Rattle.cfi_writer.proofs.CodeRoom.{room_there}
 use Rattle.cfi_writer.proofs.SitesThere.{side_at, site_class_there, site_of}

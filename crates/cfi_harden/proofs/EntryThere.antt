@@ -4,10 +4,7 @@ use Rattle.std.specs.Prelude.{option_and_then}
 use Rattle.std.proofs.lemmas.List.Quantifiers.{position-Some}
 use Rattle.std.proofs.lemmas.Option.{same_Some}
 use Rattle.rv_word.proofs.Cases.{chosen}
-use Rattle.obj_input.specs.Names.{find_spot}
-use Rattle.obj_program.specs.Program.{Program, count, is_end, is_spot, item_of, no_item, place_of}
-use Rattle.cfi_flow.specs.Entry.{entry_place}
-use Rattle.cfi_flow.specs.Policy.{if_instruction, instruction_at}
+use Rattle.cfi_harden.proofs.Prelude.{find_spot, Program, count, is_end, is_spot, item_of, no_item, place_of, entry_place, if_instruction, instruction_at}
 
 -- an answer that was made of another in two steps
 pub gone_on : {A B : Type 0} (f : A → Option B) (o : Option A) (y : B) → option_and_then f o ≡ Some y → (x : A) × (o ≡ Some x) × (f x ≡ Some y)

@@ -2,19 +2,10 @@
 use Rattle.std.proofs.Common.{◌≡◌, ℕ, ◌+◌, ◌^◌, nat_lt, Bool, true, false, if◌then◌else◌, Some, None, inl, inr, List, [], ◌∷◌, subst}
 use Rattle.std.proofs.lemmas.Option.{none-some, same_Some}
 use Rattle.rv_word.proofs.Cases.{cases_Option, mapped}
-use Rattle.elf_tables.specs.Header.{e_shnum}
+use Rattle.cfi_harden.proofs.Prelude.{e_shnum, duplicate, fault_of, ItemFault, said_by, unread, input_by, refusal_in, unfinished, Refusal, Given, alone, joined, RefusesGiven, first_unread, IsEarly}
 use Rattle.elf_object.specs.Fault.{fault_of as object_fault}
-use Rattle.obj_join.specs.Duplicate.{duplicate}
-use Rattle.obj_check.specs.Fault.{fault_of}
-use Rattle.obj_check.specs.declared.fault.ItemFault.{ItemFault}
 use Rattle.obj_check.specs.declared.fault.ItemFault.TheVariants as items
-use Rattle.obj_link.specs.SaidOf.{said_by}
-use Rattle.obj_items.specs.Added.{unread}
-use Rattle.obj_items.specs.Finished.{input_by, refusal_in, unfinished}
-use Rattle.refusals.specs.declared.refusal.Refusal.{Refusal}
 use Rattle.refusals.specs.declared.refusal.Refusal.TheVariants as R
-use Rattle.cfi_harden.specs.Given.{Given, alone, joined, RefusesGiven, first_unread}
-use Rattle.cfi_harden.specs.Refused.{IsEarly}
 
 -- of one object
 counted_early : (b : Bool) (n : ℕ) (refusal : Refusal) → (if b then Some (R.TooManySections n) else None) ≡ Some refusal → IsEarly refusal

@@ -3,16 +3,7 @@ use Rattle.std.proofs.Common.{◌≡◌, ℕ, ◌+◌, ◌<◌, ◌≤◌, Some,
 use Rattle.std.specs.Option.{option_or}
 use Rattle.std.proofs.lemmas.List.{drop_all, drop_more, get_or-map, length-map, take_all, take_more}
 use Rattle.std.proofs.lemmas.List.Sums.{sum_by_push}
-use Rattle.rv_word.specs.declared.end.End.{End}
-use Rattle.rv_word.specs.declared.end.End.TheVariants.{Fault, NoMemory}
-use Rattle.elf_tables.specs.Header.{e_shnum}
-use Rattle.refusals.specs.declared.refusal.Refusal.{Refusal}
-use Rattle.obj_program.specs.Program.{Program}
-use Rattle.obj_items.specs.Added.{IsAdded, section_total, unread}
-use Rattle.obj_items.specs.Finished.{IsFinished, unfinished}
-use Rattle.cfi_harden.specs.Given.{first_unread, joined}
-use Rattle.cfi_harden.specs.Joining.{AddsAll}
-use Rattle.cfi_harden.specs.Preparing.{Reads}
+use Rattle.cfi_harden.proofs.Prelude.{End, Fault, NoMemory, e_shnum, Refusal, Program, IsAdded, section_total, unread, IsFinished, unfinished, first_unread, joined, AddsAll, Reads}
 
 -- of the objects that are left the first that is unread is that of all
 abbrev pub IsLeft : List (List ℕ) → List (List ℕ) → ℕ → Type 0

@@ -1,3 +1,4 @@
+pub mod Prelude
 pub mod EntryThere
 pub mod Listing
 pub mod Accepting

@@ -2,15 +2,8 @@
 use Rattle.std.proofs.Common.{◌≡◌, ℕ, nat_lt, Bool, true, false, if◌then◌else◌, Option, Some, None, Result, Ok, Err, List, [], ◌∷◌, refl}
 use Rattle.std.specs.Prelude.{◌==◌}
 use Rattle.std.proofs.lemmas.Bool.{and_from}
-use Rattle.rv_word.specs.declared.end.End.{End}
-use Rattle.text_lines.specs.Lines.{lines_of, words_of}
-use Rattle.text_lines.specs.Reading.{if_right, one_named}
-use Rattle.text_lines.specs.declared.fault.LineFault.{LineFault}
-use Rattle.cfi_graph.specs.Calls.{Listed, calls_of, judged_calls, may_be_calls}
-use Rattle.cfi_graph.specs.Graph.{are_calls, is_rising}
-use Rattle.cfi_policy.specs.Policy.{calls_told, head_at, listed_head, policy_head, policy_names}
+use Rattle.cfi_harden.proofs.Prelude.{End, lines_of, words_of, if_right, one_named, LineFault, Listed, calls_of, judged_calls, may_be_calls, are_calls, is_rising, calls_told, head_at, listed_head, policy_head, policy_names, policy_asked}
 use Rattle.cfi_graph.proofs.CallsLine.{judged_list}
-use Rattle.cfi_harden.specs.Request.{policy_asked}
 
 abbrev told_with : List (List ℕ) → Result (List ℕ) (End LineFault) → Result Listed (End LineFault)
 told_with lines judged = if_right judged (λ (calls : List ℕ). Ok (record { calls = Some calls; lines = lines }))

@@ -1,19 +1,8 @@
 -- A program that is entered is prepared, and what refuses that refuses the request; what a request comes to is what that of the program
 -- comes to that is given.
 use Rattle.std.proofs.Common.{ℕ, inr, Result, Ok, Err, refl, subst}
-use Rattle.rv_image.specs.Form.{graph_version}
-use Rattle.rv_word.specs.declared.end.End.{End}
-use Rattle.rv_word.specs.declared.end.End.TheVariants.{Fault, NoMemory}
-use Rattle.obj_program.specs.Program.{Program}
-use Rattle.cfi_closed.specs.Closed.{ClosedGraph}
-use Rattle.refusals.specs.declared.refusal.Refusal.{Refusal}
+use Rattle.cfi_harden.proofs.Prelude.{graph_version, End, Fault, NoMemory, Program, ClosedGraph, Refusal, IsGiven, HardenedParts, IsPrepared, IsPreparedOf, PreparedParts, Enters, Reads, Hardens, HardensProgram, PreparesProgram, Refuses, RefusesProgram, ProgramRequest, Request, program_request}
 use Rattle.refusals.specs.declared.refusal.Refusal.TheVariants as R
-use Rattle.cfi_harden.specs.Given.{IsGiven}
-use Rattle.cfi_writer.specs.Hardened.{HardenedParts}
-use Rattle.cfi_harden.specs.Prepared.{IsPrepared, IsPreparedOf, PreparedParts}
-use Rattle.cfi_harden.specs.Preparing.{Enters, Reads}
-use Rattle.cfi_harden.specs.Refused.{Hardens, HardensProgram, PreparesProgram, Refuses, RefusesProgram}
-use Rattle.cfi_harden.specs.Request.{ProgramRequest, Request, program_request}
 
 pub not_entered : (request : ProgramRequest) (end : End Refusal) → Enters (graph_version request.form) request.program request.entry request.policy (Err end)
     → PreparesProgram request (Err end)

@@ -2,28 +2,8 @@
 use Rattle.std.proofs.Common.{ℕ, ◌^◌, ◌<◌, ◌≤◌, List, Result, Ok, Err, arith, refl, subst, sym}
 use Rattle.std.specs.Prelude.{sum}
 use Rattle.rv_image.proofs.Profiles.{is_form_profile, laid_out}
-use Rattle.rv_image.specs.Form.{graph_version, image_version, profile_for}
-use Rattle.rv_image.specs.MemoryMap.{CODE_SIZE}
-use Rattle.rv_word.specs.declared.end.End.{End}
-use Rattle.rv_word.specs.declared.end.End.TheVariants.{Fault, NoMemory}
-use Rattle.obj_program.specs.MapFit.{FitsMaps}
-use Rattle.obj_program.specs.Program.{count, item_of}
-use Rattle.obj_program.specs.Sound.{IsSound}
-use Rattle.refusals.specs.declared.refusal.Refusal.{Refusal}
+use Rattle.cfi_harden.proofs.Prelude.{graph_version, image_version, profile_for, CODE_SIZE, End, Fault, NoMemory, FitsMaps, count, item_of, IsSound, Refusal, IsFitting, RefusesPlaced, AreGiven, HardenedParts, chosen, IsWrittenOf, WrittenIsAccepted, ProgramAtMap, entered_in, words_from, Spaced, whole_size, whole_sizes, IsPreparedOf, PreparedParts, entered_of, HardensPrepared, HardensProgram, RefusesProgram, ProgramRequest, IsReady, IsWritable, IsWrittenAs}
 use Rattle.refusals.specs.declared.refusal.Refusal.TheVariants as R
-use Rattle.cfi_harden.specs.Fitting.{IsFitting, RefusesPlaced}
-use Rattle.cfi_writer.specs.Hardened.{AreGiven, HardenedParts, chosen}
-use Rattle.cfi_harden.specs.Hardened.{IsWrittenOf}
-use Rattle.cfi_harden.specs.HardenedLaws.{WrittenIsAccepted}
-use Rattle.cfi_map.specs.GraphAtMap.{ProgramAtMap, entered_in}
-use Rattle.cfi_map.specs.Placement.{words_from}
-use Rattle.cfi_map.specs.Placing.{Spaced}
-use Rattle.cfi_map.specs.Sizes.{whole_size, whole_sizes}
-use Rattle.cfi_harden.specs.Prepared.{IsPreparedOf, PreparedParts, entered_of}
-use Rattle.cfi_harden.specs.Refused.{HardensPrepared, HardensProgram, RefusesProgram}
-use Rattle.cfi_harden.specs.Request.{ProgramRequest}
-use Rattle.cfi_harden.specs.Ready.{IsReady}
-use Rattle.cfi_writer.specs.Writing.{IsWritable, IsWrittenAs}
 use Rattle.cfi_map.proofs.Values.{data_there}
 use Rattle.cfi_harden.proofs.Accepting.{accepted, accepted_here, calls_there, graph_there, here, none_astray}
 use Rattle.cfi_harden.proofs.EntryThere.{entry_there}

@@ -1,27 +1,10 @@
 -- The graph and the map that are written are ones that their texts spell.
 use Rattle.std.proofs.Common.{◌≡◌, ℕ, ◌*◌, List, [], ◌∷◌, length, get_or, drop, map, refl, sym, ap, subst, ◌∙◌}
-use Rattle.rv_image.specs.declared.version.GraphVersion.{GraphVersion}
-use Rattle.rv_image.specs.Form.{graph_version, profile_for}
-use Rattle.rv_image.specs.MemoryMap.{Profile}
-use Rattle.cfi_graph.specs.Graph.{GraphParts, IsGraph}
-use Rattle.cfi_map_text.specs.Map.{IsMap, MapParts}
-use Rattle.cfi_map_text.specs.declared.map.MapLine.{MapLine}
-use Rattle.cfi_map.specs.GraphAtMap.{ProgramAtMap, graph_lines}
-use Rattle.cfi_map.specs.LegalMap.{IsLegalMap, gates_of}
-use Rattle.cfi_map.specs.Placing.{Spaced}
+use Rattle.cfi_harden.proofs.Prelude.{GraphVersion, graph_version, profile_for, Profile, GraphParts, IsGraph, IsMap, MapParts, MapLine, ProgramAtMap, graph_lines, IsLegalMap, gates_of, Spaced, IsAccepted, HardenedParts, IsWritten, chosen, written_code, map_lines, Choice, IsFitting, HardenedIsRight, IsPreparedOf, PreparedParts, ProgramRequest}
 use Rattle.cfi_rules.proofs.Bytes.{length-code_words}
-use Rattle.cfi_writer.specs.Accepted.{IsAccepted}
-use Rattle.cfi_writer.specs.Hardened.{HardenedParts, IsWritten, chosen}
-use Rattle.cfi_writer.specs.Laws.{written_code}
-use Rattle.cfi_writer.specs.MapLines.{map_lines}
-use Rattle.cfi_writer.specs.Units.{Choice}
 use Rattle.cfi_writer.proofs.MapFits.{accepted_map}
 use Rattle.cfi_writer.proofs.PlaceLines.{gates_are, legal_map}
 use Rattle.cfi_writer.proofs.WholeImage.{is_graph}
-use Rattle.cfi_harden.specs.Fitting.{IsFitting}
-use Rattle.cfi_harden.specs.HardenedLaws.{HardenedIsRight}
-use Rattle.cfi_harden.specs.Prepared.{IsPreparedOf, PreparedParts}
-use Rattle.cfi_harden.specs.Request.{ProgramRequest}
 use Rattle.cfi_harden.proofs.Accepting.{graph_there}
 use Rattle.cfi_harden.proofs.Ready.{written_accepted}
 

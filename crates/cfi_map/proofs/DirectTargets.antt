@@ -1,16 +1,12 @@
 -- Which places are direct targets, while a loop marks them.
-use Rattle.std.proofs.Common.{◌≡◌, ℕ, ◌+◌, ◌<◌, ◌≤◌, Bool, false, List, length, take, Option, Some, None, get_or, sym, ap, ◌∙◌, arith}
+use Rattle.std.proofs.Common.{◌≡◌, ℕ, ◌+◌, ◌<◌, ◌≤◌, Bool, false, List, length, take, Option, Some, None, get_or, replicate, sym, ap, ◌∙◌, arith}
 use Rattle.std.specs.Prelude.{◌||◌, IfSome}
 use Rattle.std.specs.List.{list_any}
-use Rattle.std.proofs.lemmas.List.{take_all}
+use Rattle.std.proofs.lemmas.List.{length-replicate, take_all}
 use Rattle.std.proofs.lemmas.List.Folds.{list_any_more}
-use Rattle.obj_program.specs.declared.item.Item.{Item}
-use Rattle.obj_program.specs.Program.{Program, count, item_of, no_item}
-use Rattle.obj_program.specs.Sound.{IsSound}
-use Rattle.cfi_leads.specs.Entries.{aims_at}
-use Rattle.cfi_leads.specs.Marks.{marked}
+use Rattle.cfi_class.proofs.Agreeing.{none_at}
+use Rattle.cfi_map.proofs.Prelude.{Item, Program, count, item_of, no_item, IsSound, aims_at, marked, AreDirectTargets}
 use Rattle.cfi_leads.proofs.Called.{marked_at, marked_length, inside_if}
-use Rattle.cfi_map.specs.Groups.{AreDirectTargets}
 
 inside_of : (o : Option ℕ) (n m : ℕ) → IfSome o (λ (t : ℕ). t < n) → m ≡ n → IfSome o (λ (t : ℕ). t < m)
 inside_of None n m inside same = tt
@@ -25,6 +21,12 @@ target_inside program k size sound below same =
 pub record AreMarked (program : Program) (k : ℕ) (flags : List Bool) : Type 0 where
   pub size : length flags ≡ count program
   pub each : (j : ℕ) → get_or flags j false ≡ list_any (λ (i : Item). aims_at j i.target) (take k program.items)
+
+pub marked_begin : (program : Program) (n : ℕ) (flags : List Bool) → n ≡ count program → flags ≡ replicate n false → AreMarked program 0 flags
+marked_begin program n flags size is = record {
+  size = ap length is ∙ length-replicate n false ∙ size;
+  each = λ j. ap (λ (l : List Bool). get_or l j false) is ∙ none_at n j;
+}
 
 pub marked_more : (program : Program) (k : ℕ) (flags more : List Bool) (o : Option ℕ) → IsSound program → k < count program → o ≡ (item_of program k).target →
     more ≡ marked flags o → AreMarked program k flags → AreMarked program (k + 1) more

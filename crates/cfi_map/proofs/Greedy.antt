@@ -3,11 +3,7 @@ use Rattle.std.proofs.Common.{◌≡◌, ℕ, zero, suc, ◌+◌, ◌<◌, ◌�
 use Rattle.std.specs.Prelude.{not, if◌then◌else◌}
 use Rattle.std.proofs.lemmas.Bool.{cases_lt, cond_both, not-false}
 use Rattle.std.proofs.lemmas.List.{get_or_append_left, get_or_past, get_or_push, length_push}
-use Rattle.obj_program.specs.declared.item.Item.{Item}
-use Rattle.obj_program.specs.Program.{Program, count, item_of, no_item}
-use Rattle.cfi_leads.specs.Entered.{Entered}
-use Rattle.cfi_map.specs.Groups.{AreGreedy, AreGroups, AreFirstStores, Bounds, bounds_in, is_store, joins_in, may_join, members_after, members_before}
-use Rattle.cfi_map.specs.Placement.{whole_at}
+use Rattle.cfi_map.proofs.Prelude.{Item, Program, count, item_of, no_item, Entered, AreGreedy, AreGroups, AreFirstStores, Bounds, bounds_in, is_store, joins_in, may_join, members_after, members_before, whole_at}
 use Rattle.cfi_map.proofs.GroupFacts.{later_parts}
 
 module _ (items : ℕ → Item) (bounds : Bounds) where

@@ -2,8 +2,7 @@
 use Rattle.std.proofs.Common.{◌≡◌, ℕ, zero, suc, ◌+◌, ◌-◌, ◌<◌, ◌≤◌, Bool, true, false, inl, inr, refl, sym, subst, ap, ◌∙◌, arith}
 use Rattle.std.specs.Prelude.{not}
 use Rattle.std.proofs.lemmas.Bool.{and_from, and_parts, cases_eq, cases_lt, eqb-true, leb-true, ltb-true, not-true, not_from_false}
-use Rattle.obj_program.specs.declared.item.Item.{Item}
-use Rattle.cfi_map.specs.Groups.{AreGroups, Bounds, MOST_APART, MOST_STORES, all_from, base, fits_mask, is_later, is_own_at, is_store, level, may_join, may_share, members_before}
+use Rattle.cfi_map.proofs.Prelude.{Item, AreGroups, Bounds, MOST_APART, MOST_STORES, all_from, base, fits_mask, is_later, is_own_at, is_store, level, may_join, may_share, members_before}
 
 -- these places are a group: the first store has its whole size, and those after it are later members
 pub record IsGroup (items : ℕ → Item) (whole : ℕ → Bool) (k n : ℕ) : Type 0 where

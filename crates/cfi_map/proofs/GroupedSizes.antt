@@ -3,23 +3,8 @@ use Rattle.std.proofs.Common.{◌≡◌, ℕ, zero, suc, ◌+◌, ◌-◌, ◌<�
 use Rattle.std.specs.Prelude.{◌&&◌, ◌||◌, not, sum}
 use Rattle.std.proofs.lemmas.List.{append-nil, drop_all}
 use Rattle.std.proofs.lemmas.List.Sums.{sum_by-cons}
-use Rattle.rv_image.specs.Form.{profile_for}
-use Rattle.rv_image.specs.MemoryMap.{CODE_SIZE}
-use Rattle.rv_image.specs.declared.form.Form.{Form}
-use Rattle.obj_input.specs.declared.item_kind.ItemKind.{ItemKind}
+use Rattle.cfi_map.proofs.Prelude.{profile_for, CODE_SIZE, Form, ItemKind, Item, no_item, code_size, GraphVersion, OneLabel, TwoLabels, CalleeSaves, Entered, lead_size, in_leaf, is_short, is_store, is_ecall, kind_size, lean_size, size_by, size_of, whole_at, grouped_size, saved_bytes, grouped_parts, grouped_sizes, part_sizes, whole_size, whole_sizes}
 use Rattle.obj_input.specs.declared.item_kind.ItemKind.TheVariants as is
-use Rattle.obj_program.specs.declared.item.Item.{Item}
-use Rattle.obj_program.specs.Program.{no_item}
-use Rattle.cfi_layout.specs.Starts.{code_size}
-use Rattle.rv_image.specs.declared.version.GraphVersion.{GraphVersion}
-use Rattle.rv_image.specs.declared.version.GraphVersion.TheVariants.{OneLabel, TwoLabels, CalleeSaves}
-use Rattle.cfi_leads.specs.Entered.{Entered}
-use Rattle.cfi_leads.specs.Leads.{lead_size}
-use Rattle.cfi_leads.specs.Leaves.{in_leaf}
-use Rattle.cfi_map.specs.Groups.{is_short, is_store}
-use Rattle.cfi_map.specs.Placement.{is_ecall, kind_size, lean_size, size_by, size_of, whole_at}
-use Rattle.cfi_map.specs.PlacingLaws.{grouped_size, saved_bytes}
-use Rattle.cfi_map.specs.Sizes.{grouped_parts, grouped_sizes, part_sizes, whole_size, whole_sizes}
 use Rattle.cfi_map.proofs.Placing.{drop_step}
 
 pub length_grouped : (of : Entered) (whole : List Bool) (k : ℕ) (items : List Item) → length (grouped_sizes of whole k items) ≡ length items

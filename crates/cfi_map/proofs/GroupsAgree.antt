@@ -3,11 +3,7 @@ use Rattle.std.proofs.Common.{◌≡◌, ℕ, zero, suc, ◌+◌, ◌-◌, ◌<�
 use Rattle.std.specs.Prelude.{◌&&◌, ◌==◌, not, if◌then◌else◌}
 use Rattle.std.proofs.lemmas.Bool.{cases_lt}
 use Rattle.std.proofs.lemmas.List.{get_or_past}
-use Rattle.rv_code.specs.Decode.{decoded}
-use Rattle.obj_program.specs.declared.item.Item.{Item}
-use Rattle.obj_program.specs.Program.{no_item}
-use Rattle.obj_program.specs.Sound.{is_own}
-use Rattle.cfi_map.specs.Groups.{AreGroups, Bounds, MOST_STORES, all_from, are_near, base, base_of, fits_mask, is_later, is_own_at, is_store, level, level_of, may_join, may_share, members_before}
+use Rattle.cfi_map.proofs.Prelude.{decoded, Item, no_item, is_own, AreGroups, Bounds, MOST_STORES, all_from, are_near, base, base_of, fits_mask, is_later, is_own_at, is_store, level, level_of, may_join, may_share, members_before}
 use Rattle.cfi_map.proofs.GroupFacts.{later_if, later_parts}
 use Rattle.cfi_map.proofs.Greedy.{before_most}
 

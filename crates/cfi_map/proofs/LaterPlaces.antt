@@ -8,27 +8,9 @@ use Rattle.std.proofs.lemmas.List.Folds.{list_any_at}
 use Rattle.std.proofs.lemmas.List.Quantifiers.{position-Some}
 use Rattle.std.proofs.lemmas.Option.{same_Some}
 use Rattle.rv_word.proofs.Cases.{chosen}
-use Rattle.rv_instr.specs.declared.instr.Instr.{Instr}
+use Rattle.cfi_map.proofs.Prelude.{Instr, Registers, get_reg, branch_taken, After, last_exit, exec, Turn, Ran, Exit, Break, ItemKind, Item, count, item_of, no_item, has, Side, class_at, class_of, class_reaches, is_same, is_target, is_target_of, side_reaches, aims_at, ProgramAtMap, entered_in, word, AreGroups, bounds_in, is_direct_target, is_entered, is_later, is_store, members_before, Source, SourceAfter, acts, branches, calls, goes_to, hart_at, if_taken, leaves, place_after, ran, returns_from, source_step, step_at, turn_at, unless, unless_ended, computed, computed_place, if_reached, place_with_gate, Reason}
 use Rattle.rv_instr.specs.declared.instr.Instr.TheVariants as I
-use Rattle.rv_instr.specs.Registers.{Registers, get_reg}
-use Rattle.rv_code.specs.Arithmetic.{branch_taken}
-use Rattle.rv_code.specs.State.{After, last_exit}
-use Rattle.rv_code.specs.Step.{exec}
-use Rattle.rv_code.specs.declared.turn.Turn.{Turn}
-use Rattle.rv_code.specs.declared.turn.Turn.TheVariants.{Ran, Exit, Break}
-use Rattle.obj_input.specs.declared.item_kind.ItemKind.{ItemKind}
 use Rattle.obj_input.specs.declared.item_kind.ItemKind.TheVariants as is
-use Rattle.obj_program.specs.declared.item.Item.{Item}
-use Rattle.obj_program.specs.Program.{count, item_of, no_item}
-use Rattle.cfi_class.specs.Classes.{has}
-use Rattle.cfi_closed.specs.Closed.{Side, class_at, class_of, class_reaches, is_same, is_target, is_target_of, side_reaches}
-use Rattle.cfi_leads.specs.Entries.{aims_at}
-use Rattle.cfi_map.specs.GraphAtMap.{ProgramAtMap, entered_in, word}
-use Rattle.cfi_map.specs.Groups.{AreGroups, bounds_in, is_direct_target, is_entered, is_later, is_store, members_before}
-use Rattle.cfi_map.specs.Source.{Source}
-use Rattle.cfi_map.specs.SourceStep.{SourceAfter, acts, branches, calls, goes_to, hart_at, if_taken, leaves, place_after, ran, returns_from, source_step, step_at, turn_at, unless, unless_ended}
-use Rattle.cfi_map.specs.Untame.{computed, computed_place, if_reached, place_with_gate}
-use Rattle.cfi_map.specs.declared.reason.Reason.{Reason}
 use Rattle.cfi_map.proofs.GroupFacts.{joins, none_at_start, none_before}
 
 -- a place that a site's class has is a target

@@ -5,29 +5,12 @@ use Rattle.std.specs.Prelude.{if◌then◌else◌, option_and_then, option_map, 
 use Rattle.std.proofs.lemmas.Bool.{and_parts, cases_Bool, cases_lt, cond_both}
 use Rattle.std.proofs.lemmas.List.{get_or_past}
 use Rattle.std.proofs.lemmas.Option.{same_Some}
-use Rattle.rv_image.specs.MemoryMap.{Profile}
-use Rattle.rv_instr.specs.declared.instr.Instr.{Instr}
+use Rattle.cfi_map.proofs.Prelude.{Profile, Instr, Lui, Auipc, decoded, After, Hart, Shared, last_exit, exec, ItemKind, Item, Patch, distance, instr_at, low_part, patched_instr, Program, count, is_end, item_of, no_item, IsSound, is_of, ProgramAtMap, entered_in, words_at, AreGroups, bounds_in, MOST_STORES, is_store, members_before, Source, instr_here, source_start, SameWorld, SourceAfter, StepTurn, acts, after_steps, breaks, exits, going_on, ran, source_step, step_at, unless, unless_ended, untame, Reason}
 use Rattle.rv_instr.specs.declared.instr.Instr.TheVariants as I
-use Rattle.rv_instr.specs.declared.instr.UpperOp.TheVariants.{Lui, Auipc}
-use Rattle.rv_code.specs.Decode.{decoded}
-use Rattle.rv_code.specs.State.{After, Hart, Shared, last_exit}
-use Rattle.rv_code.specs.Step.{exec}
-use Rattle.obj_input.specs.declared.item_kind.ItemKind.{ItemKind}
 use Rattle.obj_input.specs.declared.item_kind.ItemKind.TheVariants as is
-use Rattle.obj_program.specs.declared.item.Item.{Item}
-use Rattle.obj_program.specs.declared.item.Patch.{Patch}
 use Rattle.obj_program.specs.declared.item.Patch.TheVariants as put
-use Rattle.obj_program.specs.AtMap.{distance, instr_at, low_part, patched_instr}
-use Rattle.obj_program.specs.Program.{Program, count, is_end, item_of, no_item}
-use Rattle.obj_program.specs.Sound.{IsSound, is_of}
 use Rattle.obj_program.specs.Suits as suits
 use Rattle.obj_program.proofs.Read.{read_there}
-use Rattle.cfi_map.specs.GraphAtMap.{ProgramAtMap, entered_in, words_at}
-use Rattle.cfi_map.specs.Groups.{AreGroups, bounds_in, MOST_STORES, is_store, members_before}
-use Rattle.cfi_map.specs.Source.{Source, instr_here, source_start}
-use Rattle.cfi_map.specs.World.{SameWorld}
-use Rattle.cfi_map.specs.SourceStep.{SourceAfter, StepTurn, acts, after_steps, breaks, exits, going_on, ran, source_step, step_at, unless, unless_ended, untame}
-use Rattle.cfi_map.specs.declared.reason.Reason.{Reason}
 use Rattle.cfi_map.proofs.GroupFacts.{joins, later_if, more_before, one_before}
 use Rattle.cfi_map.proofs.LaterPlaces.{NoneLater, Stepped, entry_is, later, stepped}
 

@@ -1,19 +1,10 @@
 -- Worked rows: where calls arrive, the lines of leaves, and those of jumps over what saves a site, in small programs whose callees save sites.
 -- Of each program the gates and the lines were worked out by hand beside its code, which is for one hart.
 use Rattle.std.proofs.Common.{◌≡◌, ℕ, false, List, [], ◌∷◌, Option, Some, None, refl}
-use Rattle.rv_image.specs.MemoryMap.{lean_version_1}
-use Rattle.rv_image.specs.declared.version.GraphVersion.TheVariants.{OneLabel, TwoLabels, CalleeSaves}
-use Rattle.rv_code.specs.Decode.{decoded}
-use Rattle.obj_input.specs.declared.item_kind.ItemKind.{ItemKind}
+use Rattle.cfi_map.proofs.Prelude.{lean_version_1, OneLabel, TwoLabels, CalleeSaves, decoded, ItemKind, Item, Calls, Jumps, GraphLine, head, is_spoilt_by, next_piece, ProgramAtMap, arrival, class_lines, graph_lines, jump_line, leaf_lines_by, leaf_lines_from, place_lines, tagged}
 use Rattle.obj_input.specs.declared.item_kind.ItemKind.TheVariants as is
-use Rattle.obj_program.specs.declared.item.Item.{Item}
 use Rattle.obj_program.specs.declared.item.Patch.TheVariants as put
-use Rattle.cfi_graph.specs.declared.line.Sort.TheVariants.{Calls, Jumps}
-use Rattle.cfi_graph.specs.declared.line.GraphLine.{GraphLine}
 use Rattle.cfi_graph.specs.declared.line.GraphLine.TheVariants as line
-use Rattle.cfi_leads.specs.Leaves.{head, is_spoilt_by, next_piece}
-use Rattle.cfi_map.specs.GraphAtMap.{ProgramAtMap, arrival, class_lines, graph_lines, jump_line, leaf_lines_by, leaf_lines_from, place_lines}
-use Rattle.cfi_map.specs.LabelOf.{tagged}
 
 abbrev at : ℕ → ItemKind → ℕ → Option ℕ → Item
 at offset kind word target = record { section = 1; offset = offset; kind = kind; word = word; patch = put.Own; target = target; taken = false }

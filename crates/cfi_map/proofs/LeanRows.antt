@@ -1,23 +1,9 @@
 -- Worked rows: sizes, groups and kept branches of small programs whose callees save sites. Of each program the places' gates were worked out
 -- by hand beside its code; a part is as long as from its gate to the next one, and the first one's is at the code's 44th byte.
 use Rattle.std.proofs.Common.{◌≡◌, ℕ, Bool, true, false, List, [], ◌∷◌, Option, Some, None, pos, refl}
-use Rattle.rv_image.specs.declared.version.GraphVersion.TheVariants.{TwoLabels, CalleeSaves}
-use Rattle.rv_code.specs.Decode.{decoded}
-use Rattle.obj_input.specs.declared.item_kind.ItemKind.{ItemKind}
+use Rattle.cfi_map.proofs.Prelude.{TwoLabels, CalleeSaves, decoded, ItemKind, Item, Number, Program, Short, Calls, Jumps, ClosedGraph, Entered, entered_at, head, is_spoilt_by, all_from, joins_in, shorts_below, shorts_of, saved_bytes, grouped_parts, grouped_sizes, part_sizes}
 use Rattle.obj_input.specs.declared.item_kind.ItemKind.TheVariants as is
-use Rattle.obj_program.specs.declared.item.Item.{Item}
 use Rattle.obj_program.specs.declared.item.Patch.TheVariants as put
-use Rattle.obj_program.specs.declared.item.Value.TheVariants.{Number}
-use Rattle.obj_program.specs.Program.{Program}
-use Rattle.cfi_layout.specs.declared.short.Short.{Short}
-use Rattle.cfi_graph.specs.declared.line.Sort.TheVariants.{Calls, Jumps}
-use Rattle.cfi_closed.specs.Closed.{ClosedGraph}
-use Rattle.cfi_leads.specs.Entered.{Entered, entered_at}
-use Rattle.cfi_leads.specs.Leaves.{head, is_spoilt_by}
-use Rattle.cfi_map.specs.Groups.{all_from, joins_in}
-use Rattle.cfi_map.specs.Shorts.{shorts_below, shorts_of}
-use Rattle.cfi_map.specs.PlacingLaws.{saved_bytes}
-use Rattle.cfi_map.specs.Sizes.{grouped_parts, grouped_sizes, part_sizes}
 
 abbrev at : ℕ → ItemKind → ℕ → Option ℕ → Item
 at offset kind word target = record { section = 1; offset = offset; kind = kind; word = word; patch = put.Own; target = target; taken = false }

@@ -1,3 +1,4 @@
+pub mod Prelude
 pub mod Placing
 pub mod ByGate
 pub mod PartSizes
@@ -12,7 +13,7 @@ pub mod LaterPlaces
 pub mod LaterRuns
 pub mod Shortened
 pub mod PlacingLaws
-mod Placements
+pub mod Placements
 mod LeanRows
 mod LeanLines
 mod SourceRows

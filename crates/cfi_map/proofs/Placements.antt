@@ -10,27 +10,10 @@ use Rattle.std.proofs.lemmas.List.Folds.{list_any_at}
 use Rattle.std.proofs.lemmas.Option.{get_or_from_slice_get, slice_get_within}
 use Rattle.std.proofs.lemmas.List.{get_or-take, get_or_append_left, length-take-le}
 use Rattle.rv_image.proofs.Profiles.{is_form_profile, laid_out}
-use Rattle.rv_image.specs.Form.{image_version, profile_for}
-use Rattle.rv_image.specs.MemoryMap.{CODE_SIZE}
-use Rattle.rv_image.specs.declared.form.Form.{Form}
-use Rattle.obj_input.specs.declared.item_kind.ItemKind.{ItemKind}
+use Rattle.cfi_map.proofs.Prelude.{image_version, profile_for, CODE_SIZE, Form, ItemKind, Item, Program, count, item_of, IsSound, Short, IsLongSet, is_forced, is_whole, sizes_under, sizes_where, starts_under, Placed, code_size, flag, starts_from, Entered, AreFirstStores, is_store, joins_in, members_before, AreGates, whole_at, IsPlacement, IsPlacementOf, IsShortened, joined, shorts_of, is_branch, ProgramAtMap, program_at, grouped_parts, part_sizes}
 use Rattle.obj_input.specs.declared.item_kind.ItemKind.TheVariants as is
-use Rattle.obj_program.specs.declared.item.Item.{Item}
-use Rattle.obj_program.specs.Program.{Program, count, item_of}
-use Rattle.obj_program.specs.Sound.{IsSound}
-use Rattle.cfi_layout.specs.declared.short.Short.{Short}
-use Rattle.cfi_layout.specs.LongSet.{IsLongSet, is_forced, is_whole, sizes_under, sizes_where, starts_under}
 use Rattle.cfi_layout.specs.LongSet.{is_branch as is_part}
-use Rattle.cfi_layout.specs.Starts.{Placed, code_size, flag, starts_from}
 use Rattle.cfi_layout.proofs.Offsets.{length_starts, length_where, start_most, sum_where}
-use Rattle.cfi_leads.specs.Entered.{Entered}
-use Rattle.cfi_map.specs.Groups.{AreFirstStores, is_store, joins_in, members_before}
-use Rattle.cfi_map.specs.Placement.{AreGates, whole_at}
-use Rattle.cfi_map.specs.Placing.{IsPlacement, IsPlacementOf}
-use Rattle.cfi_map.specs.Shortening.{IsShortened, joined}
-use Rattle.cfi_map.specs.Shorts.{shorts_of, is_branch}
-use Rattle.cfi_map.specs.GraphAtMap.{ProgramAtMap, program_at}
-use Rattle.cfi_map.specs.Sizes.{grouped_parts, part_sizes}
 use Rattle.cfi_map.proofs.GroupedSizes.{grouped_less, grouped_same, length_grouped}
 use Rattle.cfi_map.proofs.Greedy.{past_store}
 use Rattle.cfi_map.proofs.PartSizes.{gates_are, gates_rise}

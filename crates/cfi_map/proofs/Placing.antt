@@ -1,14 +1,7 @@
 -- How many gates and words a placement has, which word stands at a place, its words while a loop makes them.
 use Rattle.std.proofs.Common.{◌≡◌, ℕ, suc, ◌+◌, ◌<◌, ◌≤◌, Bool, List, [], ◌∷◌, ◌++◌, length, get_or, drop, drop-cons, refl, sym, ap, ◌∙◌, add-one, append_assoc}
 use Rattle.std.proofs.lemmas.List.{append-nil, drop_all}
-use Rattle.rv_image.specs.declared.form.Form.{Form}
-use Rattle.obj_program.specs.declared.item.Item.{Item}
-use Rattle.obj_program.specs.Program.{count}
-use Rattle.cfi_leads.specs.Entered.{Entered}
-use Rattle.cfi_leads.specs.Leads.{lead_size}
-use Rattle.cfi_map.specs.GraphAtMap.{ProgramAtMap, entered_in, word, words_at}
-use Rattle.cfi_map.specs.Mapped.{IsMapped}
-use Rattle.cfi_map.specs.Placement.{AreGates, words_from}
+use Rattle.cfi_map.proofs.Prelude.{Form, Item, count, Entered, lead_size, ProgramAtMap, entered_in, word, words_at, IsMapped, AreGates, words_from}
 
 pub as_many_gates : (of : Entered) (whole : List Bool) (k at : ℕ) (items : List Item) (gates : List ℕ)
     → AreGates of whole k at items gates → length gates ≡ length items

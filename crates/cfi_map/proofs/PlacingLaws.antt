@@ -1,17 +1,7 @@
 -- The code of a placement has room, and its short branches reach.
 use Rattle.std.proofs.Common.{◌≡◌, ℕ, ◌+◌, ◌≤◌, List, sum, sym, ap, subst, take, arith}
-use Rattle.rv_image.specs.Form.{profile_for}
-use Rattle.rv_image.specs.declared.form.Form.{Form}
-use Rattle.obj_program.specs.Program.{count}
-use Rattle.cfi_layout.specs.LongSet.{is_whole}
-use Rattle.cfi_layout.specs.Starts.{starts_from}
+use Rattle.cfi_map.proofs.Prelude.{profile_for, Form, count, is_whole, starts_from, Entered, entered_in, program_at, whole_at, IsShortAt, PlacementsFit, shorts_of, grouped_parts, part_sizes}
 use Rattle.cfi_layout.proofs.Offsets.{sum_where}
-use Rattle.cfi_leads.specs.Entered.{Entered}
-use Rattle.cfi_map.specs.GraphAtMap.{entered_in, program_at}
-use Rattle.cfi_map.specs.Placement.{whole_at}
-use Rattle.cfi_map.specs.PlacingLaws.{IsShortAt, PlacementsFit}
-use Rattle.cfi_map.specs.Shorts.{shorts_of}
-use Rattle.cfi_map.specs.Sizes.{grouped_parts, part_sizes}
 use Rattle.cfi_map.proofs.GroupedSizes.{code_shorter, grouped_less}
 use Rattle.cfi_map.proofs.PartSizes.{gates_told}
 use Rattle.cfi_map.proofs.Shortened.{branch_reaches, sizes_are}

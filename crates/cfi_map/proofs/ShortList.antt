@@ -6,14 +6,9 @@ use Rattle.std.proofs.lemmas.Bool.{cases_Bool, cases_lt, eq-eqb, eqb-true, ltb-t
 use Rattle.std.proofs.lemmas.List.Elements.{Contains-append_left, Contains-push, Contains-push_cases}
 use Rattle.std.proofs.lemmas.List.Folds.{Any-from_list_any, list_any-from_Any}
 use Rattle.rv_word.proofs.Cases.{cases_Option, guarded, mapped}
-use Rattle.obj_input.specs.declared.item_kind.ItemKind.{ItemKind}
+use Rattle.cfi_map.proofs.Prelude.{ItemKind, Program, count, is_end, item_of, IsSound, aims, Short, Entered, short_at, short_to, shorts_below, with_short, is_branch}
 use Rattle.obj_input.specs.declared.item_kind.ItemKind.TheVariants as is
-use Rattle.obj_program.specs.Program.{Program, count, is_end, item_of}
-use Rattle.obj_program.specs.Sound.{IsSound, aims}
-use Rattle.cfi_layout.specs.declared.short.Short.{Short}
 use Rattle.cfi_layout.specs.LongSet.{is_branch as is_part}
-use Rattle.cfi_leads.specs.Entered.{Entered}
-use Rattle.cfi_map.specs.Shorts.{short_at, short_to, shorts_below, with_short, is_branch}
 
 -- a branch that is listed is that of a place
 pub told : (of : Entered) (n : ℕ) (b : Short) → Contains (shorts_below of n) b →

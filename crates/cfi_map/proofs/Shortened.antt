@@ -4,28 +4,9 @@ use Rattle.std.specs.Prelude.{◌||◌, nat_le, slice_get, sum}
 use Rattle.std.proofs.lemmas.Bool.{cases_Bool, leb-true, and_parts, or_parts, not-false}
 use Rattle.std.proofs.lemmas.List.{get_or-take}
 use Rattle.std.proofs.lemmas.Option.{slice_get_within, get_or_from_slice_get, slice_get-get_or}
-use Rattle.rv_image.specs.Form.{profile_for}
-use Rattle.rv_image.specs.MemoryMap.{CODE_SIZE}
-use Rattle.rv_image.specs.declared.form.Form.{Form}
-use Rattle.obj_input.specs.declared.item_kind.ItemKind.{ItemKind}
+use Rattle.cfi_map.proofs.Prelude.{profile_for, CODE_SIZE, Form, ItemKind, Item, count, item_of, no_item, IsSound, Short, AreShorts, HoldsAllForced, IsShort, is_forced, is_whole, is_in_reach, sizes_under, sizes_where, starts_under, starts_from, GraphVersion, OneLabel, TwoLabels, CalleeSaves, Entered, lead_size, in_leaf, is_ecall, kind_size, lean_size, size_by, size_of, whole_at, IsShortAt, short_to, shorts_of, is_branch, program_at, is_short, is_store, grouped_parts, grouped_sizes, part_sizes, whole_sizes}
 use Rattle.obj_input.specs.declared.item_kind.ItemKind.TheVariants as is
-use Rattle.obj_program.specs.declared.item.Item.{Item}
-use Rattle.obj_program.specs.Program.{count, item_of, no_item}
-use Rattle.obj_program.specs.Sound.{IsSound}
-use Rattle.cfi_layout.specs.declared.short.Short.{Short}
-use Rattle.cfi_layout.specs.LongSet.{AreShorts, HoldsAllForced, IsShort, is_forced, is_whole, is_in_reach, sizes_under, sizes_where, starts_under, word}
-use Rattle.cfi_layout.specs.Starts.{starts_from}
-use Rattle.rv_image.specs.declared.version.GraphVersion.{GraphVersion}
-use Rattle.rv_image.specs.declared.version.GraphVersion.TheVariants.{OneLabel, TwoLabels, CalleeSaves}
-use Rattle.cfi_leads.specs.Entered.{Entered}
-use Rattle.cfi_leads.specs.Leads.{lead_size}
-use Rattle.cfi_leads.specs.Leaves.{in_leaf}
-use Rattle.cfi_map.specs.Placement.{is_ecall, kind_size, lean_size, size_by, size_of, whole_at}
-use Rattle.cfi_map.specs.PlacingLaws.{IsShortAt}
-use Rattle.cfi_map.specs.Shorts.{short_to, shorts_of, is_branch}
-use Rattle.cfi_map.specs.GraphAtMap.{program_at}
-use Rattle.cfi_map.specs.Groups.{is_short, is_store}
-use Rattle.cfi_map.specs.Sizes.{grouped_parts, grouped_sizes, part_sizes, whole_sizes}
+use Rattle.cfi_layout.specs.LongSet.{word}
 use Rattle.cfi_map.proofs.GroupedSizes.{grouped_at, length_grouped}
 use Rattle.cfi_map.proofs.PartSizes.{parts_many}
 use Rattle.cfi_map.proofs.ShortList.{branch_aims, branch_listed, parts_are, short_is, told}

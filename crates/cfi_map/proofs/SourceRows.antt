@@ -2,28 +2,10 @@
 -- gates and counts of steps are worked out by hand.
 use Rattle.std.proofs.Common.{◌≡◌, ℕ, ◌+◌, ◌-◌, ◌^◌, true, false, List, [], ◌∷◌, Option, Some, None, length, replicate, pos, refl}
 use Rattle.std.specs.Prelude.{option_map}
-use Rattle.rv_image.specs.declared.version.GraphVersion.TheVariants.{OneLabel, TwoLabels}
-use Rattle.rv_image.specs.MemoryMap.{version_1}
-use Rattle.rv_word.specs.Memory.{placed, write}
-use Rattle.rv_instr.specs.Registers.{set_reg}
-use Rattle.rv_code.specs.Decode.{decoded}
-use Rattle.rv_code.specs.State.{last_exit}
-use Rattle.rv_reloc.specs.declared.kinds.DataPatch.TheVariants.{Abs64}
-use Rattle.obj_input.specs.declared.item_kind.ItemKind.{ItemKind}
+use Rattle.cfi_map.proofs.Prelude.{OneLabel, TwoLabels, version_1, placed, write, set_reg, decoded, last_exit, Abs64, ItemKind, DataReloc, Item, GateOf, Number, instr_at, data_at, Both, Calls, Jumps, ClosedGraph, ProgramAtMap, words_from, Source, source_start, StepTurn, after_steps, breaks, exits, ran, source_step, untame}
 use Rattle.obj_input.specs.declared.item_kind.ItemKind.TheVariants as is
-use Rattle.obj_program.specs.declared.item.DataReloc.{DataReloc}
-use Rattle.obj_program.specs.declared.item.Item.{Item}
 use Rattle.obj_program.specs.declared.item.Patch.TheVariants as put
-use Rattle.obj_program.specs.declared.item.Value.TheVariants.{GateOf, Number}
-use Rattle.obj_program.specs.AtMap.{instr_at}
-use Rattle.obj_program.specs.DataAtMap.{data_at}
-use Rattle.cfi_graph.specs.declared.line.Sort.TheVariants.{Both, Calls, Jumps}
-use Rattle.cfi_closed.specs.Closed.{ClosedGraph}
-use Rattle.cfi_map.specs.GraphAtMap.{ProgramAtMap}
-use Rattle.cfi_map.specs.Placement.{words_from}
 use Rattle.cfi_map.specs.declared.reason.Reason.TheVariants as why
-use Rattle.cfi_map.specs.Source.{Source, source_start}
-use Rattle.cfi_map.specs.SourceStep.{StepTurn, after_steps, breaks, exits, ran, source_step, untame}
 
 abbrev at : ℕ → ItemKind → ℕ → Item
 at offset kind word = record { section = 1; offset = offset; kind = kind; word = word; patch = put.Own; target = None; taken = false }

@@ -1,10 +1,7 @@
 -- Where no value leaves its range, each instruction and the data have their values.
 use Rattle.std.proofs.Common.{◌≡◌, ℕ, ◌<◌, Bool, true, false, List, Option, Some, None, refl}
 use Rattle.std.specs.Prelude.{◌&&◌, not, is_none, is_some}
-use Rattle.obj_program.specs.AtMap.{instr_at}
-use Rattle.obj_program.specs.DataAtMap.{data_at}
-use Rattle.obj_program.specs.Program.{Program, count, is_end, item_of}
-use Rattle.obj_program.specs.Range.{out_of_range}
+use Rattle.cfi_map.proofs.Prelude.{instr_at, data_at, Program, count, is_end, item_of, out_of_range}
 use Rattle.obj_program.proofs.Exact.{none_out_of_range}
 
 -- each instruction has its values

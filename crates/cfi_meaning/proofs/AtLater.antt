@@ -3,18 +3,10 @@ use Rattle.std.proofs.Common.{◌≡◌, ℕ, ◌+◌, ◌≤◌, ◌==◌, inl,
 use Rattle.std.specs.Prelude.{◌&&◌}
 use Rattle.std.proofs.lemmas.Bool.{cases_Bool, cases_lt, eq-eqb, ne_eqb}
 use Rattle.std.proofs.lemmas.List.{get_or_past}
-use Rattle.obj_program.specs.declared.item.Item.{Item}
-use Rattle.obj_program.specs.Program.{count, item_of, no_item}
-use Rattle.cfi_map.specs.GraphAtMap.{entered_in, gate, word}
-use Rattle.cfi_map.specs.Groups.{is_store}
-use Rattle.cfi_map.specs.Placement.{size_of, whole_at}
+use Rattle.cfi_meaning.proofs.Prelude.{Item, count, item_of, no_item, entered_in, gate, word, is_store, size_of, whole_at, IsAccepted, Choice, is_later_at, mask_at, is_at_later, Linked, holds_store}
 use Rattle.cfi_unit.proofs.RegisterLaw.{mask_some}
-use Rattle.cfi_writer.specs.Accepted.{IsAccepted}
-use Rattle.cfi_writer.specs.Units.{Choice, is_later_at, mask_at}
 use Rattle.cfi_writer.proofs.Plain.{size_first, size_later}
 use Rattle.cfi_writer.proofs.Standing.{next_gate}
-use Rattle.cfi_meaning.specs.LaterStores.{is_at_later}
-use Rattle.cfi_meaning.specs.PlaceSteps.{Linked, holds_store}
 use Rattle.cfi_meaning.proofs.Names.{store_is_place}
 use Rattle.cfi_meaning.proofs.Places.{place_behind}
 

@@ -3,28 +3,9 @@
 use Rattle.std.proofs.Common.{◌≡◌, ℕ, ◌%◌, ◌^◌, ◌<◌, ◌≤◌, ◌==◌, inl, inr, Bool, true, false, List, [], ◌∷◌, length, refl, ap, subst, sym, ◌∙◌, arith}
 use Rattle.std.specs.Prelude.{◌||◌}
 use Rattle.std.proofs.lemmas.Bool.{cases_Bool, eq-eqb, or_left}
-use Rattle.rv_image.specs.declared.version.GraphVersion.{GraphVersion}
-use Rattle.rv_image.specs.declared.version.GraphVersion.TheVariants.{OneLabel, TwoLabels, CalleeSaves}
-use Rattle.rv_image.specs.Image.{Contents, loaded}
+use Rattle.cfi_meaning.proofs.Prelude.{GraphVersion, OneLabel, TwoLabels, CalleeSaves, Contents, loaded, cleared, has_leaves, is_call_target, is_called, is_entry, enters, in_leaf, arrival_by, entered_in, gate, word, MOST_PENDING, entry_pending, Own, own_start, OwnRuns, own_shared, Choice, entry_arrival, entry_words_by, IsImageOf, home_by, saved_by, ComesToEntry, shown, places_start}
 use Rattle.rv_image.proofs.Profiles.{laid_out}
-use Rattle.rv_instr.specs.Registers.{cleared}
-use Rattle.cfi_graph.specs.Graph.{has_leaves}
-use Rattle.cfi_leads.specs.Entries.{is_call_target, is_called, is_entry}
-use Rattle.cfi_leads.specs.Leads.{enters}
-use Rattle.cfi_leads.specs.Leaves.{in_leaf}
-use Rattle.cfi_map.specs.GraphAtMap.{arrival_by, entered_in, gate, word}
-use Rattle.cfi_unit.specs.Shadow.{MOST_PENDING}
-use Rattle.cfi_runs.specs.Openings.{entry_pending}
-use Rattle.cfi_runs.specs.Own.{Own, own_start}
-use Rattle.cfi_runs.specs.OwnRuns.{OwnRuns}
-use Rattle.cfi_runs.specs.WholeRun.{own_shared}
-use Rattle.cfi_writer.specs.Units.{Choice, entry_arrival}
-use Rattle.cfi_meaning.specs.Bounds.{entry_words_by}
-use Rattle.cfi_meaning.specs.ImageOf.{IsImageOf}
-use Rattle.cfi_meaning.specs.Matches.{home_by, saved_by}
 use Rattle.cfi_meaning.specs.PlaceLaws as law
-use Rattle.cfi_meaning.specs.PlaceLaws.{ComesToEntry, shown}
-use Rattle.cfi_meaning.specs.PlaceSteps.{places_start}
 use Rattle.cfi_meaning.proofs.LeadRuns.{arrives}
 
 -- the state at the entry, and the one that the opening leaves

@@ -7,11 +7,7 @@ use Rattle.std.proofs.lemmas.Bool.{eqb-true, ltb-true}
 use Rattle.std.proofs.lemmas.List.Sums.{passes_at_first}
 use Rattle.std.proofs.lemmas.Option.{option_and_then_some, same_Some}
 use Rattle.rv_word.proofs.Cases.{cases_Option, chosen}
-use Rattle.rv_instr.specs.Registers.{Registers}
-use Rattle.rv_instr.specs.declared.instr.Instr.{Instr}
-use Rattle.cfi_map.specs.GraphAtMap.{ProgramAtMap, gate}
-use Rattle.cfi_map.specs.Untame.{computed, computed_place, if_reached, place_with_gate}
-use Rattle.cfi_closed.specs.Closed.{class_reaches}
+use Rattle.cfi_meaning.proofs.Prelude.{Registers, Instr, ProgramAtMap, gate, computed, computed_place, if_reached, place_with_gate, class_reaches}
 
 pub record IsFound (g : ProgramAtMap) (k v t : ℕ) : Type 0 where
   pub gate_is : gate g t ≡ v

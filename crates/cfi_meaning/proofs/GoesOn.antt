@@ -2,38 +2,15 @@
 -- the words before its unit.
 use Rattle.std.proofs.Common.{◌≡◌, ℕ, ◌+◌, inl, inr, Bool, true, false, List, [], length, Option, Some, None, if◌then◌else◌, refl, sym, ap, subst, ◌∙◌, arith}
 use Rattle.std.proofs.lemmas.Bool.{cases_Bool}
-use Rattle.rv_image.specs.declared.version.GraphVersion.{GraphVersion}
-use Rattle.rv_image.specs.declared.version.GraphVersion.TheVariants.{OneLabel, TwoLabels, CalleeSaves}
-use Rattle.rv_image.specs.Image.{Contents, loaded}
-use Rattle.rv_instr.specs.declared.instr.Instr.{Instr}
-use Rattle.rv_code.specs.declared.turn.Turn.{Turn}
-use Rattle.rv_code.specs.declared.turn.Turn.TheVariants.{Ran}
-use Rattle.obj_input.specs.declared.item_kind.ItemKind.{ItemKind}
+use Rattle.cfi_meaning.proofs.Prelude.{GraphVersion, OneLabel, TwoLabels, CalleeSaves, Contents, loaded, Instr, Turn, Ran, ItemKind, Item, item_of, has_leaves, in_leaf, aim_of, entered_in, gate, gate_to, word, site_label, whole_at, Fits, after_unit, word_count, Own, own_past, own_step, words_along, IsTame, jump_word, Choice, Group, group_at, instr_of, unit_by, unit_here, unit_of, IsImageOf, gate_of, is_outside, shown_of, ComesThrough, ComesToPlace, at_unit, shown, TamePlace, at_word, holds_store, place_step}
 use Rattle.obj_input.specs.declared.item_kind.ItemKind.TheVariants as is
-use Rattle.obj_program.specs.declared.item.Item.{Item}
-use Rattle.obj_program.specs.Program.{item_of}
-use Rattle.cfi_graph.specs.Graph.{has_leaves}
-use Rattle.cfi_leads.specs.Leaves.{in_leaf}
-use Rattle.cfi_map.specs.GraphAtMap.{aim_of, entered_in, gate, gate_to, word}
-use Rattle.cfi_map.specs.LabelOf.{site_label}
-use Rattle.cfi_map.specs.Placement.{whole_at}
 use Rattle.cfi_unit.specs.declared.unit.Unit as U
-use Rattle.cfi_unit.specs.UnitWords.{Fits, after_unit, word_count}
 use Rattle.cfi_unit.proofs.Counts.{most_words}
-use Rattle.cfi_runs.specs.Own.{Own, own_past, own_step}
-use Rattle.cfi_runs.specs.OwnRuns.{words_along}
-use Rattle.cfi_runs.specs.Tame.{IsTame}
-use Rattle.cfi_rules.specs.Lines.{jump_word}
-use Rattle.cfi_writer.specs.Units.{Choice, Group, group_at, instr_of, unit_by, unit_here, unit_of}
 use Rattle.cfi_writer.proofs.FreshStarts.{here_is, lean_here}
 use Rattle.cfi_writer.proofs.Standing.{next_after}
 use Rattle.cfi_writer.proofs.PlaceUnits.{full_aim}
 use Rattle.cfi_meaning.specs.Bounds as bounds
-use Rattle.cfi_meaning.specs.ImageOf.{IsImageOf}
-use Rattle.cfi_meaning.specs.Matches.{gate_of, is_outside, shown_of}
 use Rattle.cfi_meaning.specs.PlaceLaws as law
-use Rattle.cfi_meaning.specs.PlaceLaws.{ComesThrough, ComesToPlace, at_unit, shown}
-use Rattle.cfi_meaning.specs.PlaceSteps.{TamePlace, at_word, holds_store, place_step}
 use Rattle.cfi_meaning.proofs.KindStep.{own_of_kind, suited}
 use Rattle.cfi_meaning.proofs.Places.{full_shown, place_behind, place_runs}
 use Rattle.cfi_meaning.proofs.KindLands.{by_kind}

@@ -3,38 +3,16 @@
 use Rattle.std.proofs.Common.{◌≡◌, ℕ, suc, ◌+◌, ◌-◌, ◌^◌, ◌<◌, ◌≤◌, Bool, true, false, inl, inr, List, [], length, Some, refl, sym, ap, subst, ◌∙◌, arith}
 use Rattle.std.specs.List.{range_with_len}
 use Rattle.std.proofs.lemmas.Bool.{cases_Bool}
-use Rattle.rv_image.specs.declared.version.GraphVersion.{GraphVersion}
-use Rattle.rv_image.specs.declared.version.GraphVersion.TheVariants.{OneLabel, TwoLabels, CalleeSaves}
-use Rattle.rv_image.specs.Image.{Contents, loaded}
-use Rattle.rv_instr.specs.Registers.{Registers, get_reg}
-use Rattle.rv_instr.specs.declared.instr.Instr.{Instr}
+use Rattle.cfi_meaning.proofs.Prelude.{GraphVersion, OneLabel, TwoLabels, CalleeSaves, Contents, loaded, Registers, get_reg, Instr, Ran, count, item_of, has_leaves, gate, gate_to, word, base_of, is_short, Mask, Member, after_unit, mask_words, word_count, sum_of, field, level, IsPast, TellsLow, members_from, own_store, Own, OwnAfter, executes, own_step, words_along, IsTame, touched, Choice, behind, instr_of, is_later_at, low_at, mask_at, mask_by, member_at, member_for, offset_at, offset_of, unit_here, IsImageOf, IsPlace, ComesThrough, ComesToPlace, at_unit, shown, PlacesRun, TamePlace, at_word, base_value, holds_store, place_step}
 use Rattle.rv_instr.specs.declared.instr.Instr.TheVariants as I
-use Rattle.rv_code.specs.declared.turn.Turn.TheVariants.{Ran}
-use Rattle.obj_program.specs.Program.{count, item_of}
-use Rattle.cfi_graph.specs.Graph.{has_leaves}
-use Rattle.cfi_map.specs.GraphAtMap.{gate, gate_to, word}
-use Rattle.cfi_map.specs.Groups.{base_of, is_short}
-use Rattle.cfi_unit.specs.declared.mask.Mask.{Mask}
-use Rattle.cfi_unit.specs.declared.members.Member.{Member}
 use Rattle.cfi_unit.specs.declared.unit.Unit as U
 use Rattle.cfi_unit.specs.declared.unit.Unit.TheVariants as V
-use Rattle.cfi_unit.specs.UnitWords.{after_unit, mask_words, word_count}
-use Rattle.cfi_unit.specs.Leads.{sum_of}
 use Rattle.cfi_unit.proofs.Counts.{most_words}
-use Rattle.cfi_runs.specs.Distances.{field, level}
-use Rattle.cfi_runs.specs.GroupStores.{IsPast, TellsLow, members_from, own_store}
-use Rattle.cfi_runs.specs.Own.{Own, OwnAfter, executes, own_step}
-use Rattle.cfi_runs.specs.OwnRuns.{words_along}
-use Rattle.cfi_runs.specs.Tame.{IsTame, touched}
 use Rattle.cfi_runs.proofs.GroupPlaces.{IsStoreAt, group_step}
-use Rattle.cfi_writer.specs.Units.{Choice, behind, instr_of, is_later_at, low_at, mask_at, mask_by, member_at, member_for, offset_at, offset_of, unit_here}
 use Rattle.cfi_writer.proofs.GroupUnit.{IsStore, bases, inside, many, masked, most_members, store_at, short_by}
 use Rattle.cfi_writer.proofs.LeanUnits.{stores_go_on}
 use Rattle.cfi_writer.proofs.NextPlaces.{IsNext, next_there}
-use Rattle.cfi_meaning.specs.ImageOf.{IsImageOf, IsPlace}
 use Rattle.cfi_meaning.specs.PlaceLaws as law
-use Rattle.cfi_meaning.specs.PlaceLaws.{ComesThrough, ComesToPlace, at_unit, shown}
-use Rattle.cfi_meaning.specs.PlaceSteps.{PlacesRun, TamePlace, at_word, base_value, holds_store, place_step}
 use Rattle.cfi_meaning.proofs.GoesOn.{full_most, lean_most}
 use Rattle.cfi_meaning.proofs.KindLands.{alike_lands}
 use Rattle.cfi_meaning.proofs.KindStep.{store_step, stores_on}

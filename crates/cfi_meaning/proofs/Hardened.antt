@@ -1,18 +1,7 @@
 -- A hardened program of a request is an image of an accepted choice, at the gates of its map.
 use Rattle.std.proofs.Common.{◌≡◌, ℕ, List, [], Option, refl, sym, ap, subst, ◌∙◌, unwrap_or}
-use Rattle.rv_image.specs.Image.{Contents}
-use Rattle.rv_image.specs.Form.{image_version}
-use Rattle.cfi_map.specs.GraphAtMap.{ProgramAtMap, program_at}
-use Rattle.cfi_map.specs.LegalMap.{IsLegalMap}
-use Rattle.cfi_map.specs.Source.{init_here}
-use Rattle.cfi_writer.specs.Hardened.{chosen}
-use Rattle.cfi_writer.specs.Units.{Choice}
+use Rattle.cfi_meaning.proofs.Prelude.{Contents, image_version, ProgramAtMap, program_at, IsLegalMap, init_here, chosen, Choice, IsImageOf, HardenedKeepsMeaning, HardenedNeverDiffers, HoldsOf, HoldsOfWritten, KeepsMeaning, NoRunDiffers, HardenedKeepsSteps, HardenedPastFirst, KeepsStep, StandsPastFirst}
 use Rattle.cfi_harden.proofs.Ready.{written_accepted}
-use Rattle.cfi_meaning.specs.ImageOf.{IsImageOf}
-use Rattle.cfi_meaning.specs.Hardened.{HardenedKeepsMeaning, HardenedNeverDiffers, HoldsOf, HoldsOfWritten}
-use Rattle.cfi_meaning.specs.Meaning.{KeepsMeaning}
-use Rattle.cfi_meaning.specs.NeverDiffers.{NoRunDiffers}
-use Rattle.cfi_meaning.specs.StepLaws.{HardenedKeepsSteps, HardenedPastFirst, KeepsStep, StandsPastFirst}
 use Rattle.cfi_meaning.proofs.Kept.{meaning_kept, stands_past_first}
 use Rattle.cfi_meaning.proofs.NeverDiffers.{never_differs}
 use Rattle.cfi_meaning.proofs.StepKept.{step_kept}

@@ -1,27 +1,9 @@
 -- Meaning kept, by induction on the source machine's steps.
 use Rattle.std.proofs.Common.{◌≡◌, ℕ, ◌+◌, ◌≤◌, ◌⊎◌, true, false, inl, inr, List, [], Option, Some, None, refl, sym, ap, subst, ◌∙◌, arith}
 use Rattle.std.proofs.lemmas.Bool.{cases_Bool}
-use Rattle.rv_image.specs.Image.{Contents}
-use Rattle.rv_image.specs.MemoryMap.{DATA_START, Profile}
-use Rattle.rv_word.specs.Memory.{placed, zeros}
-use Rattle.rv_code.specs.State.{last_exit}
-use Rattle.cfi_map.specs.Placement.{whole_at}
-use Rattle.cfi_map.specs.Source.{Source, init_here, source_start}
-use Rattle.cfi_map.specs.SourceStep.{SourceAfter, StepTurn, after_steps, ran, source_step, untame}
-use Rattle.cfi_map.specs.declared.reason.Reason.{Reason}
+use Rattle.cfi_meaning.proofs.Prelude.{Contents, DATA_START, Profile, placed, zeros, last_exit, whole_at, Source, init_here, source_start, SourceAfter, StepTurn, after_steps, ran, source_step, untame, Reason, Own, RunsTo, undisturbed, Choice, is_later_at, IsImageOf, is_at_later, most_steps, Matches, gate_of, own_of, EndsAs, MeaningKept, PlacesRun, holds_store, place_step, places_start, KeepsPlaces, IsPastFirst, StandsPastFirst}
 use Rattle.cfi_map.proofs.LaterRuns.{past, past_few, past_some}
-use Rattle.cfi_runs.specs.Own.{Own}
-use Rattle.cfi_runs.specs.WholeRun.{RunsTo, undisturbed}
-use Rattle.cfi_writer.specs.Units.{Choice, is_later_at}
 use Rattle.cfi_writer.proofs.Grouping.{other_first}
-use Rattle.cfi_meaning.specs.ImageOf.{IsImageOf}
-use Rattle.cfi_meaning.specs.LaterStores.{is_at_later}
-use Rattle.cfi_meaning.specs.Bounds.{most_steps}
-use Rattle.cfi_meaning.specs.Matches.{Matches, gate_of, own_of}
-use Rattle.cfi_meaning.specs.Meaning.{EndsAs, MeaningKept}
-use Rattle.cfi_meaning.specs.PlaceSteps.{PlacesRun, holds_store, place_step, places_start}
-use Rattle.cfi_meaning.specs.PlacesKept.{KeepsPlaces}
-use Rattle.cfi_meaning.specs.StepLaws.{IsPastFirst, StandsPastFirst}
 use Rattle.cfi_meaning.proofs.AtLater.{at_later_is, at_no_later, free_place}
 use Rattle.cfi_meaning.proofs.LedSteps.{Led, led, there}
 use Rattle.cfi_meaning.proofs.Matching.{from_own}

@@ -1,29 +1,11 @@
 -- The source machine's step of a kind is the own step of that kind, by addresses.
 use Rattle.std.proofs.Common.{◌≡◌, ℕ, ◌+◌, ◌≤◌, Bool, true, false, List, [], ◌∷◌, Option, Some, refl, sym, ap, subst, ◌∙◌, if◌then◌else◌, unwrap_or}
 use Rattle.std.proofs.lemmas.Bool.{cond_both}
-use Rattle.rv_image.specs.MemoryMap.{Profile, can_load, can_store}
-use Rattle.rv_instr.specs.Registers.{Registers, get_reg}
-use Rattle.rv_instr.specs.declared.instr.Instr.{Instr}
+use Rattle.cfi_meaning.proofs.Prelude.{Profile, can_load, can_store, Registers, get_reg, Instr, Lui, Auipc, branch_taken, load_size, store_size, After, Hart, Shared, address, exec, Turn, Ran, Exit, Break, LoadFault, StoreFault, FetchFault, Illegal, ItemKind, is_direct, suits, ProgramAtMap, gate, gate_to, word, Own, OwnAfter, goes, calls, returns, kind_step, own_of, sites_of, Source, StepTurn, acts, breaks, exits, if_taken, leaves, place_after, ran, returns_from, turn_at, untame, computed}
 use Rattle.rv_instr.specs.declared.instr.Instr.TheVariants as I
-use Rattle.rv_instr.specs.declared.instr.UpperOp.TheVariants.{Lui, Auipc}
-use Rattle.rv_code.specs.Arithmetic.{branch_taken, load_size, store_size}
-use Rattle.rv_code.specs.State.{After, Hart, Shared}
-use Rattle.rv_code.specs.Step.{address, exec}
-use Rattle.rv_code.specs.declared.turn.Turn.{Turn}
-use Rattle.rv_code.specs.declared.turn.Turn.TheVariants.{Ran, Exit, Break, LoadFault, StoreFault, FetchFault, Illegal}
 use Rattle.rv_code.proofs.Calls.{AfterCall, after_call, answered, ended}
-use Rattle.obj_input.specs.declared.item_kind.ItemKind.{ItemKind}
 use Rattle.obj_input.specs.declared.item_kind.ItemKind.TheVariants as is
-use Rattle.obj_program.specs.Sound.{is_direct}
-use Rattle.obj_program.specs.Suits.{suits}
-use Rattle.cfi_map.specs.GraphAtMap.{ProgramAtMap, gate, gate_to, word}
-use Rattle.cfi_runs.specs.Own.{Own, OwnAfter, goes, calls, returns}
-use Rattle.cfi_meaning.specs.KindStep.{kind_step}
-use Rattle.cfi_meaning.specs.Matches.{own_of, sites_of}
-use Rattle.cfi_map.specs.Source.{Source}
-use Rattle.cfi_map.specs.SourceStep.{StepTurn, acts, breaks, exits, if_taken, leaves, place_after, ran, returns_from, turn_at, untame}
 use Rattle.cfi_map.specs.SourceStep as source
-use Rattle.cfi_map.specs.Untame.{computed}
 use Rattle.cfi_meaning.proofs.Found.{place_found, some_found}
 use Rattle.cfi_meaning.proofs.KindTame.{NoReason}
 

@@ -3,21 +3,11 @@ use Rattle.std.proofs.Common.{◌≡◌, ℕ, suc, ◌+◌, ◌<◌, ◌≤◌, 
 use Rattle.std.specs.List.{AllByRecursion}
 use Rattle.std.proofs.lemmas.Bool.{cases_Bool, false_from_ne_true, true≢false}
 use Rattle.std.proofs.lemmas.Option.{same_Some}
-use Rattle.rv_instr.specs.declared.instr.Instr.{Instr}
+use Rattle.cfi_meaning.proofs.Prelude.{Instr, ItemKind, count, item_of, Entered, begins, ends_before, head, in_leaf, is_leaf, may_stand, ProgramAtMap, entered_in, Source, acts, returns_from, MOST_PENDING, is_outside, sites_at, sites_now, sites_of, makes_call}
 use Rattle.rv_instr.specs.declared.instr.Instr.TheVariants as I
-use Rattle.obj_input.specs.declared.item_kind.ItemKind.{ItemKind}
 use Rattle.obj_input.specs.declared.item_kind.ItemKind.TheVariants as is
-use Rattle.obj_program.specs.Program.{count, item_of}
-use Rattle.cfi_leads.specs.Entered.{Entered}
-use Rattle.cfi_leads.specs.Leaves.{begins, ends_before, head, in_leaf, is_leaf, may_stand}
 use Rattle.cfi_leads.proofs.Tables.{head_of_first}
-use Rattle.cfi_map.specs.GraphAtMap.{ProgramAtMap, entered_in}
-use Rattle.cfi_map.specs.Source.{Source}
-use Rattle.cfi_map.specs.SourceStep.{acts, returns_from}
-use Rattle.cfi_unit.specs.Shadow.{MOST_PENDING}
 use Rattle.cfi_writer.proofs.Pieces.{ends_there, head_same, stands_there}
-use Rattle.cfi_meaning.specs.Matches.{is_outside, sites_at, sites_now, sites_of}
-use Rattle.cfi_meaning.specs.PlaceSteps.{makes_call}
 use Rattle.cfi_meaning.proofs.KindTame.{NoReason, room_of_kind}
 
 -- what holds of the pending sites of each state of a run

@@ -3,55 +3,19 @@
 use Rattle.std.proofs.Common.{◌≡◌, ℕ, ◌+◌, ◌*◌, ◌/◌, ◌%◌, ◌^◌, ◌<◌, ◌≤◌, ◌==◌, inl, inr, Bool, true, false, List, [], ◌∷◌, length, Option, Some, None, if◌then◌else◌, refl, sym, ap, subst, ◌∙◌, arith}
 use Rattle.std.proofs.lemmas.Bool.{cases_Bool, cases_lt, eq-eqb, false_from_ne_true, or_left, or_right, true≢false}
 use Rattle.std.proofs.lemmas.List.Folds.{list_any_at}
-use Rattle.rv_image.specs.declared.version.GraphVersion.{GraphVersion}
-use Rattle.rv_image.specs.declared.version.GraphVersion.TheVariants.{CalleeSaves}
-use Rattle.rv_image.specs.Image.{Contents, loaded}
-use Rattle.rv_instr.specs.Registers.{Registers, get_reg, set_reg}
-use Rattle.rv_instr.specs.declared.instr.BranchOp.{BranchOp}
-use Rattle.rv_instr.specs.declared.instr.Instr.{Instr}
+use Rattle.cfi_meaning.proofs.Prelude.{GraphVersion, CalleeSaves, Contents, loaded, Registers, get_reg, set_reg, BranchOp, Instr, branch_taken, decoded, Turn, Ran, ItemKind, Item, count, is_end, item_of, no_item, is_direct, suits, has_leaves, SiteKind, is_target, site_kind, Entered, aims_at, call_target, if_kind, is_call, is_call_target, is_called, is_entry, edge_target, ends_before, head, in_leaf, is_edge, is_leaf, may_stand, aim_of, arrival, arrival_to, entered_in, gate, gate_to, word, is_store, site_label, whole_at, HasLabel, MOST_PENDING, Fits, word_count, Own, OwnAfter, own_past, returns, IsTame, ReturnTame, word_asked, Choice, behind, group_at, lean_unit_of, IsImageOf, kind_step, gate_of, is_outside, saved_by, shown_of, at_unit, shown, TamePlace, at_word, holds_store, makes_call}
 use Rattle.rv_instr.specs.declared.instr.Instr.TheVariants as I
-use Rattle.rv_code.specs.Arithmetic.{branch_taken}
-use Rattle.rv_code.specs.Decode.{decoded}
-use Rattle.rv_code.specs.declared.turn.Turn.{Turn}
-use Rattle.rv_code.specs.declared.turn.Turn.TheVariants.{Ran}
-use Rattle.obj_input.specs.declared.item_kind.ItemKind.{ItemKind}
 use Rattle.obj_input.specs.declared.item_kind.ItemKind.TheVariants as is
-use Rattle.obj_program.specs.declared.item.Item.{Item}
-use Rattle.obj_program.specs.Program.{count, is_end, item_of, no_item}
-use Rattle.obj_program.specs.Sound.{is_direct}
-use Rattle.obj_program.specs.Suits.{suits}
-use Rattle.cfi_graph.specs.Graph.{has_leaves}
-use Rattle.cfi_graph.specs.declared.line.SiteKind.{SiteKind}
 use Rattle.cfi_graph.specs.declared.line.SiteKind.TheVariants as K
-use Rattle.cfi_closed.specs.Closed.{is_target}
-use Rattle.cfi_flow.specs.Sites.{site_kind}
-use Rattle.cfi_leads.specs.Entered.{Entered}
-use Rattle.cfi_leads.specs.Entries.{aims_at, call_target, if_kind, is_call, is_call_target, is_called, is_entry}
-use Rattle.cfi_leads.specs.Leaves.{edge_target, ends_before, head, in_leaf, is_edge, is_leaf, may_stand}
-use Rattle.cfi_map.specs.GraphAtMap.{aim_of, arrival, arrival_to, entered_in, gate, gate_to, word}
-use Rattle.cfi_map.specs.Groups.{is_store}
-use Rattle.cfi_map.specs.LabelOf.{site_label}
-use Rattle.cfi_map.specs.Placement.{whole_at}
 use Rattle.cfi_unit.specs.declared.unit.Unit as U
 use Rattle.cfi_unit.specs.declared.unit.Unit.TheVariants as V
-use Rattle.cfi_unit.specs.Leads.{HasLabel}
-use Rattle.cfi_unit.specs.Shadow.{MOST_PENDING}
-use Rattle.cfi_unit.specs.UnitWords.{Fits, word_count}
-use Rattle.cfi_runs.specs.Own.{Own, OwnAfter, computed, own_past, returns}
-use Rattle.cfi_runs.specs.Tame.{IsTame, ReturnTame}
-use Rattle.cfi_writer.specs.SideLaws.{word_asked}
-use Rattle.cfi_writer.specs.Units.{Choice, behind, group_at, lean_unit_of}
+use Rattle.cfi_runs.specs.Own.{computed}
 use Rattle.cfi_writer.proofs.Entering.{in_leaf_untargeted}
 use Rattle.cfi_writer.proofs.Grouping.{none_behind, other_first}
 use Rattle.cfi_writer.proofs.Leading.{direct}
 use Rattle.cfi_writer.proofs.LeanUnits.{lean_version}
 use Rattle.cfi_writer.proofs.NextPlaces.{edge_inside, edge_outside, next_there}
 use Rattle.cfi_writer.proofs.Pieces.{stands_there}
-use Rattle.cfi_meaning.specs.ImageOf.{IsImageOf}
-use Rattle.cfi_meaning.specs.KindStep.{kind_step}
-use Rattle.cfi_meaning.specs.Matches.{gate_of, is_outside, saved_by, shown_of}
-use Rattle.cfi_meaning.specs.PlaceLaws.{at_unit, shown}
-use Rattle.cfi_meaning.specs.PlaceSteps.{TamePlace, at_word, holds_store, makes_call}
 use Rattle.cfi_meaning.proofs.LeadRuns.{LeadsTo, arrives, arrives_beyond, lean_is, over_lead, stays_there}
 use Rattle.cfi_meaning.proofs.NextPlace.{gate_fits, next_is, past_word}
 use Rattle.cfi_meaning.proofs.Places.{place_behind}

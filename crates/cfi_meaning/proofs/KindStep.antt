@@ -3,47 +3,14 @@
 use Rattle.std.proofs.Common.{◌≡◌, ℕ, zero, suc, ◌+◌, ◌^◌, ◌<◌, ◌≤◌, ◌==◌, true, false, not, Bool, List, [], ◌∷◌, Option, Some, None, if◌then◌else◌, refl, sym, ap, subst, ◌∙◌, arith}
 use Rattle.std.specs.Prelude.{nat_lt}
 use Rattle.std.proofs.lemmas.Bool.{eqb-true}
-use Rattle.rv_image.specs.declared.version.GraphVersion.{GraphVersion}
-use Rattle.rv_image.specs.declared.version.GraphVersion.TheVariants.{OneLabel, TwoLabels, CalleeSaves}
-use Rattle.rv_image.specs.MemoryMap.{Profile}
-use Rattle.rv_word.specs.Memory.{write}
-use Rattle.rv_instr.specs.Registers.{get_reg}
-use Rattle.rv_instr.specs.declared.instr.Instr.{Instr}
+use Rattle.cfi_meaning.proofs.Prelude.{GraphVersion, OneLabel, TwoLabels, CalleeSaves, Profile, write, get_reg, Instr, Lui, Auipc, StoreOp, Sb, Sh, Sw, Sd, BranchOp, Beq, Bne, Blt, Bge, Bltu, Bgeu, branch_taken, signed_less, store_size, Ran, ItemKind, is_end, item_of, suits, in_leaf, aim_of, entered_in, gate, gate_to, word, words_at, is_store, site_label, whole_at, TargetWord, after_unit, sum_of, with_memory, Own, OwnAfter, executes, goes, own_past, returns, touched, jump_word, IsAccepted, Choice, Group, call_unit, group_at, instr_of, inverse, lean_unit_of, unit_by, unit_here, unit_of, kind_step, IsPlace, at_unit, shown, at_word, place_step}
 use Rattle.rv_instr.specs.declared.instr.Instr.TheVariants as I
-use Rattle.rv_instr.specs.declared.instr.UpperOp.TheVariants.{Lui, Auipc}
-use Rattle.rv_instr.specs.declared.instr.StoreOp.{StoreOp}
-use Rattle.rv_instr.specs.declared.instr.StoreOp.TheVariants.{Sb, Sh, Sw, Sd}
-use Rattle.rv_instr.specs.declared.instr.BranchOp.{BranchOp}
-use Rattle.rv_instr.specs.declared.instr.BranchOp.TheVariants.{Beq, Bne, Blt, Bge, Bltu, Bgeu}
-use Rattle.rv_code.specs.Arithmetic.{branch_taken, signed_less, store_size}
-use Rattle.rv_code.specs.declared.turn.Turn.TheVariants.{Ran}
-use Rattle.obj_input.specs.declared.item_kind.ItemKind.{ItemKind}
 use Rattle.obj_input.specs.declared.item_kind.ItemKind.TheVariants as is
-use Rattle.obj_program.specs.Program.{is_end, item_of}
-use Rattle.obj_program.specs.Suits.{suits}
 use Rattle.obj_program.proofs.Kept.{kept}
-use Rattle.cfi_leads.specs.Leaves.{in_leaf}
-use Rattle.cfi_map.specs.GraphAtMap.{aim_of, entered_in, gate, gate_to, word, words_at}
-use Rattle.cfi_map.specs.Groups.{is_store}
-use Rattle.cfi_map.specs.LabelOf.{site_label}
-use Rattle.cfi_map.specs.Placement.{whole_at}
-use Rattle.cfi_unit.specs.declared.target_word.TargetWord.{TargetWord}
-use Rattle.cfi_unit.specs.UnitWords.{after_unit}
-use Rattle.cfi_unit.specs.Leads.{sum_of}
-use Rattle.cfi_unit.specs.Leaving.{with_memory}
 use Rattle.cfi_unit.proofs.Regions.{can_store_data, store_size-small}
-use Rattle.cfi_runs.specs.Own.{Own, OwnAfter, executes, goes, own_past, returns}
-use Rattle.cfi_runs.specs.Tame.{touched}
-use Rattle.cfi_rules.specs.Lines.{jump_word}
-use Rattle.cfi_writer.specs.Accepted.{IsAccepted}
-use Rattle.cfi_writer.specs.Units.{Choice, Group, call_unit, group_at, instr_of, inverse, lean_unit_of, unit_by, unit_here, unit_of}
 use Rattle.cfi_writer.proofs.GroupUnit.{IsStore}
 use Rattle.cfi_writer.proofs.Standing.{instr_is, next_after}
-use Rattle.cfi_meaning.specs.KindStep.{kind_step}
-use Rattle.cfi_meaning.specs.ImageOf.{IsPlace}
 use Rattle.cfi_meaning.specs.PlaceLaws as law
-use Rattle.cfi_meaning.specs.PlaceLaws.{at_unit, shown}
-use Rattle.cfi_meaning.specs.PlaceSteps.{at_word, place_step}
 use Rattle.cfi_meaning.proofs.Places.{place_behind}
 
 not_twice : (b : Bool) → not (not b) ≡ b

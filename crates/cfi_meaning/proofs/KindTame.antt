@@ -2,36 +2,12 @@
 use Rattle.std.proofs.Common.{◌≡◌, ℕ, suc, ◌^◌, ◌<◌, ◌≤◌, ◌==◌, Bool, true, false, List, [], ◌∷◌, length, Option, Some, None, refl, sym, ap, subst, arith}
 use Rattle.std.specs.Prelude.{nat_le, not, ◌&&◌, if◌then◌else◌}
 use Rattle.std.proofs.lemmas.Bool.{eqb-true, leb-false, leb-true, not-false, or_parts}
-use Rattle.rv_image.specs.Image.{Contents, loaded}
-use Rattle.rv_image.specs.declared.version.GraphVersion.{GraphVersion}
-use Rattle.rv_image.specs.declared.version.GraphVersion.TheVariants.{OneLabel, TwoLabels, CalleeSaves}
-use Rattle.rv_instr.specs.Registers.{Registers, get_reg}
-use Rattle.rv_instr.specs.declared.instr.Instr.{Instr}
+use Rattle.cfi_meaning.proofs.Prelude.{Contents, loaded, GraphVersion, OneLabel, TwoLabels, CalleeSaves, Registers, get_reg, Instr, ItemKind, is_end, item_of, suits, has_leaves, SiteKind, class_reaches, site_kind, ProgramAtMap, gate, is_short, is_store, Source, MOST_CALLS, WINDOW, computed, is_off_base, is_off_graph, is_off_window, is_too_deep, is_unlisted, is_wrong_return, return_address, TargetWord, First, HasLabel, MOST_PENDING, IsTame, ReturnTame, touched, jump_word, word_asked, Group, call_unit, lean_unit_of, unit_by, unit_of, saved_by, sites_of, base_value, makes_call}
 use Rattle.rv_instr.specs.declared.instr.Instr.TheVariants as I
-use Rattle.obj_input.specs.declared.item_kind.ItemKind.{ItemKind}
 use Rattle.obj_input.specs.declared.item_kind.ItemKind.TheVariants as is
-use Rattle.obj_program.specs.Program.{is_end, item_of}
-use Rattle.obj_program.specs.Suits.{suits}
-use Rattle.cfi_graph.specs.Graph.{has_leaves}
-use Rattle.cfi_graph.specs.declared.line.SiteKind.{SiteKind}
 use Rattle.cfi_graph.specs.declared.line.SiteKind.TheVariants as kinds
-use Rattle.cfi_closed.specs.Closed.{class_reaches}
-use Rattle.cfi_flow.specs.Sites.{site_kind}
-use Rattle.cfi_map.specs.GraphAtMap.{ProgramAtMap, gate}
-use Rattle.cfi_map.specs.Groups.{is_short, is_store}
-use Rattle.cfi_map.specs.Source.{Source}
-use Rattle.cfi_map.specs.Untame.{MOST_CALLS, WINDOW, base_of, computed, is_off_base, is_off_graph, is_off_window, is_outside, is_too_deep, is_unlisted, is_wrong_return, return_address}
+use Rattle.cfi_map.specs.Untame.{base_of, is_outside}
 use Rattle.cfi_map.specs.declared.reason.Reason.TheVariants as why
-use Rattle.cfi_unit.specs.declared.target_word.TargetWord.{TargetWord}
-use Rattle.cfi_unit.specs.declared.target_word.TargetWord.TheVariants.{First}
-use Rattle.cfi_unit.specs.Leads.{HasLabel}
-use Rattle.cfi_unit.specs.Shadow.{MOST_PENDING}
-use Rattle.cfi_runs.specs.Tame.{IsTame, ReturnTame, touched}
-use Rattle.cfi_rules.specs.Lines.{jump_word}
-use Rattle.cfi_writer.specs.SideLaws.{word_asked}
-use Rattle.cfi_writer.specs.Units.{Group, call_unit, lean_unit_of, unit_by, unit_of}
-use Rattle.cfi_meaning.specs.Matches.{saved_by, sites_of}
-use Rattle.cfi_meaning.specs.PlaceSteps.{base_value, makes_call}
 use Rattle.cfi_meaning.proofs.Found.{place_found, some_found}
 
 -- no reason stands

@@ -3,37 +3,16 @@
 use Rattle.std.proofs.Common.{◌≡◌, ℕ, ◌+◌, ◌*◌, ◌%◌, ◌^◌, ◌<◌, ◌≤◌, inl, inr, Bool, true, false, List, [], ◌∷◌, length, Option, Some, None, refl, sym, ap, subst, ◌∙◌, arith}
 use Rattle.std.specs.Prelude.{is_some, not, slice_get}
 use Rattle.std.proofs.lemmas.Bool.{and_from, cases_Bool, false_from_ne_true, true≢false}
-use Rattle.rv_image.specs.declared.version.GraphVersion.{GraphVersion}
-use Rattle.rv_image.specs.declared.version.GraphVersion.TheVariants.{OneLabel, TwoLabels, CalleeSaves}
-use Rattle.rv_image.specs.Image.{Contents, loaded}
-use Rattle.rv_word.specs.Memory.{Memory}
-use Rattle.rv_image.specs.MemoryMap.{Profile}
-use Rattle.rv_instr.specs.Registers.{Registers}
-use Rattle.rv_code.specs.declared.turn.Turn.TheVariants.{Ran}
-use Rattle.obj_program.specs.Program.{count}
-use Rattle.cfi_closed.specs.Closed.{is_target}
-use Rattle.cfi_graph.specs.Graph.{has_leaves}
-use Rattle.cfi_leads.specs.Entries.{is_call_target, is_entry}
-use Rattle.cfi_leads.specs.Leads.{enters}
-use Rattle.cfi_leads.specs.Leaves.{in_leaf, is_leaf}
+use Rattle.cfi_meaning.proofs.Prelude.{GraphVersion, OneLabel, TwoLabels, CalleeSaves, Contents, loaded, Memory, Profile, Registers, Ran, count, is_target, has_leaves, is_call_target, is_entry, enters, in_leaf, is_leaf, ProgramAtMap, arrival, entered_in, gate, word, MOST_PENDING, word_count, Own, OwnAfter, own_step, OwnRuns, words_along, IsTame, NamesNoReserved, TameStep, Choice, lead, lead_of_entry, lead_unit, IsImageOf, home_by, saved_by, shown_of}
 use Rattle.cfi_leads.proofs.Ends.{entry_begins}
 use Rattle.cfi_leads.proofs.Tables.{head_of_first}
-use Rattle.cfi_map.specs.GraphAtMap.{ProgramAtMap, arrival, entered_in, gate, word}
 use Rattle.cfi_unit.specs.declared.unit.Unit as U
 use Rattle.cfi_unit.specs.declared.unit.Unit.TheVariants as V
-use Rattle.cfi_unit.specs.Shadow.{MOST_PENDING}
-use Rattle.cfi_unit.specs.UnitWords.{word_count}
-use Rattle.cfi_runs.specs.Own.{Own, OwnAfter, own_step}
-use Rattle.cfi_runs.specs.OwnRuns.{OwnRuns, words_along}
-use Rattle.cfi_runs.specs.Tame.{IsTame, NamesNoReserved, TameStep}
-use Rattle.cfi_writer.specs.Units.{Choice, lead, lead_of_entry, lead_unit}
 use Rattle.cfi_writer.proofs.Entering.{call_enters, in_leaf_passed}
 use Rattle.cfi_writer.proofs.FreshStarts.{word_there, arrives_by}
 use Rattle.cfi_writer.proofs.LeadWords.{lead_cases, lean_lead, words_in, lead_word_count}
 use Rattle.cfi_writer.proofs.LeanWords.{IsLeanWord, before_enter, before_jump, before_unit, jumps_over, saves_site}
 use Rattle.cfi_writer.proofs.Standing.{at_gate, word_is}
-use Rattle.cfi_meaning.specs.ImageOf.{IsImageOf}
-use Rattle.cfi_meaning.specs.Matches.{home_by, saved_by, shown_of}
 use Rattle.cfi_meaning.proofs.Places.{goes_on, lead_free, lead_tame, lead_written, saver_written, steps_there}
 
 -- a path of so many words at most leads from a state to another

@@ -1,20 +1,9 @@
 -- Kinds of instructions that leave the pending sites: their step is the same whichever sites are pending, and, where callees save sites, their
 -- unit does all of it. No unit there has more than 19 words but that of a group of stores.
 use Rattle.std.proofs.Common.{◌≡◌, ℕ, ◌≤◌, Bool, true, false, List, Option, Some, None, refl, arith}
-use Rattle.rv_image.specs.declared.version.GraphVersion.TheVariants.{CalleeSaves}
-use Rattle.rv_image.specs.MemoryMap.{Profile}
-use Rattle.rv_instr.specs.declared.instr.Instr.{Instr}
+use Rattle.cfi_meaning.proofs.Prelude.{CalleeSaves, Profile, Instr, ItemKind, is_end, suits, is_store, Fits, word_count, Own, OwnAfter, own_past, jump_word, Group, call_unit, lean_unit_of, kind_step}
 use Rattle.rv_instr.specs.declared.instr.Instr.TheVariants as I
-use Rattle.obj_input.specs.declared.item_kind.ItemKind.{ItemKind}
 use Rattle.obj_input.specs.declared.item_kind.ItemKind.TheVariants as is
-use Rattle.obj_program.specs.Program.{is_end}
-use Rattle.obj_program.specs.Suits.{suits}
-use Rattle.cfi_map.specs.Groups.{is_store}
-use Rattle.cfi_unit.specs.UnitWords.{Fits, word_count}
-use Rattle.cfi_runs.specs.Own.{Own, OwnAfter, own_past}
-use Rattle.cfi_rules.specs.Lines.{jump_word}
-use Rattle.cfi_writer.specs.Units.{Group, call_unit, lean_unit_of}
-use Rattle.cfi_meaning.specs.KindStep.{kind_step}
 use Rattle.cfi_meaning.proofs.KindStep.{own_of_kind}
 
 -- the same step with other sites pending

@@ -2,21 +2,10 @@
 use Rattle.std.proofs.Common.{◌≡◌, ℕ, zero, suc, ◌+◌, ◌%◌, ◌^◌, true, inl, inr, List, [], ◌∷◌, ◌++◌, length, length-append, Option, Some, None, refl, sym, ap, subst, ◌∙◌, arith}
 use Rattle.std.proofs.lemmas.Bool.{cases_Bool}
 use Rattle.std.proofs.lemmas.Option.{option_and_then_some, same_Some}
-use Rattle.rv_image.specs.Image.{Contents}
-use Rattle.rv_code.specs.declared.turn.Turn.TheVariants.{Ran}
+use Rattle.cfi_meaning.proofs.Prelude.{Contents, Ran, item_of, whole_at, Source, source_start, SourceAfter, StepTurn, after_steps, closes, exits, going_on, ran, source_step, Own, OwnAfter, Choice, is_later_at, IsImageOf, is_outside, own_of, Chained, Linked, PlacesRun, TamePlace, holds_store, place_step, ComesBackOutside, Follows}
 use Rattle.obj_input.specs.declared.item_kind.ItemKind.TheVariants as is
-use Rattle.obj_program.specs.Program.{item_of}
-use Rattle.cfi_map.specs.Placement.{whole_at}
-use Rattle.cfi_map.specs.Source.{Source, source_start}
-use Rattle.cfi_map.specs.SourceStep.{SourceAfter, StepTurn, after_steps, closes, exits, going_on, ran, source_step}
 use Rattle.cfi_map.proofs.LaterPlaces.{NoneLater, entry_is, stepped as steps_to}
 use Rattle.cfi_map.proofs.LaterRuns.{Reached, reached, gone_on}
-use Rattle.cfi_runs.specs.Own.{Own, OwnAfter}
-use Rattle.cfi_writer.specs.Units.{Choice, is_later_at}
-use Rattle.cfi_meaning.specs.ImageOf.{IsImageOf}
-use Rattle.cfi_meaning.specs.Matches.{is_outside, own_of}
-use Rattle.cfi_meaning.specs.PlaceSteps.{Chained, Linked, PlacesRun, TamePlace, holds_store, place_step}
-use Rattle.cfi_meaning.specs.PlacesKept.{ComesBackOutside, Follows}
 use Rattle.cfi_meaning.proofs.KindActs.{IsOwn}
 use Rattle.cfi_meaning.proofs.KindFits.{Fits, GoesFit}
 use Rattle.cfi_meaning.proofs.Steps.{Stepped, at_closing, at_place, has_ended, is_untame, stepped}

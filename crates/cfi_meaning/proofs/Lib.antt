@@ -1,3 +1,4 @@
+pub mod Prelude
 pub mod Prologue
 pub mod Names
 pub mod Places

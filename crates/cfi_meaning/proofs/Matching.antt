@@ -4,23 +4,10 @@ use Rattle.std.proofs.Common.{◌≡◌, ℕ, ◌%◌, ◌^◌, ◌<◌, inl, in
 use Rattle.std.specs.List.{AllByRecursion}
 use Rattle.std.proofs.lemmas.Bool.{cases_lt}
 use Rattle.std.proofs.lemmas.List.{get_or_past}
-use Rattle.rv_image.specs.Image.{Contents, loaded}
-use Rattle.rv_image.specs.MemoryMap.{SHADOW_START}
-use Rattle.rv_image.specs.declared.version.GraphVersion.{GraphVersion}
-use Rattle.rv_image.specs.declared.version.GraphVersion.TheVariants.{OneLabel, TwoLabels, CalleeSaves}
+use Rattle.cfi_meaning.proofs.Prelude.{Contents, loaded, SHADOW_START, GraphVersion, OneLabel, TwoLabels, CalleeSaves, After, count, in_leaf, ProgramAtMap, entered_in, gate, Source, ComesTo, SitesFit, IsAccepted, Choice, Matches, MatchesIsOwn, own_of, saved_at, saved_by, saved_now, shown_of, sites_at, sites_now, sites_of}
 use Rattle.rv_image.proofs.Profiles.{laid_out}
-use Rattle.rv_code.specs.State.{After}
-use Rattle.obj_program.specs.Program.{count}
-use Rattle.cfi_leads.specs.Leaves.{in_leaf}
-use Rattle.cfi_map.specs.GraphAtMap.{ProgramAtMap, entered_in, gate}
-use Rattle.cfi_map.specs.Source.{Source}
-use Rattle.cfi_runs.specs.MatchLaws.{ComesTo}
-use Rattle.cfi_runs.specs.OwnRuns.{SitesFit}
-use Rattle.cfi_writer.specs.Accepted.{IsAccepted}
-use Rattle.cfi_writer.specs.Units.{Choice}
 use Rattle.cfi_writer.proofs.Gates.{gates_counted}
 use Rattle.cfi_writer.proofs.Standing.{gate_lies}
-use Rattle.cfi_meaning.specs.Matches.{Matches, MatchesIsOwn, own_of, saved_at, saved_by, saved_now, shown_of, sites_at, sites_now, sites_of}
 use Rattle.cfi_meaning.proofs.KindFits.{Fits}
 
 module _ (layout : ProgramAtMap) (image : Contents) (st : Source) (after : After) where

@@ -1,33 +1,15 @@
 -- The unit of a place names no register that units keep for themselves, since its instruction does not.
 use Rattle.std.proofs.Common.{◌≡◌, ℕ, suc, ◌+◌, ◌<◌, ◌≤◌, ◌==◌, ◌||◌, true, false, Bool, inl, inr, Some, refl, sym, ap, subst, ◌∙◌, arith, Option, None, List}
 use Rattle.std.proofs.lemmas.Bool.{cases_Bool, eq-eqb, eqb-true, or_cases, or_left, or_right}
-use Rattle.rv_image.specs.declared.version.GraphVersion.{GraphVersion}
-use Rattle.rv_image.specs.declared.version.GraphVersion.TheVariants.{OneLabel, TwoLabels, CalleeSaves}
-use Rattle.rv_instr.specs.Operands.{names}
-use Rattle.rv_instr.specs.Reserved.{is_reserved}
-use Rattle.rv_instr.specs.declared.instr.Instr.{Instr}
+use Rattle.cfi_meaning.proofs.Prelude.{GraphVersion, OneLabel, TwoLabels, CalleeSaves, names, is_reserved, Instr, ItemKind, count, is_end, item_of, names_reserved, suits, in_leaf, aim_of, entered_in, words_at, base_of, is_store, site_label, whole_at, TargetWord, NamesNoReserved, jump_word, IsAccepted, Choice, Group, behind, call_unit, group_at, instr_of, is_later_at, lean_unit_of, low_at, member_at, member_for, unit_by, unit_here, unit_of, IsPlace}
 use Rattle.rv_instr.specs.declared.instr.Instr.TheVariants as I
-use Rattle.obj_input.specs.declared.item_kind.ItemKind.{ItemKind}
 use Rattle.obj_input.specs.declared.item_kind.ItemKind.TheVariants as is
-use Rattle.obj_program.specs.Program.{count, is_end, item_of}
-use Rattle.obj_program.specs.Suits.{names_reserved, suits}
 use Rattle.obj_program.proofs.Kept.{kept}
-use Rattle.cfi_leads.specs.Leaves.{in_leaf}
-use Rattle.cfi_map.specs.GraphAtMap.{aim_of, entered_in, words_at}
-use Rattle.cfi_map.specs.Groups.{base_of, is_store}
-use Rattle.cfi_map.specs.LabelOf.{site_label}
-use Rattle.cfi_map.specs.Placement.{whole_at}
 use Rattle.cfi_map.proofs.LaterRuns.{store_no_end}
-use Rattle.cfi_unit.specs.declared.target_word.TargetWord.{TargetWord}
 use Rattle.cfi_unit.specs.declared.unit.Unit.TheVariants as V
-use Rattle.cfi_runs.specs.Tame.{NamesNoReserved}
 use Rattle.cfi_runs.proofs.GroupMembers.{stores_free}
-use Rattle.cfi_rules.specs.Lines.{jump_word}
-use Rattle.cfi_writer.specs.Accepted.{IsAccepted}
-use Rattle.cfi_writer.specs.Units.{Choice, Group, behind, call_unit, group_at, instr_of, is_later_at, lean_unit_of, low_at, member_at, member_for, unit_by, unit_here, unit_of}
 use Rattle.cfi_writer.proofs.GroupUnit.{IsStore, inside, store_at}
 use Rattle.cfi_writer.proofs.Standing.{instr_is}
-use Rattle.cfi_meaning.specs.ImageOf.{IsPlace}
 
 -- a test of four, each of which fails
 none_of : (a b c d : Bool) → (a || b || c || d) ≡ false → (a ≡ false) × (b ≡ false) × (c ≡ false) × (d ≡ false)

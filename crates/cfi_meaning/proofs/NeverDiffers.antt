@@ -3,28 +3,10 @@
 use Rattle.std.proofs.Common.{◌≡◌, ℕ, zero, suc, ◌+◌, ◌-◌, ◌≤◌, ◌==◌, Bool, true, List, [], ◌∷◌, ◌++◌, length, map, Option, Some, None, append-nil, append_assoc, replicate, refl, sym, ap, subst, ◌∙◌, arith}
 use Rattle.std.proofs.lemmas.Bool.{le-ltb}
 use Rattle.rv_word.proofs.Booleans.{is_self}
-use Rattle.rv_image.specs.Image.{Contents}
-use Rattle.rv_image.specs.MemoryMap.{Profile}
+use Rattle.cfi_meaning.proofs.Prelude.{Contents, Profile, continue, ByteChange, next_or_stop, run_alone, After, start_hart, start_shared, Event, Turn, Ran, Exit, Break, ProgramAtMap, word, OPENING, undisturbed, whole_at, IsAccepted, Choice, most_steps, Compared, Difference, SourceRun, TraceItem, broke, called, compared_from, differs, exited, first_difference, has_ended, image_end, run_from, running, same_bytes, same_event, same_item, source_end, source_run, stopped, trace, verdict, EndsAs, KeepsMeaning, Source, source_start, SourceAfter, StepTurn, after_steps, breaks, exits, ran, source_step, untame}
 use Rattle.rv_image.proofs.Profiles.{laid_out}
-use Rattle.rv_code.specs.Continue.{continue}
-use Rattle.rv_code.specs.Run.{ByteChange, next_or_stop, run_alone}
-use Rattle.rv_code.specs.State.{After, start_hart, start_shared}
-use Rattle.rv_code.specs.declared.event.Event.{Event}
-use Rattle.rv_code.specs.declared.turn.Turn.{Turn}
-use Rattle.rv_code.specs.declared.turn.Turn.TheVariants.{Ran, Exit, Break}
 use Rattle.rv_code.proofs.Continued.{events_added, run_in_parts}
-use Rattle.cfi_map.specs.GraphAtMap.{ProgramAtMap, word}
-use Rattle.cfi_unit.specs.Prologue.{OPENING}
-use Rattle.cfi_runs.specs.WholeRun.{undisturbed}
-use Rattle.cfi_map.specs.Placement.{whole_at}
-use Rattle.cfi_writer.specs.Accepted.{IsAccepted}
-use Rattle.cfi_writer.specs.Units.{Choice}
-use Rattle.cfi_meaning.specs.Bounds.{most_steps}
-use Rattle.cfi_meaning.specs.Compared.{Compared, Difference, SourceRun, TraceItem, broke, called, compared_from, differs, exited, first_difference, has_ended, image_end, run_from, running, same_bytes, same_event, same_item, source_end, source_run, stopped, trace, verdict}
-use Rattle.cfi_meaning.specs.Meaning.{EndsAs, KeepsMeaning}
 use Rattle.cfi_meaning.specs.NeverDiffers as law
-use Rattle.cfi_map.specs.Source.{Source, source_start}
-use Rattle.cfi_map.specs.SourceStep.{SourceAfter, StepTurn, after_steps, breaks, exits, ran, source_step, untame}
 use Rattle.cfi_meaning.proofs.Kept.{meaning_kept}
 use Rattle.cfi_map.proofs.LaterRuns.{AtLeader, reached}
 use Rattle.cfi_meaning.proofs.PlacesKept.{steps_rise}

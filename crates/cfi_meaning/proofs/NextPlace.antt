@@ -6,20 +6,12 @@ use Rattle.std.proofs.lemmas.Bool.{and_left, cases_lt, eqb-true, false_from_ne_t
 use Rattle.std.proofs.lemmas.List.{get_or_past}
 use Rattle.std.proofs.lemmas.Option.{get_or_from_slice_get, slice_get_within}
 use Rattle.rv_image.proofs.Profiles.{laid_out}
-use Rattle.obj_program.specs.declared.item.Item.{Item}
-use Rattle.obj_program.specs.Program.{count, item_of, no_item}
-use Rattle.cfi_class.specs.Classes.{has}
-use Rattle.cfi_closed.specs.Closed.{is_target, is_target_of}
-use Rattle.cfi_leads.specs.Entries.{aims_at, call_target, is_call_target, is_called, is_entry}
+use Rattle.cfi_meaning.proofs.Prelude.{Item, count, item_of, no_item, has, is_target, is_target_of, aims_at, call_target, is_call_target, is_called, is_entry, entered_in, gate, word, IsAccepted, Choice, gate_of}
 use Rattle.cfi_leads.proofs.Called.{call_inside}
-use Rattle.cfi_map.specs.GraphAtMap.{entered_in, gate, word}
-use Rattle.cfi_writer.specs.Accepted.{IsAccepted}
-use Rattle.cfi_writer.specs.Units.{Choice}
 use Rattle.cfi_writer.proofs.Entering.{call_targets, no_lead}
 use Rattle.cfi_writer.proofs.Gates.{gates_counted}
 use Rattle.cfi_writer.proofs.SideLabels.{is_in}
 use Rattle.cfi_writer.proofs.Standing.{gate_lies, gates_rise}
-use Rattle.cfi_meaning.specs.Matches.{gate_of}
 
 -- where a test holds of some of a list, it does at an index
 some_index : {A : Type 0} (p : A → Bool) (xs : List A) → list_any p xs ≡ true → (i : ℕ) × (x : A) × (slice_get xs i ≡ Some x) × (p x ≡ true)

@@ -3,19 +3,8 @@ use Rattle.std.proofs.Common.{◌≡◌, ℕ, zero, suc, ◌+◌, ◌-◌, ◌�
 use Rattle.std.specs.List.{range_with_len}
 use Rattle.std.proofs.lemmas.Bool.{cases_eq, cases_lt}
 use Rattle.std.proofs.lemmas.Option.{same_Some}
-use Rattle.rv_image.specs.Image.{Contents}
-use Rattle.rv_code.specs.State.{last_exit}
-use Rattle.rv_code.specs.declared.turn.Turn.TheVariants.{Ran}
-use Rattle.cfi_map.specs.Source.{Source}
-use Rattle.cfi_map.specs.SourceStep.{StepTurn, ran, source_step, untame}
-use Rattle.cfi_runs.specs.Own.{Own, OwnAfter}
-use Rattle.cfi_writer.specs.Units.{Choice, behind, is_later_at}
+use Rattle.cfi_meaning.proofs.Prelude.{Contents, last_exit, Ran, Source, StepTurn, ran, source_step, untame, Own, OwnAfter, Choice, behind, is_later_at, IsImageOf, is_at_later, own_of, PlacesRun, TamePlace, holds_store, place_step, LeadsOver}
 use Rattle.cfi_writer.proofs.Grouping.{first_behind, later_behind, later_store}
-use Rattle.cfi_meaning.specs.ImageOf.{IsImageOf}
-use Rattle.cfi_meaning.specs.LaterStores.{is_at_later}
-use Rattle.cfi_meaning.specs.Matches.{own_of}
-use Rattle.cfi_meaning.specs.PlaceSteps.{PlacesRun, TamePlace, holds_store, place_step}
-use Rattle.cfi_meaning.specs.StepLaws.{LeadsOver}
 use Rattle.cfi_meaning.proofs.AtLater.{at_later_is}
 use Rattle.cfi_meaning.proofs.KindActs.{IsOwn}
 use Rattle.cfi_meaning.proofs.KindFits.{Fits}

@@ -3,23 +3,10 @@ use Rattle.std.proofs.Common.{◌≡◌, ℕ, ◌+◌, ◌≤◌, true, false, i
 use Rattle.std.specs.List.{range_with_len}
 use Rattle.std.proofs.lemmas.Bool.{cases_Bool, cases_eq, cases_lt}
 use Rattle.std.proofs.lemmas.Option.{same_Some}
-use Rattle.rv_image.specs.Image.{Contents, loaded}
-use Rattle.rv_image.specs.MemoryMap.{Profile}
-use Rattle.rv_code.specs.declared.turn.Turn.TheVariants.{Ran}
+use Rattle.cfi_meaning.proofs.Prelude.{Contents, loaded, Profile, Ran, item_of, IsWhole, Walked, Own, OwnAfter, OwnRuns, Choice, behind, is_later_at, unit_here, most_words, IsImageOf, gate_of, is_outside, shown_of, ComesThrough, at_unit, shown, Chained, Linked, PlacesRun, TamePlace, holds_store, place_step, ComesBackOutside, Follows}
 use Rattle.obj_input.specs.declared.item_kind.ItemKind.TheVariants as is
-use Rattle.obj_program.specs.Program.{item_of}
-use Rattle.cfi_runs.specs.GroupRuns.{IsWhole, Walked}
-use Rattle.cfi_runs.specs.Own.{Own, OwnAfter}
-use Rattle.cfi_runs.specs.OwnRuns.{OwnRuns}
 use Rattle.cfi_runs.proofs.GroupRuns.{paths_join, stays, walks_join, words_join}
-use Rattle.cfi_writer.specs.Units.{Choice, behind, is_later_at, unit_here}
 use Rattle.cfi_writer.proofs.Grouping.{first_behind, later_behind, later_store}
-use Rattle.cfi_meaning.specs.Bounds.{most_words}
-use Rattle.cfi_meaning.specs.ImageOf.{IsImageOf}
-use Rattle.cfi_meaning.specs.Matches.{gate_of, is_outside, shown_of}
-use Rattle.cfi_meaning.specs.PlaceLaws.{ComesThrough, at_unit, shown}
-use Rattle.cfi_meaning.specs.PlaceSteps.{Chained, Linked, PlacesRun, TamePlace, holds_store, place_step}
-use Rattle.cfi_meaning.specs.PlacesKept.{ComesBackOutside, Follows}
 use Rattle.cfi_meaning.proofs.GoesOn.{step_goes_on}
 use Rattle.cfi_meaning.proofs.GroupSteps.{group_runs}
 use Rattle.cfi_meaning.proofs.OverStores.{run_more}

@@ -2,48 +2,19 @@
 use Rattle.std.proofs.Common.{◌≡◌, ℕ, suc, ◌+◌, ◌-◌, ◌*◌, ◌^◌, ◌<◌, ◌==◌, inl, inr, ◌≤◌, Bool, true, false, List, [], ◌∷◌, length, Option, Some, None, lit≤, refl, sym, ap, subst, ◌∙◌, arith}
 use Rattle.std.specs.Prelude.{slice_get}
 use Rattle.std.proofs.lemmas.Bool.{cases_Bool, cases_lt, eqb-true, or_cases, true≢false}
-use Rattle.rv_image.specs.declared.version.GraphVersion.{GraphVersion}
-use Rattle.rv_image.specs.declared.version.GraphVersion.TheVariants.{OneLabel, TwoLabels, CalleeSaves}
-use Rattle.rv_image.specs.Image.{Contents, loaded}
-use Rattle.rv_word.specs.Memory.{Memory}
-use Rattle.rv_image.specs.MemoryMap.{Profile}
+use Rattle.cfi_meaning.proofs.Prelude.{GraphVersion, OneLabel, TwoLabels, CalleeSaves, Contents, loaded, Memory, Profile, is_reserved, Registers, Ran, count, is_end, item_of, has_leaves, enters, in_leaf, arrival, entered_in, gate, word, Shifts, Short, Long, AsksSite, SameRegisters, Stand, Asks, is_lean, Fits, instrs_of, word_count, stands_in, HoldsMask, Own, OwnAfter, own_step, OwnRuns, words_along, IsTame, NamesNoReserved, TameStep, code_words, unit_at, IsAccepted, Choice, behind, is_later_at, lead, lead_unit, unit_here, IsImageOf, IsPlace, home_by, saved_by, ComesToPlace, at_unit, shown}
 use Rattle.rv_image.proofs.Profiles.{laid_out}
-use Rattle.rv_instr.specs.Reserved.{is_reserved}
-use Rattle.rv_instr.specs.Registers.{Registers}
-use Rattle.rv_code.specs.declared.turn.Turn.TheVariants.{Ran}
-use Rattle.obj_program.specs.Program.{count, is_end, item_of}
-use Rattle.cfi_graph.specs.Graph.{has_leaves}
-use Rattle.cfi_leads.specs.Leads.{enters}
-use Rattle.cfi_leads.specs.Leaves.{in_leaf}
-use Rattle.cfi_map.specs.GraphAtMap.{arrival, entered_in, gate, word}
-use Rattle.cfi_unit.specs.declared.mask.Mask.TheVariants.{Shifts, Short, Long}
 use Rattle.cfi_unit.specs.declared.unit.Unit as U
 use Rattle.cfi_unit.specs.declared.unit.Unit.TheVariants as V
-use Rattle.cfi_unit.specs.EffectLaw.{AsksSite}
-use Rattle.cfi_unit.specs.Leaving.{SameRegisters}
-use Rattle.cfi_unit.specs.Stand.{Stand}
-use Rattle.cfi_unit.specs.Templates.{Asks, is_lean}
-use Rattle.cfi_unit.specs.UnitWords.{Fits, instrs_of, word_count}
 use Rattle.cfi_unit.proofs.EffectRows.{full_asked}
-use Rattle.cfi_pending.specs.StartLaw.{stands_in}
-use Rattle.cfi_runs.specs.Mask.{HoldsMask}
-use Rattle.cfi_runs.specs.Own.{Own, OwnAfter, own_step}
-use Rattle.cfi_runs.specs.OwnRuns.{OwnRuns, words_along}
-use Rattle.cfi_runs.specs.Tame.{IsTame, NamesNoReserved, TameStep}
-use Rattle.cfi_rules.specs.Split.{code_words, unit_at}
 use Rattle.cfi_rules.proofs.Places.{unit_facts}
 use Rattle.cfi_rules.proofs.RuleFacts.{unit_stands_in}
 use Rattle.cfi_rules.proofs.Standing.{unit_stands}
-use Rattle.cfi_writer.specs.Accepted.{IsAccepted}
-use Rattle.cfi_writer.specs.Units.{Choice, behind, is_later_at, lead, lead_unit, unit_here}
 use Rattle.cfi_writer.proofs.Grouping.{later_behind, later_below, later_store, other_first}
 use Rattle.cfi_writer.proofs.LeadWords.{IsLeadWord, from_lead, labels_there, lead_few, over, saver, saver_last, side_word, words_in, lead_word_count}
 use Rattle.cfi_writer.proofs.Standing.{gate_after, word_is, arrival_saves}
 use Rattle.cfi_writer.proofs.WholeCode.{written_units}
 use Rattle.cfi_meaning.specs.PlaceLaws as law
-use Rattle.cfi_meaning.specs.ImageOf.{IsImageOf, IsPlace}
-use Rattle.cfi_meaning.specs.Matches.{home_by, saved_by}
-use Rattle.cfi_meaning.specs.PlaceLaws.{ComesToPlace, at_unit, shown}
 use Rattle.cfi_meaning.proofs.Names.{place_free, store_is_place}
 use Rattle.cfi_meaning.proofs.Prologue.{formed, written_graph}
 

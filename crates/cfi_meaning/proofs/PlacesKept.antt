@@ -4,38 +4,15 @@ use Rattle.std.proofs.Math.Nat.{mul-suc}
 use Rattle.std.proofs.lemmas.Bool.{cases_lt}
 use Rattle.std.proofs.lemmas.List.{get_or_past}
 use Rattle.std.proofs.lemmas.Nat.{mul-le}
-use Rattle.rv_image.specs.Image.{Contents, loaded}
-use Rattle.rv_image.specs.MemoryMap.{Profile, SHADOW_START, lean_version_1, lean_version_2, version_1, version_2}
-use Rattle.rv_word.specs.Memory.{Memory}
-use Rattle.rv_image.specs.declared.version.GraphVersion.{GraphVersion}
-use Rattle.rv_image.specs.declared.version.GraphVersion.TheVariants.{OneLabel, TwoLabels, CalleeSaves}
+use Rattle.cfi_meaning.proofs.Prelude.{Contents, loaded, Profile, SHADOW_START, lean_version_1, lean_version_2, version_1, version_2, Memory, GraphVersion, OneLabel, TwoLabels, CalleeSaves, cleared, After, Shared, count, has_leaves, ProgramAtMap, gate, word, word_count, ComesTo, MatchesAfter, SameData, Own, own_closing, own_start, own_step, OwnRuns, words_along, Ends, RunsTo, own_shared, IsAccepted, Choice, entry_arrival, unit_here, entry_words_by, last_words, most_steps, most_words, most_words_by, IsImageOf, gate_of, shown_of, ComesToPlace, at_unit, shown, Chained, Linked, PlacesRun, TamePlace, holds_store, place_step, places_start, ComesBackOutside, EndsLike}
 use Rattle.rv_image.proofs.Profiles.{laid_out}
-use Rattle.rv_instr.specs.Registers.{cleared}
-use Rattle.rv_code.specs.State.{After, Shared}
-use Rattle.obj_program.specs.Program.{count}
-use Rattle.cfi_graph.specs.Graph.{has_leaves}
-use Rattle.cfi_map.specs.GraphAtMap.{ProgramAtMap, gate, word}
 use Rattle.cfi_unit.specs.declared.unit.Unit as U
-use Rattle.cfi_unit.specs.UnitWords.{word_count}
 use Rattle.cfi_unit.proofs.Counts.{most_words as unit_words}
-use Rattle.cfi_runs.specs.MatchLaws.{ComesTo}
-use Rattle.cfi_runs.specs.Matching.{MatchesAfter, SameData}
-use Rattle.cfi_runs.specs.Own.{Own, own_closing, own_start, own_step}
-use Rattle.cfi_runs.specs.OwnRuns.{OwnRuns, words_along}
-use Rattle.cfi_runs.specs.WholeRun.{Ends, RunsTo, own_shared}
 use Rattle.cfi_runs.proofs.GroupRuns.{paths_join, words_join}
 use Rattle.cfi_runs.proofs.WholeRun.{run_keeps_match}
-use Rattle.cfi_writer.specs.Accepted.{IsAccepted}
-use Rattle.cfi_writer.specs.Units.{Choice, entry_arrival, unit_here}
 use Rattle.cfi_writer.proofs.Gates.{gates_counted}
 use Rattle.cfi_writer.proofs.Standing.{gate_lies, gates_rise}
-use Rattle.cfi_meaning.specs.Bounds.{entry_words_by, last_words, most_steps, most_words, most_words_by}
-use Rattle.cfi_meaning.specs.ImageOf.{IsImageOf}
-use Rattle.cfi_meaning.specs.Matches.{gate_of, shown_of}
-use Rattle.cfi_meaning.specs.PlaceLaws.{ComesToPlace, at_unit, shown}
-use Rattle.cfi_meaning.specs.PlaceSteps.{Chained, Linked, PlacesRun, TamePlace, holds_store, place_step, places_start}
 use Rattle.cfi_meaning.specs.PlacesKept as law
-use Rattle.cfi_meaning.specs.PlacesKept.{ComesBackOutside, EndsLike}
 use Rattle.cfi_meaning.proofs.EntryRuns.{entry_runs}
 use Rattle.cfi_meaning.proofs.KindStep.{step_of_kind}
 use Rattle.cfi_meaning.proofs.Places.{place_runs}

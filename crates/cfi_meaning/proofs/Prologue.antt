@@ -1,24 +1,14 @@
 -- What is written meets the rules, so its prologue stands.
 use Rattle.std.proofs.Common.{◌≡◌, ℕ, Bool, inl, inr, length, refl, sym, ap, subst, ◌∙◌}
 use Rattle.std.proofs.lemmas.Option.{same_Some}
-use Rattle.rv_image.specs.Image.{Contents, loaded}
-use Rattle.rv_image.specs.MemoryMap.{IsProfile, Profile}
+use Rattle.cfi_meaning.proofs.Prelude.{Contents, loaded, IsProfile, Profile, GraphParts, graph_lines, Reaches, EntryFits, HasPrologue, IsWellFormed, entry_of, Choice, entry_arrival, IsImageOf}
 use Rattle.rv_image.proofs.Profiles.{full_saves, lean_saves}
-use Rattle.cfi_graph.specs.Graph.{GraphParts}
-use Rattle.cfi_map.specs.GraphAtMap.{graph_lines}
-use Rattle.cfi_unit.specs.UnitWords.{Reaches}
 use Rattle.cfi_unit.proofs.PrologueUnits.{PrologueStands, prologue_stands}
-use Rattle.cfi_runs.specs.Openings.{EntryFits}
-use Rattle.cfi_runs.specs.WholeRun.{HasPrologue}
-use Rattle.cfi_rules.specs.Rules.{IsWellFormed}
-use Rattle.cfi_rules.specs.Split.{entry_of}
 use Rattle.cfi_rules.proofs.Bytes.{loaded_small}
 use Rattle.cfi_rules.proofs.Labels.{call_fits}
 use Rattle.cfi_rules.proofs.Places.{prologue}
-use Rattle.cfi_writer.specs.Units.{Choice, entry_arrival}
 use Rattle.cfi_writer.proofs.WholeCode.{written_entry, written_well_formed}
 use Rattle.cfi_meaning.specs.PlaceLaws as law
-use Rattle.cfi_meaning.specs.ImageOf.{IsImageOf}
 
 module _ (m : Choice) (image : Contents) (of : IsImageOf m image) where
   -- the graph that is written

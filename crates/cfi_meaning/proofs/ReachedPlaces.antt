@@ -4,27 +4,12 @@ use Rattle.std.specs.Prelude.{map, slice_get, slice_index, slice_index_or}
 use Rattle.std.proofs.lemmas.Bool.{and_from, cases_lt}
 use Rattle.std.proofs.lemmas.List.{get_or_past}
 use Rattle.std.proofs.lemmas.Option.{slice_get-get_or}
-use Rattle.rv_image.specs.Image.{Contents, loaded}
-use Rattle.obj_program.specs.Program.{count, item_of}
-use Rattle.cfi_class.specs.Classes.{has}
-use Rattle.cfi_graph.specs.declared.line.SiteKind.{SiteKind}
+use Rattle.cfi_meaning.proofs.Prelude.{Contents, loaded, count, item_of, has, SiteKind, is_of, is_target, is_target_of, site_kind, is_call_target, serves_calls, gate, all_classes, site_label, site_number, TargetWord, HasLabel, holds_of, is_among, IsSiteOf, word_asked, Choice, IsImageOf}
 use Rattle.cfi_graph.specs.declared.line.SiteKind.TheVariants as K
-use Rattle.cfi_closed.specs.Closed.{is_of, is_target, is_target_of}
-use Rattle.cfi_flow.specs.Sites.{site_kind}
-use Rattle.cfi_leads.specs.Entries.{is_call_target, serves_calls}
-use Rattle.cfi_map.specs.GraphAtMap.{gate}
-use Rattle.cfi_map.specs.LabelOf.{all_classes, site_label, site_number}
-use Rattle.cfi_unit.specs.declared.target_word.TargetWord.{TargetWord}
-use Rattle.cfi_unit.specs.Leads.{HasLabel}
-use Rattle.cfi_rules.specs.Lines.{holds_of, is_among}
 use Rattle.cfi_rules.proofs.Labels.{label_in_class}
-use Rattle.cfi_writer.specs.Accepted.{IsSiteOf}
-use Rattle.cfi_writer.specs.SideLaws.{word_asked}
-use Rattle.cfi_writer.specs.Units.{Choice}
 use Rattle.cfi_writer.proofs.ClassLines.{among_from}
 use Rattle.cfi_writer.proofs.Leading.{asked_small}
 use Rattle.cfi_writer.proofs.SideLabels.{any_get, in_classes, is_in}
-use Rattle.cfi_meaning.specs.ImageOf.{IsImageOf}
 use Rattle.cfi_meaning.proofs.Prologue.{formed, written_graph}
 use Rattle.cfi_meaning.proofs.Targets.{reads_it, served}
 

@@ -2,51 +2,19 @@
 use Rattle.std.proofs.Common.{◌≡◌, ℕ, zero, suc, ◌+◌, ◌-◌, ◌≤◌, true, false, inl, inr, List, [], ◌∷◌, ◌++◌, length, Option, Some, None, refl, sym, ap, subst, ◌∙◌, arith}
 use Rattle.std.proofs.lemmas.Bool.{cases_Bool}
 use Rattle.std.proofs.lemmas.Option.{same_Some}
-use Rattle.rv_image.specs.Image.{Contents, loaded}
-use Rattle.rv_image.specs.MemoryMap.{Profile, SHADOW_START}
-use Rattle.rv_word.specs.Memory.{Memory}
-use Rattle.rv_image.specs.declared.version.GraphVersion.{GraphVersion}
-use Rattle.rv_image.specs.declared.version.GraphVersion.TheVariants.{OneLabel, TwoLabels, CalleeSaves}
+use Rattle.cfi_meaning.proofs.Prelude.{Contents, loaded, Profile, SHADOW_START, Memory, GraphVersion, OneLabel, TwoLabels, CalleeSaves, After, Hart, Shared, last_exit, step, item_of, ProgramAtMap, Source, SourceAfter, StepTurn, breaks, exits, ran, source_step, untame, Reason, closing_instrs, IsPart, Stand, word_count, ComesTo, MatchesAfter, SameData, Own, OwnAfter, own_closing, own_step, OwnRuns, SitesFit, words_along, TameStep, HasPrologue, Within, Choice, behind, entry_arrival, is_later_at, unit_here, most_words, most_words_by, IsImageOf, is_at_later, Matches, address_of, own_of, shown_of, EndsAs, ComesThrough, at_unit, shown, TamePlace, holds_store, place_step, EndsLike, Answers, LeadsOver, is_at_store}
 use Rattle.rv_image.proofs.Profiles.{laid_out}
-use Rattle.rv_code.specs.State.{After, Hart, Shared, last_exit}
-use Rattle.rv_code.specs.Step.{step}
-use Rattle.obj_program.specs.Program.{item_of}
-use Rattle.cfi_map.specs.GraphAtMap.{ProgramAtMap}
-use Rattle.cfi_map.specs.Source.{Source}
-use Rattle.cfi_map.specs.SourceStep.{SourceAfter, StepTurn, breaks, exits, ran, source_step, untame}
-use Rattle.cfi_map.specs.declared.reason.Reason.{Reason}
 use Rattle.cfi_unit.specs.declared.unit.Unit as U
-use Rattle.cfi_unit.specs.Prologue.{closing_instrs}
-use Rattle.cfi_unit.specs.Shadow.{IsPart}
-use Rattle.cfi_unit.specs.Stand.{Stand}
-use Rattle.cfi_unit.specs.UnitWords.{word_count}
 use Rattle.cfi_unit.proofs.Counts.{some_word}
 use Rattle.cfi_unit.proofs.Parts.{own_is_part}
-use Rattle.cfi_runs.specs.MatchLaws.{ComesTo}
-use Rattle.cfi_runs.specs.Matching.{MatchesAfter, SameData}
 use Rattle.cfi_runs.specs.Matching as own
-use Rattle.cfi_runs.specs.Own.{Own, OwnAfter, own_closing, own_step}
-use Rattle.cfi_runs.specs.OwnRuns.{OwnRuns, SitesFit, words_along}
-use Rattle.cfi_runs.specs.Tame.{TameStep}
-use Rattle.cfi_runs.specs.WholeRun.{HasPrologue}
-use Rattle.cfi_runs.specs.Within.{Within}
 use Rattle.cfi_runs.proofs.Calmly.{within_going, within_more, within_then, within_weaker}
 use Rattle.cfi_runs.proofs.Ends.{closing_keeps_match}
 use Rattle.cfi_runs.proofs.GroupRuns.{paths_join, words_join}
 use Rattle.cfi_runs.proofs.Matched.{unit_keeps_match}
 use Rattle.cfi_runs.proofs.Paths.{path_keeps_match, sites_fit, unit_within}
 use Rattle.cfi_runs.proofs.WholeRun.{path_fit}
-use Rattle.cfi_writer.specs.Units.{Choice, behind, entry_arrival, is_later_at, unit_here}
-use Rattle.cfi_meaning.specs.Bounds.{most_words, most_words_by}
-use Rattle.cfi_meaning.specs.ImageOf.{IsImageOf}
-use Rattle.cfi_meaning.specs.LaterStores.{is_at_later}
-use Rattle.cfi_meaning.specs.Matches.{Matches, address_of, own_of, shown_of}
-use Rattle.cfi_meaning.specs.Meaning.{EndsAs}
-use Rattle.cfi_meaning.specs.PlaceLaws.{ComesThrough, at_unit, shown}
-use Rattle.cfi_meaning.specs.PlaceSteps.{TamePlace, holds_store, place_step}
-use Rattle.cfi_meaning.specs.PlacesKept.{EndsLike}
 use Rattle.cfi_meaning.specs.StepLaws as law
-use Rattle.cfi_meaning.specs.StepLaws.{Answers, LeadsOver, is_at_store}
 use Rattle.cfi_meaning.proofs.AtLater.{at_later_is}
 use Rattle.cfi_meaning.proofs.GoesOn.{step_goes_on}
 use Rattle.cfi_meaning.proofs.GroupSteps.{group_runs}

@@ -3,30 +3,12 @@
 use Rattle.std.proofs.Common.{◌≡◌, ℕ, ◌≤◌, inl, inr, true, List, Option, Some, None, refl, sym, ap, subst, ◌∙◌, arith, unwrap_or}
 use Rattle.std.proofs.lemmas.Bool.{cases_lt}
 use Rattle.std.proofs.lemmas.List.{get_or_past}
-use Rattle.rv_image.specs.Image.{Contents}
+use Rattle.cfi_meaning.proofs.Prelude.{Contents, Registers, Shared, last_exit, Item, count, is_end, item_of, no_item, is_direct, suits, in_leaf, ProgramAtMap, aim_of, entered_in, gate, gate_to, word, words_at, site_label, whole_at, Choice, group_at, instr_of, IsImageOf, IsPlace, TamePlace, place_step, own_of, Reason, Source, instr_here, SourceAfter, acts, closes, exits, source_step, step_at, unless, unless_ended, untame, is_off_graph, is_off_window, is_too_deep, is_unlisted, is_wrong_return, reason}
 use Rattle.rv_word.proofs.Cases.{cases_Option}
-use Rattle.rv_instr.specs.Registers.{Registers}
-use Rattle.rv_code.specs.State.{Shared, last_exit}
-use Rattle.obj_program.specs.declared.item.Item.{Item}
-use Rattle.obj_program.specs.Program.{count, is_end, item_of, no_item}
-use Rattle.obj_program.specs.Sound.{is_direct}
-use Rattle.obj_program.specs.Suits.{suits}
 use Rattle.obj_program.proofs.Kept.{kept}
-use Rattle.cfi_leads.specs.Leaves.{in_leaf}
-use Rattle.cfi_map.specs.GraphAtMap.{ProgramAtMap, aim_of, entered_in, gate, gate_to, word, words_at}
-use Rattle.cfi_map.specs.LabelOf.{site_label}
-use Rattle.cfi_map.specs.Placement.{whole_at}
-use Rattle.cfi_writer.specs.Units.{Choice, group_at, instr_of}
 use Rattle.cfi_writer.proofs.Leading.{direct}
 use Rattle.cfi_writer.proofs.Standing.{gate_lies, instr_is, word_is}
-use Rattle.cfi_meaning.specs.ImageOf.{IsImageOf, IsPlace}
-use Rattle.cfi_meaning.specs.PlaceSteps.{TamePlace, place_step}
 use Rattle.cfi_meaning.proofs.Targets.{target_bears}
-use Rattle.cfi_meaning.specs.Matches.{own_of}
-use Rattle.cfi_map.specs.declared.reason.Reason.{Reason}
-use Rattle.cfi_map.specs.Source.{Source, instr_here}
-use Rattle.cfi_map.specs.SourceStep.{SourceAfter, acts, closes, exits, source_step, step_at, unless, unless_ended, untame}
-use Rattle.cfi_map.specs.Untame.{is_off_graph, is_off_window, is_too_deep, is_unlisted, is_wrong_return, reason}
 use Rattle.cfi_meaning.proofs.KindActs.{IsOwn, own_acts}
 use Rattle.cfi_meaning.proofs.KindFits.{Fits, GoesFit, acts_fit, call_outside}
 use Rattle.cfi_meaning.proofs.KindTame.{NoReason, all_false, back_of_kind, base_of_kind, inside_of_kind, room_of_kind, sites_counted, tame_of_kind}

@@ -1,23 +1,8 @@
 -- Steps from stores: each goes on to the next place and tells nothing to the world.
 use Rattle.std.proofs.Common.{◌≡◌, ℕ, ◌+◌, ◌⊎◌, inl, inr, true, Option, Some, None, refl, sym, ap, subst, ◌∙◌}
-use Rattle.rv_image.specs.Image.{Contents}
-use Rattle.rv_instr.specs.declared.instr.Instr.{Instr}
-use Rattle.rv_code.specs.State.{last_exit}
-use Rattle.rv_code.specs.declared.turn.Turn.{Turn}
-use Rattle.rv_code.specs.declared.turn.Turn.TheVariants.{Ran, Exit, Break}
-use Rattle.obj_input.specs.declared.item_kind.ItemKind.{ItemKind}
+use Rattle.cfi_meaning.proofs.Prelude.{Contents, Instr, last_exit, Turn, Ran, Exit, Break, ItemKind, item_of, ProgramAtMap, gate, gate_to, word, is_store, Source, SourceAfter, StepTurn, acts, breaks, exits, place_after, ran, source_step, step_at, turn_at, unless, unless_ended, untame, Reason, Own, OwnAfter, IsAccepted, Choice, instr_of, TamePlace, at_word, holds_store, place_step}
 use Rattle.obj_input.specs.declared.item_kind.ItemKind.TheVariants as is
-use Rattle.obj_program.specs.Program.{item_of}
-use Rattle.cfi_map.specs.GraphAtMap.{ProgramAtMap, gate, gate_to, word}
-use Rattle.cfi_map.specs.Groups.{is_store}
-use Rattle.cfi_map.specs.Source.{Source}
-use Rattle.cfi_map.specs.SourceStep.{SourceAfter, StepTurn, acts, breaks, exits, place_after, ran, source_step, step_at, turn_at, unless, unless_ended, untame}
-use Rattle.cfi_map.specs.declared.reason.Reason.{Reason}
-use Rattle.cfi_runs.specs.Own.{Own, OwnAfter}
-use Rattle.cfi_writer.specs.Accepted.{IsAccepted}
-use Rattle.cfi_writer.specs.Units.{Choice, instr_of}
 use Rattle.cfi_writer.proofs.GroupUnit.{store_at}
-use Rattle.cfi_meaning.specs.PlaceSteps.{TamePlace, at_word, holds_store, place_step}
 use Rattle.cfi_meaning.proofs.KindActs.{IsOwn}
 use Rattle.cfi_meaning.proofs.KindStep.{store_step, stores_on}
 

@@ -7,33 +7,16 @@ use Rattle.std.proofs.lemmas.Bool.{cases_Bool, eqb-true, or_cases, or_left, or_r
 use Rattle.std.proofs.lemmas.List.{get_or_append_left}
 use Rattle.std.proofs.lemmas.List.Quantifiers.{position-Some}
 use Rattle.std.proofs.lemmas.Option.{same_Some}
-use Rattle.rv_image.specs.declared.version.GraphVersion.{GraphVersion}
-use Rattle.rv_image.specs.Image.{Contents, loaded}
-use Rattle.cfi_class.specs.Classes.{has}
-use Rattle.cfi_graph.specs.declared.line.GraphLine.{GraphLine}
-use Rattle.cfi_graph.specs.declared.line.SiteKind.{SiteKind}
+use Rattle.cfi_meaning.proofs.Prelude.{GraphVersion, Contents, loaded, has, GraphLine, SiteKind, Site, Side, class_at, class_if, class_of, has_site, is_same, side_reaches, gate, graph_lines, all_classes, empty_classes, next_after, site_label, site_number, TargetWord, HasLabel, class_with, holds_of, if_serves, is_among, targets_for, InClass, IsAccepted, IsSiteOf, written_classes, written_heads, AreLabelled, word_asked, Choice, units, IsImageOf}
 use Rattle.cfi_graph.specs.declared.line.SiteKind.TheVariants as K
-use Rattle.cfi_closed.specs.declared.side.Site.{Site}
-use Rattle.cfi_closed.specs.Closed.{Side, class_at, class_if, class_of, has_site, is_same, side_reaches}
-use Rattle.cfi_map.specs.GraphAtMap.{gate, graph_lines}
-use Rattle.cfi_map.specs.LabelOf.{all_classes, empty_classes, next_after, site_label, site_number}
-use Rattle.cfi_unit.specs.declared.target_word.TargetWord.{TargetWord}
-use Rattle.cfi_unit.specs.Leads.{HasLabel}
-use Rattle.cfi_rules.specs.Lines.{class_with, holds_of, if_serves, is_among, targets_for}
-use Rattle.cfi_rules.specs.Walk.{InClass}
 use Rattle.cfi_rules.proofs.Moves.{in_class_label}
 use Rattle.cfi_rules.proofs.PlacedLines.{class_before, no_class}
 use Rattle.cfi_rules.proofs.Served.{read_by}
-use Rattle.cfi_writer.specs.Accepted.{IsAccepted, IsSiteOf}
-use Rattle.cfi_writer.specs.Laws.{written_classes, written_heads}
-use Rattle.cfi_writer.specs.SideLaws.{AreLabelled, word_asked}
-use Rattle.cfi_writer.specs.Units.{Choice, units}
 use Rattle.cfi_writer.proofs.ClassLines.{among_to}
 use Rattle.cfi_writer.proofs.HeadLines.{heads_serve}
 use Rattle.cfi_writer.proofs.SideLabels.{sites_served}
 use Rattle.cfi_writer.proofs.WholeLines.{lines_are}
 use Rattle.cfi_meaning.specs.PlaceLaws as law
-use Rattle.cfi_meaning.specs.ImageOf.{IsImageOf}
 use Rattle.cfi_meaning.proofs.Prologue.{formed, written_graph}
 
 -- the number of a site's class

@@ -1,24 +1,8 @@
 -- An instruction that is executed on states that are the same to the program leaves such states.
 use Rattle.std.proofs.Common.{◌≡◌, ℕ, ◌+◌, ◌^◌, ◌==◌, ◌||◌, ◌≤◌, true, false, Bool, refl, sym, ap, subst, ◌∙◌, arith}
 use Rattle.std.proofs.lemmas.Bool.Decides.{nat_tests}
-use Rattle.rv_word.specs.Bits.{wrap}
+use Rattle.cfi_runs.proofs.Prelude.{wrap, Profile, can_load, names, Registers, get_reg, is_reserved, Instr, Upper, Load, Immediate, Shift, ShiftWord, Register, Fence, Ebreak, Lui, Auipc, LoadOp, immediate_result, shift_result, shift_word_result, register_result, load_size, load_result, Hart, Shared, After, exec, load_at, offset, puts, is_plain, sum_of, SameRegisters, SameData, touched}
 use Rattle.rv_word.proofs.Booleans.{is_self}
-use Rattle.rv_image.specs.MemoryMap.{Profile, can_load}
-use Rattle.rv_instr.specs.Operands.{names}
-use Rattle.rv_instr.specs.Registers.{Registers, get_reg}
-use Rattle.rv_instr.specs.Reserved.{is_reserved}
-use Rattle.rv_instr.specs.declared.instr.Instr.{Instr}
-use Rattle.rv_instr.specs.declared.instr.Instr.TheVariants.{Upper, Load, Immediate, Shift, ShiftWord, Register, Fence, Ebreak}
-use Rattle.rv_instr.specs.declared.instr.UpperOp.TheVariants.{Lui, Auipc}
-use Rattle.rv_instr.specs.declared.instr.LoadOp.{LoadOp}
-use Rattle.rv_code.specs.Arithmetic.{immediate_result, shift_result, shift_word_result, register_result, load_size, load_result}
-use Rattle.rv_code.specs.State.{Hart, Shared, After}
-use Rattle.rv_code.specs.Step.{exec, load_at, offset, puts}
-use Rattle.cfi_unit.specs.UnitWords.{is_plain}
-use Rattle.cfi_unit.specs.Leads.{sum_of}
-use Rattle.cfi_unit.specs.Leaving.{SameRegisters}
-use Rattle.cfi_runs.specs.Matching.{SameData}
-use Rattle.cfi_runs.specs.Tame.{touched}
 use Rattle.cfi_runs.proofs.Same.{get_same, same_put, read_alike}
 
 -- `o` is what the program's own step leaves

@@ -3,14 +3,7 @@
 use Rattle.std.proofs.Common.{◌≡◌, ℕ, ◌+◌, ◌%◌, ◌^◌, ◌==◌, ◌||◌, true, false, Bool, List, [], ◌∷◌, ◌++◌, length, take, drop, min, if◌then◌else◌, refl, ap, ◌∙◌, arith}
 use Rattle.std.specs.Prelude.{nat_le}
 use Rattle.std.proofs.lemmas.Bool.{leb-true}
-use Rattle.rv_word.specs.Memory.{placed}
-use Rattle.rv_instr.specs.Registers.{Registers}
-use Rattle.rv_code.specs.State.{Hart, Shared, After}
-use Rattle.rv_code.specs.SystemCall.{bytes_of, event_of, answers, ends, system_call, write_call, read_call, reads_input, writes_output, bad_address, bad_descriptor, no_such_call}
-use Rattle.rv_code.specs.declared.event.Event.{Event}
-use Rattle.rv_code.specs.declared.turn.Turn.TheVariants.{Exit}
-use Rattle.cfi_unit.specs.Leaving.{SameRegisters}
-use Rattle.cfi_runs.specs.Matching.{SameData}
+use Rattle.cfi_runs.proofs.Prelude.{placed, Registers, Hart, Shared, After, bytes_of, event_of, answers, ends, system_call, write_call, read_call, reads_input, writes_output, bad_address, bad_descriptor, no_such_call, Event, Exit, SameRegisters, SameData}
 use Rattle.cfi_runs.proofs.Same.{same_put, bytes_alike, placed_alike}
 use Rattle.cfi_runs.proofs.Alike.{AlikeAfter}
 

@@ -1,18 +1,9 @@
 -- Nothing happens from outside: the count of steps with that written out, and without.
 use Rattle.std.proofs.Common.{◌≡◌, ℕ, zero, suc, ◌+◌, ◌≤◌, inl, inr, List, [], replicate, refl, sym, subst, arith}
 use Rattle.std.proofs.lemmas.List.{take-replicate}
-use Rattle.rv_image.specs.MemoryMap.{Profile}
-use Rattle.rv_code.specs.Continue.{continue}
-use Rattle.rv_code.specs.Run.{ByteChange}
-use Rattle.rv_code.specs.State.{Hart, Shared, After}
-use Rattle.rv_code.specs.Step.{step, stops}
-use Rattle.rv_code.specs.declared.turn.Turn.{Turn}
-use Rattle.rv_code.specs.declared.turn.Turn.TheVariants.{Ran}
+use Rattle.cfi_runs.proofs.Prelude.{Profile, continue, ByteChange, Hart, Shared, After, step, stops, Turn, Ran, Unchanged, GoesOn, Within}
 use Rattle.rv_code.proofs.Within as told
-use Rattle.cfi_unit.specs.Between.{Unchanged}
-use Rattle.cfi_unit.specs.EffectLaw.{GoesOn}
 use Rattle.cfi_unit.proofs.EffectSteps.{before}
-use Rattle.cfi_runs.specs.Within.{Within}
 
 module _ (p : Profile) (Q R : After → Type 0) (weaker : (b : After) → Q b → R b) where
   pub calmly : (n : ℕ) (a : After) → told.Within GoesOn Unchanged p n Q a → Within p n R a

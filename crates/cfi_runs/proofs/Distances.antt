@@ -2,11 +2,8 @@
 use Rattle.std.proofs.Common.{◌≡◌, ℕ, zero, suc, ◌+◌, ◌-◌, ◌%◌, ◌^◌, ◌<◌, ◌≤◌, inl, inr, true, false, nat_lt, min, lit<, sym, ap, subst, ◌∙◌, arith}
 use Rattle.std.proofs.lemmas.Bool.{cases_lt, lt-ltb}
 use Rattle.std.proofs.lemmas.Bool.Decides.{nat_tests}
-use Rattle.rv_word.specs.Bits.{wrap}
-use Rattle.rv_code.specs.Step.{offset}
-use Rattle.cfi_runs.specs.Distances.{field, level, lowest}
+use Rattle.cfi_runs.proofs.Prelude.{wrap, offset, field, level, lowest, IsPast}
 use Rattle.cfi_runs.specs.GroupLaws as law
-use Rattle.cfi_runs.specs.GroupStores.{IsPast}
 
 pub level_of_field : (low : ℕ) → low < 2 ^ 12 → level (field low) ≡ low
 level_of_field low small = omega arith

@@ -1,26 +1,10 @@
 -- The opening comes to the program's own start, the closing to its own end.
 use Rattle.std.proofs.Common.{◌≡◌, ℕ, ◌+◌, ◌-◌, ◌≤◌, Bool, true, false, length, inl, inr, refl, sym, ap, subst, ◌∙◌, arith}
-use Rattle.rv_image.specs.MemoryMap.{IsFullProfile, IsProfile, Profile, SHADOW_START, part_of}
-use Rattle.rv_word.specs.Memory.{Memory}
+use Rattle.cfi_runs.proofs.Prelude.{IsFullProfile, IsProfile, Profile, SHADOW_START, part_of, Memory, Registers, set_reg, Ecall, Hart, Shared, After, exec, step, Ran, opening_instrs, Unchanged, SameRegisters, pushed, EntersOpening, stack_of, OpeningDoes, ClosingDoes, slot, ComesTo, SameData, MatchesAfter, AtOpening, EntryFits, LeanOpeningDoes, entry_pending, Own, own_closing, own_start, Within}
 use Rattle.rv_image.proofs.Profiles.{full_saves, lean_saves}
-use Rattle.rv_instr.specs.Registers.{Registers, set_reg}
-use Rattle.rv_instr.specs.declared.instr.Instr.TheVariants.{Ecall}
-use Rattle.rv_code.specs.State.{Hart, Shared, After}
-use Rattle.rv_code.specs.Step.{exec, step}
-use Rattle.rv_code.specs.declared.turn.Turn.TheVariants.{Ran}
 use Rattle.rv_code.proofs.Frames.{write_outside}
-use Rattle.cfi_unit.specs.Prologue.{opening_instrs}
-use Rattle.cfi_unit.specs.Between.{Unchanged}
-use Rattle.cfi_unit.specs.Leaving.{SameRegisters, pushed}
-use Rattle.cfi_unit.specs.PrologueEffect.{EntersOpening, stack_of, OpeningDoes, ClosingDoes}
-use Rattle.cfi_unit.specs.Shadow.{slot}
 use Rattle.cfi_unit.proofs.PrologueEffect.{same_trans}
 use Rattle.cfi_runs.specs.MatchLaws as law
-use Rattle.cfi_runs.specs.MatchLaws.{ComesTo}
-use Rattle.cfi_runs.specs.Matching.{SameData, MatchesAfter}
-use Rattle.cfi_runs.specs.Openings.{AtOpening, EntryFits, LeanOpeningDoes, entry_pending}
-use Rattle.cfi_runs.specs.Own.{Own, own_closing, own_start}
-use Rattle.cfi_runs.specs.Within.{Within}
 use Rattle.cfi_runs.proofs.AlikeCalls.{call_alike}
 use Rattle.cfi_runs.proofs.Calmly.{within_weaker}
 use Rattle.cfi_runs.proofs.LeanOpening.{lean_opening_runs}

@@ -2,14 +2,8 @@
 use Rattle.std.proofs.Common.{◌≡◌, ℕ, zero, suc, ◌+◌, ◌^◌, ◌==◌, ◌≤◌, ◌<◌, inl, inr, true, false, Some, length, slice_get, refl, sym, ap, subst, ◌∙◌, arith}
 use Rattle.std.specs.List.{AllByRecursion, list_any}
 use Rattle.std.proofs.lemmas.Bool.{cases_Bool, eqb-true}
-use Rattle.rv_instr.specs.Reserved.{is_reserved}
-use Rattle.cfi_unit.specs.declared.mask.Mask.{Mask}
-use Rattle.cfi_unit.specs.declared.members.Member.{Member}
+use Rattle.cfi_runs.proofs.Prelude.{is_reserved, Mask, Member, IsMember, MOST_MEMBERS, Fits, MaskFits, members_from, NamesNoReserved}
 use Rattle.cfi_unit.specs.declared.unit.Unit.TheVariants as V
-use Rattle.cfi_unit.specs.Members.{IsMember, MOST_MEMBERS}
-use Rattle.cfi_unit.specs.UnitWords.{Fits, MaskFits}
-use Rattle.cfi_runs.specs.GroupStores.{members_from}
-use Rattle.cfi_runs.specs.Tame.{NamesNoReserved}
 
 module _ (member : ℕ → Member) where
   pub count_members : (k n : ℕ) → length (members_from member k n) ≡ n

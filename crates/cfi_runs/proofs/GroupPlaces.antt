@@ -3,18 +3,8 @@
 use Rattle.std.proofs.Common.{◌≡◌, ℕ, zero, suc, ◌+◌, ◌^◌, ◌≤◌, ◌<◌, Bool, true, false, Option, Some, None, List, [], ◌∷◌, length, refl, sym, ap, subst, ◌∙◌, arith}
 use Rattle.std.specs.List.{range_with_len}
 use Rattle.std.proofs.lemmas.Option.{same_Some}
-use Rattle.rv_image.specs.MemoryMap.{Profile}
-use Rattle.rv_word.specs.Memory.{Memory}
-use Rattle.rv_code.specs.declared.turn.Turn.TheVariants.{Ran}
-use Rattle.cfi_unit.specs.declared.mask.Mask.{Mask}
-use Rattle.cfi_unit.specs.declared.members.Member.{Member}
+use Rattle.cfi_runs.proofs.Prelude.{Profile, Memory, Ran, Mask, Member, after_unit, sum_of, Chained, GoesAlong, IsWhole, Link, PlacesRun, Walked, IsPast, StoresRun, TellsLow, members_from, own_store, Own, OwnAfter, executes, own_step, touched}
 use Rattle.cfi_unit.specs.declared.unit.Unit.TheVariants as V
-use Rattle.cfi_unit.specs.UnitWords.{after_unit}
-use Rattle.cfi_unit.specs.Leads.{sum_of}
-use Rattle.cfi_runs.specs.GroupRuns.{Chained, GoesAlong, IsWhole, Link, PlacesRun, Walked}
-use Rattle.cfi_runs.specs.GroupStores.{IsPast, StoresRun, TellsLow, members_from, own_store}
-use Rattle.cfi_runs.specs.Own.{Own, OwnAfter, executes, own_step}
-use Rattle.cfi_runs.specs.Tame.{touched}
 use Rattle.cfi_runs.proofs.GroupRuns.{places_walked}
 use Rattle.cfi_runs.proofs.GroupStores.{group_is_one_step}
 

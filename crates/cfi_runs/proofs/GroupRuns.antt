@@ -3,13 +3,9 @@ use Rattle.std.proofs.Common.{◌≡◌, ℕ, zero, suc, ◌+◌, ◌≤◌, ◌
 use Rattle.std.proofs.Math.Nat.{mul-add}
 use Rattle.std.proofs.lemmas.Bool.{cases_Bool, cases_lt}
 use Rattle.std.proofs.lemmas.Nat.{mul-le}
-use Rattle.rv_image.specs.MemoryMap.{Profile}
-use Rattle.rv_word.specs.Memory.{Memory}
+use Rattle.cfi_runs.proofs.Prelude.{Profile, Memory, GoesAlong, IsWhole, Link, Walked, Own, own_step, OwnRuns, words_along}
 use Rattle.cfi_unit.specs.declared.unit.Unit as U
 use Rattle.cfi_runs.specs.GroupLaws as law
-use Rattle.cfi_runs.specs.GroupRuns.{GoesAlong, IsWhole, Link, Walked}
-use Rattle.cfi_runs.specs.Own.{Own, own_step}
-use Rattle.cfi_runs.specs.OwnRuns.{OwnRuns, words_along}
 
 -- one path, then another
 pub paths_join : (p : Profile) (image : Memory) (path more : List U.Unit) (o middle last : Own) → OwnRuns p image path o middle → OwnRuns p image more middle last →

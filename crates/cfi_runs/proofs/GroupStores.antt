@@ -1,24 +1,8 @@
 -- The stores of a group, made one after the other, are one step of its unit.
 use Rattle.std.proofs.Common.{◌≡◌, ℕ, zero, suc, ◌+◌, ◌^◌, ◌<◌, ◌≤◌, inl, inr, true, refl, sym, ap, subst, ◌∙◌, arith}
 use Rattle.std.proofs.lemmas.Bool.Decides.{nat_tests}
-use Rattle.rv_word.specs.Bits.{wrap}
-use Rattle.rv_image.specs.MemoryMap.{Profile, can_store}
-use Rattle.rv_word.specs.Memory.{write}
-use Rattle.rv_instr.specs.Registers.{Registers, get_reg}
-use Rattle.rv_instr.specs.declared.instr.Instr.TheVariants.{Store}
-use Rattle.rv_instr.specs.declared.instr.StoreOp.{StoreOp}
-use Rattle.rv_instr.specs.declared.instr.StoreOp.TheVariants.{Sb, Sh, Sw, Sd}
-use Rattle.rv_code.specs.Arithmetic.{store_size}
-use Rattle.rv_code.specs.State.{Shared}
-use Rattle.rv_code.specs.Step.{offset}
-use Rattle.rv_code.specs.declared.turn.Turn.TheVariants.{Ran}
-use Rattle.cfi_unit.specs.declared.members.Member.{Member}
-use Rattle.cfi_unit.specs.Leads.{sum_of}
-use Rattle.cfi_unit.specs.Leaving.{stored_at, with_memory}
+use Rattle.cfi_runs.proofs.Prelude.{wrap, Profile, can_store, write, Registers, get_reg, Store, StoreOp, Sb, Sh, Sw, Sd, store_size, Shared, offset, Ran, Member, sum_of, stored_at, with_memory, IsPast, StoresRun, TellsLow, members_from, own_store, Own, OwnAfter, executes, stored_all, touched}
 use Rattle.cfi_runs.specs.GroupLaws as law
-use Rattle.cfi_runs.specs.GroupStores.{IsPast, StoresRun, TellsLow, members_from, own_store}
-use Rattle.cfi_runs.specs.Own.{Own, OwnAfter, executes, stored_all}
-use Rattle.cfi_runs.specs.Tame.{touched}
 
 some_size : (op : StoreOp) → 1 ≤ store_size op
 some_size Sb = omega arith

@@ -1,31 +1,15 @@
 -- What a lean opening does, word by word.
 use Rattle.std.proofs.Common.{◌≡◌, ℕ, ◌+◌, ◌-◌, ◌*◌, ◌^◌, ◌<◌, inl, inr, [], length, Some, true, refl, sym, subst, ◌∙◌, arith}
 use Rattle.std.specs.Prelude.{slice_get}
-use Rattle.rv_word.specs.Bits.{wrap}
-use Rattle.rv_image.specs.MemoryMap.{Profile, SHADOW_START, lean_version_1, lean_version_2, part_of}
-use Rattle.rv_word.specs.Memory.{Memory}
+use Rattle.cfi_runs.proofs.Prelude.{wrap, Profile, SHADOW_START, lean_version_1, lean_version_2, part_of, Memory, Registers, set_reg, Instr, difference, Hart, Shared, After, exec, step, Fits, STORE_MASK, instrs_of, OPENING, lean_lone_set_up, lean_own_set_up, opening_instrs, Unchanged, SameRegisters, stack_of, slot, Stand, AtOpening, EntryFits, LeanOpeningDoes, LeanOpeningRuns, Within}
 use Rattle.rv_image.proofs.Profiles.{laid_out}
-use Rattle.rv_instr.specs.Registers.{Registers, set_reg}
-use Rattle.rv_instr.specs.declared.instr.Instr.{Instr}
-use Rattle.rv_code.specs.Arithmetic.{difference}
-use Rattle.rv_code.specs.State.{Hart, Shared, After}
-use Rattle.rv_code.specs.Step.{exec, step}
 use Rattle.cfi_unit.specs.declared.unit.Unit.TheVariants as V
-use Rattle.cfi_unit.specs.UnitWords.{Fits, STORE_MASK, instrs_of}
-use Rattle.cfi_unit.specs.Prologue.{OPENING, lean_lone_set_up, lean_own_set_up, opening_instrs}
-use Rattle.cfi_unit.specs.Between.{Unchanged}
-use Rattle.cfi_unit.specs.Leaving.{SameRegisters}
-use Rattle.cfi_unit.specs.PrologueEffect.{stack_of}
-use Rattle.cfi_unit.specs.Shadow.{slot}
-use Rattle.cfi_unit.specs.Stand.{Stand}
 use Rattle.cfi_unit.proofs.Context.{at_word, stand_back}
 use Rattle.cfi_unit.proofs.EffectLean.{link_call_does}
 use Rattle.cfi_unit.proofs.EffectRows.{unchanged_harmless}
 use Rattle.cfi_unit.proofs.EffectSteps.{Now, same_again, same_link, same_set}
 use Rattle.cfi_unit.proofs.Parts.{own_is_part}
 use Rattle.cfi_unit.proofs.PrologueEffect.{same_trans}
-use Rattle.cfi_runs.specs.Openings.{AtOpening, EntryFits, LeanOpeningDoes, LeanOpeningRuns}
-use Rattle.cfi_runs.specs.Within.{Within}
 
 -- the registers where the call of the entry stands: both stacks are set up, and x4 holds the mask of stores
 record Ready (hart : ℕ) (r regs : Registers) : Type 0 where

@@ -1,3 +1,4 @@
+pub mod Prelude
 pub mod Calmly
 pub mod UnitRuns
 pub mod Same

@@ -2,48 +2,20 @@
 use Rattle.std.proofs.Common.{◌≡◌, ◌≢◌, ℕ, zero, suc, ◌+◌, ◌-◌, ◌*◌, ◌/◌, ◌^◌, ◌==◌, ◌≤◌, ◌<◌, ◌||◌, Bool, true, false, List, [], ◌∷◌, length, inl, inr, if◌then◌else◌, refl, sym, ap, subst, ◌∙◌, arith}
 use Rattle.std.specs.List.{AllByRecursion, list_any}
 use Rattle.std.proofs.lemmas.Bool.{cases_Bool, eqb-true, false≢true}
-use Rattle.rv_image.specs.MemoryMap.{Profile, SHADOW_START}
-use Rattle.rv_word.specs.Memory.{Memory, write}
-use Rattle.rv_word.specs.Numbers.{is_listed}
+use Rattle.cfi_runs.proofs.Prelude.{Profile, SHADOW_START, Memory, write, is_listed, Registers, get_reg, set_reg, is_reserved, Instr, Ecall, Ebreak, BranchOp, branch_taken, store_size, Hart, Shared, After, exec, step, Ran, Member, TargetWord, First, Third, Act, Flow, flow_of, Fits, after_unit, instrs_of, word_count, MOST_PENDING, slot, Unchanged, ReturnsTo, HasLabel, sum_of, destination, CallsAt, SameRegisters, SameScratch, LeftTo, Executes, StoresEach, masked, pushed, stored_at, with_memory, ActDoes, CallDoes, EnterDoes, ExitDoes, FlowDoes, ReturnDoes, UnitDoes, Enters, MakesMask, UnitIsDone, is_lean, SameData, Matches, MatchesAfter, HoldsMask, Own, OwnAfter, calls, computed, executes, goes, links, own_act, own_exit, own_step, returns, saves, stored_all, SitesFit, ActTame, ExitTame, IsTame, NamesNoReserved, ReturnTame, TestTame, act_names, exit_names}
 use Rattle.rv_word.proofs.Booleans.{is_self}
-use Rattle.rv_instr.specs.Registers.{Registers, get_reg, set_reg}
-use Rattle.rv_instr.specs.Reserved.{is_reserved}
-use Rattle.rv_instr.specs.declared.instr.Instr.{Instr}
-use Rattle.rv_instr.specs.declared.instr.Instr.TheVariants.{Ecall, Ebreak}
-use Rattle.rv_instr.specs.declared.instr.BranchOp.{BranchOp}
-use Rattle.rv_code.specs.Arithmetic.{branch_taken, store_size}
-use Rattle.rv_code.specs.State.{Hart, Shared, After}
-use Rattle.rv_code.specs.Step.{exec, step}
-use Rattle.rv_code.specs.declared.turn.Turn.TheVariants.{Ran}
 use Rattle.rv_code.proofs.Frames.{write_outside}
-use Rattle.cfi_unit.specs.declared.members.Member.{Member}
-use Rattle.cfi_unit.specs.declared.target_word.TargetWord.{TargetWord}
-use Rattle.cfi_unit.specs.declared.target_word.TargetWord.TheVariants.{First, Third}
 use Rattle.cfi_unit.specs.declared.unit.Unit as U
 use Rattle.cfi_unit.specs.declared.unit.Unit.TheVariants as V
 use Rattle.cfi_unit.specs.declared.unit.SystemOp.TheVariants as S
 use Rattle.cfi_unit.specs.Flow as F
-use Rattle.cfi_unit.specs.Flow.{Act, Exit, Flow, flow_of}
-use Rattle.cfi_unit.specs.UnitWords.{Fits, after_unit, instrs_of, word_count}
-use Rattle.cfi_unit.specs.Shadow.{MOST_PENDING, slot}
-use Rattle.cfi_unit.specs.Between.{Unchanged}
-use Rattle.cfi_unit.specs.UnitLaw.{ReturnsTo}
-use Rattle.cfi_unit.specs.Leads.{HasLabel, sum_of, destination}
-use Rattle.cfi_unit.specs.Leaving.{CallsAt, SameRegisters, SameScratch, LeftTo, Executes, StoresEach, masked, pushed, stored_at, with_memory}
-use Rattle.cfi_unit.specs.Effect.{ActDoes, CallDoes, EnterDoes, ExitDoes, FlowDoes, ReturnDoes, UnitDoes}
-use Rattle.cfi_unit.specs.EffectLaw.{Enters, MakesMask, UnitIsDone}
-use Rattle.cfi_unit.specs.Templates.{is_lean}
+use Rattle.cfi_unit.specs.Flow.{Exit}
 use Rattle.cfi_unit.proofs.Counts.{some_word}
 use Rattle.cfi_unit.proofs.EffectSteps.{same_link}
 use Rattle.cfi_unit.proofs.MaskKept.{unit_spares}
 use Rattle.cfi_unit.proofs.Flows.{ActFits, Suits, act_fits, entered, is_single, is_untested, linked_back, linking_call, linking_computed_call, single_word, suits, untested, direct_call, guarded_call, computed_jump, computed_call, turned_back}
 use Rattle.cfi_unit.proofs.PrologueEffect.{same_trans}
 use Rattle.cfi_runs.specs.MatchLaws as law
-use Rattle.cfi_runs.specs.Matching.{SameData, Matches, MatchesAfter}
-use Rattle.cfi_runs.specs.Mask.{HoldsMask}
-use Rattle.cfi_runs.specs.Own.{Own, OwnAfter, calls, computed, executes, goes, links, own_act, own_exit, own_step, returns, saves, stored_all}
-use Rattle.cfi_runs.specs.OwnRuns.{SitesFit}
-use Rattle.cfi_runs.specs.Tame.{ActTame, ExitTame, IsTame, NamesNoReserved, ReturnTame, TestTame, act_names, exit_names}
 use Rattle.cfi_runs.proofs.Alike.{AlikeAfter, sum_same, or_first, or_second, plain_alike, break_alike}
 use Rattle.cfi_runs.proofs.AlikeCalls.{call_alike}
 use Rattle.cfi_runs.proofs.Calmly.{within_weaker}

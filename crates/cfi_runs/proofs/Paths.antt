@@ -1,25 +1,13 @@
 -- A path of tame steps is matched, unit after unit.
 use Rattle.std.proofs.Common.{◌≡◌, ℕ, ◌-◌, ◌%◌, ◌^◌, ◌<◌, inr, true, false, List, [], ◌∷◌, length, refl, sym, subst, ◌∙◌, arith}
-use Rattle.rv_image.specs.MemoryMap.{Profile}
-use Rattle.rv_word.specs.Memory.{Memory}
-use Rattle.rv_code.specs.State.{Hart, Shared, After}
-use Rattle.rv_code.specs.Step.{stops}
-use Rattle.rv_code.specs.declared.turn.Turn.TheVariants.{Ran}
+use Rattle.cfi_runs.proofs.Prelude.{Profile, Memory, Hart, Shared, After, stops, Ran, Act, Flow, flow_of, after_unit, word_count, IsPart, MOST_PENDING, ComesTo, Matches, MatchesAfter, Own, own_act, own_exit, own_step, returns, SitesFit, words_along, ReturnTame, TameStep, TestTame, Within}
 use Rattle.cfi_unit.specs.declared.unit.Unit as U
 use Rattle.cfi_unit.specs.Flow as F
-use Rattle.cfi_unit.specs.Flow.{Act, Exit, Flow, flow_of}
-use Rattle.cfi_unit.specs.UnitWords.{after_unit, word_count}
-use Rattle.cfi_unit.specs.Shadow.{IsPart, MOST_PENDING}
+use Rattle.cfi_unit.specs.Flow.{Exit}
 use Rattle.cfi_unit.proofs.Counts.{most_words}
 use Rattle.cfi_unit.proofs.Flows.{Suits, entered, is_untested, linked_back, linking_call, linking_computed_call, suits, untested, direct_call, guarded_call, computed_jump, computed_call, turned_back}
 use Rattle.cfi_unit.proofs.EffectRows.{one_word}
 use Rattle.cfi_runs.specs.MatchLaws as law
-use Rattle.cfi_runs.specs.MatchLaws.{ComesTo}
-use Rattle.cfi_runs.specs.Matching.{Matches, MatchesAfter}
-use Rattle.cfi_runs.specs.Own.{Own, own_act, own_exit, own_step, returns}
-use Rattle.cfi_runs.specs.OwnRuns.{SitesFit, words_along}
-use Rattle.cfi_runs.specs.Tame.{ReturnTame, TameStep, TestTame}
-use Rattle.cfi_runs.specs.Within.{Within}
 use Rattle.cfi_runs.proofs.Calmly.{within_going, within_then}
 use Rattle.cfi_runs.proofs.Matched.{unit_keeps_match}
 

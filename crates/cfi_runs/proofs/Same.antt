@@ -2,14 +2,7 @@
 use Rattle.std.proofs.Common.{◌≡◌, ℕ, zero, suc, ◌+◌, ◌==◌, ◌&&◌, ◌<◌, ◌≤◌, inl, inr, false, List, length, refl, ◌∙◌, arith}
 use Rattle.std.specs.Prelude.{nat_le, nat_lt}
 use Rattle.std.proofs.lemmas.Bool.{cases_Bool}
-use Rattle.rv_image.specs.MemoryMap.{DATA_END}
-use Rattle.rv_word.specs.Memory.{Memory, read, write, placed}
-use Rattle.rv_instr.specs.Registers.{Registers, get_reg, set_reg}
-use Rattle.rv_instr.specs.Reserved.{is_reserved}
-use Rattle.rv_code.specs.State.{Shared}
-use Rattle.rv_code.specs.SystemCall.{bytes_of}
-use Rattle.cfi_unit.specs.Leaving.{SameRegisters, with_memory}
-use Rattle.cfi_runs.specs.Matching.{SameData}
+use Rattle.cfi_runs.proofs.Prelude.{DATA_END, Memory, read, write, placed, Registers, get_reg, set_reg, is_reserved, Shared, bytes_of, SameRegisters, with_memory, SameData}
 
 -- an operand
 pub get_same : (r regs : Registers) (k : ℕ) → is_reserved k ≡ false → SameRegisters r regs → get_reg regs k ≡ get_reg r k

@@ -1,11 +1,6 @@
 -- What a unit, the opening and the closing do, undisturbed, in the form of runs.
 use Rattle.std.proofs.Common.{◌-◌, length}
-use Rattle.rv_code.specs.State.{After}
-use Rattle.cfi_unit.specs.UnitWords.{word_count}
-use Rattle.cfi_unit.specs.Prologue.{opening_instrs}
-use Rattle.cfi_unit.specs.Between.{Unchanged}
-use Rattle.cfi_unit.specs.EffectLaw.{UnitIsDone}
-use Rattle.cfi_unit.specs.PrologueEffect.{OpeningDoes, ClosingDoes}
+use Rattle.cfi_runs.proofs.Prelude.{After, word_count, opening_instrs, Unchanged, UnitIsDone, OpeningDoes, ClosingDoes}
 use Rattle.cfi_unit.proofs.EffectRows.{unit_done_within, unchanged_harmless}
 use Rattle.cfi_unit.proofs.PrologueEffect.{opening_does, closing_does}
 use Rattle.cfi_runs.specs.Laws as law

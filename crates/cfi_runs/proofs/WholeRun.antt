@@ -1,29 +1,11 @@
 -- The opening, then a path, then a step or the closing: all of it is one run.
 use Rattle.std.proofs.Common.{inl, ◌≡◌, ℕ, suc, ◌+◌, ◌-◌, ◌==◌, inr, Bool, true, false, List, [], ◌∷◌, length, None, refl, sym, subst, arith}
 use Rattle.std.proofs.lemmas.Bool.{cases_Bool}
-use Rattle.rv_image.specs.Image.{Contents, loaded}
-use Rattle.rv_image.specs.MemoryMap.{CODE_START, Profile, SHADOW_START}
-use Rattle.rv_word.specs.Memory.{Memory}
+use Rattle.cfi_runs.proofs.Prelude.{Contents, loaded, CODE_START, Profile, SHADOW_START, Memory, cleared, Hart, Shared, After, start_hart, start_shared, last_exit, stops, Ran, word_count, opening_instrs, closing_instrs, SameRegisters, IsPart, Stand, SameData, MatchesAfter, ComesTo, AtOpening, entry_pending, Own, own_step, own_closing, own_start, OwnRuns, SitesFit, words_along, own_shared, CLOSING_WORDS, opening_words, HasPrologue, Keeps, RunsTo, RunKeepsMatch, Within}
 use Rattle.rv_image.proofs.Profiles.{laid_out}
-use Rattle.rv_instr.specs.Registers.{cleared}
-use Rattle.rv_code.specs.State.{Hart, Shared, After, start_hart, start_shared, last_exit}
-use Rattle.rv_code.specs.Step.{stops}
-use Rattle.rv_code.specs.declared.turn.Turn.TheVariants.{Ran}
 use Rattle.rv_code.proofs.Frames.{placed_outside}
 use Rattle.cfi_unit.specs.declared.unit.Unit as U
-use Rattle.cfi_unit.specs.UnitWords.{word_count}
-use Rattle.cfi_unit.specs.Prologue.{opening_instrs, closing_instrs}
-use Rattle.cfi_unit.specs.Leaving.{SameRegisters}
-use Rattle.cfi_unit.specs.Shadow.{IsPart}
-use Rattle.cfi_unit.specs.Stand.{Stand}
 use Rattle.cfi_unit.proofs.Parts.{opening_length, own_is_part}
-use Rattle.cfi_runs.specs.Matching.{SameData, MatchesAfter}
-use Rattle.cfi_runs.specs.MatchLaws.{ComesTo}
-use Rattle.cfi_runs.specs.Openings.{AtOpening, entry_pending}
-use Rattle.cfi_runs.specs.Own.{Own, own_step, own_closing, own_start}
-use Rattle.cfi_runs.specs.OwnRuns.{OwnRuns, SitesFit, words_along}
-use Rattle.cfi_runs.specs.WholeRun.{own_shared, CLOSING_WORDS, opening_words, HasPrologue, Keeps, RunsTo, RunKeepsMatch}
-use Rattle.cfi_runs.specs.Within.{Within}
 use Rattle.cfi_runs.proofs.Calmly.{reached, within_going, within_then}
 use Rattle.cfi_runs.proofs.Ends.{opening_keeps_match, closing_keeps_match}
 use Rattle.cfi_runs.proofs.Paths.{path_keeps_match, sites_fit, unit_within}

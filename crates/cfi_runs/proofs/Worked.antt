@@ -4,31 +4,9 @@ use Rattle.std.proofs.Common.{◌≡◌, ℕ, zero, suc, ◌+◌, ◌*◌, ◌-�
 use Rattle.std.specs.Prelude.{nat_le, nat_lt, slice_get, slice_index}
 use Rattle.std.specs.List.{list_all}
 use Rattle.std.proofs.lemmas.Bool.{cases_Bool, cond_both, and_parts, eqb-true, ltb-true}
-use Rattle.rv_image.specs.declared.version.ImageVersion.TheVariants.{OneHart}
-use Rattle.rv_image.specs.Image.{Contents, loaded}
-use Rattle.rv_image.specs.MemoryMap.{CODE_START, DATA_START, version_1}
-use Rattle.rv_word.specs.Memory.{placed, read}
-use Rattle.rv_instr.specs.Registers.{cleared}
-use Rattle.rv_instr.specs.Reserved.{is_reserved}
-use Rattle.rv_instr.specs.declared.instr.Instr.{Instr}
-use Rattle.rv_instr.specs.declared.instr.Instr.TheVariants.{Immediate}
-use Rattle.rv_instr.specs.declared.instr.ImmediateOp.TheVariants.{Addi}
-use Rattle.rv_instr.specs.declared.instr.StoreOp.TheVariants.{Sd}
-use Rattle.rv_code.specs.Decode.{decoded}
-use Rattle.rv_code.specs.State.{After}
-use Rattle.rv_code.specs.declared.turn.Turn.TheVariants.{Exit}
-use Rattle.cfi_unit.specs.declared.mask.Mask.TheVariants.{Shifts}
-use Rattle.cfi_unit.specs.declared.members.Member.{Member}
+use Rattle.cfi_runs.proofs.Prelude.{OneHart, Contents, loaded, CODE_START, DATA_START, version_1, placed, read, cleared, is_reserved, Instr, Immediate, Addi, Sd, decoded, After, Exit, Shifts, Member, instrs_of, OPENING, opening_instrs, closing_instrs, field, level, lowest, members_from, Own, own_start, own_step, OwnRuns, NamesNoReserved, TameStep, HasPrologue, RunsTo, own_shared}
 use Rattle.cfi_unit.specs.declared.unit.Unit as U
 use Rattle.cfi_unit.specs.declared.unit.Unit.TheVariants as V
-use Rattle.cfi_unit.specs.UnitWords.{instrs_of}
-use Rattle.cfi_unit.specs.Prologue.{OPENING, opening_instrs, closing_instrs}
-use Rattle.cfi_runs.specs.Distances.{field, level, lowest}
-use Rattle.cfi_runs.specs.GroupStores.{members_from}
-use Rattle.cfi_runs.specs.Own.{Own, own_start, own_step}
-use Rattle.cfi_runs.specs.OwnRuns.{OwnRuns}
-use Rattle.cfi_runs.specs.Tame.{NamesNoReserved, TameStep}
-use Rattle.cfi_runs.specs.WholeRun.{HasPrologue, RunsTo, own_shared}
 use Rattle.cfi_runs.proofs.GroupMembers.{stores_free}
 use Rattle.cfi_runs.proofs.WholeRun.{run_keeps_match}
 

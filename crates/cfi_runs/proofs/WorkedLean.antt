@@ -2,29 +2,10 @@
 -- step is tame, so the law says that the run exits within 24 steps (it takes 22).
 use Rattle.std.proofs.Common.{◌≡◌, ℕ, ◌^◌, ◌<◌, ◌==◌, ◌||◌, inl, inr, true, false, List, [], ◌∷◌, Some, map, lit<, lit≤, refl, sym, ap, subst, ◌∙◌}
 use Rattle.std.proofs.lemmas.Bool.{eqb-true, or_cases}
-use Rattle.rv_image.specs.declared.version.ImageVersion.TheVariants.{OneHart}
-use Rattle.rv_image.specs.Image.{Contents, loaded}
-use Rattle.rv_image.specs.MemoryMap.{CODE_START, DATA_START, lean_version_1}
-use Rattle.rv_word.specs.Memory.{Memory, placed, zeros}
-use Rattle.rv_instr.specs.Registers.{cleared}
-use Rattle.rv_instr.specs.Reserved.{is_reserved}
-use Rattle.rv_instr.specs.declared.instr.Instr.{Instr}
-use Rattle.rv_instr.specs.declared.instr.Instr.TheVariants.{Immediate}
-use Rattle.rv_instr.specs.declared.instr.ImmediateOp.TheVariants.{Addi}
-use Rattle.rv_instr.specs.declared.instr.StoreOp.TheVariants.{Sd}
-use Rattle.rv_code.specs.Decode.{decoded}
-use Rattle.rv_code.specs.State.{After}
-use Rattle.rv_code.specs.declared.turn.Turn.TheVariants.{Exit}
-use Rattle.cfi_unit.specs.declared.mask.Mask.TheVariants.{Short}
+use Rattle.cfi_runs.proofs.Prelude.{OneHart, Contents, loaded, CODE_START, DATA_START, lean_version_1, Memory, placed, zeros, cleared, is_reserved, Instr, Immediate, Addi, Sd, decoded, After, Exit, Short, instrs_of, OPENING, opening_instrs, closing_instrs, Own, own_start, own_step, OwnRuns, NamesNoReserved, TameStep, HasPrologue, RunsTo, own_shared}
 use Rattle.cfi_unit.specs.declared.unit.Unit as U
 use Rattle.cfi_unit.specs.declared.unit.Unit.TheVariants as V
-use Rattle.cfi_unit.specs.UnitWords.{instrs_of}
-use Rattle.cfi_unit.specs.Prologue.{OPENING, opening_instrs, closing_instrs}
 use Rattle.cfi_unit.proofs.EffectWorked.{each_read, placed_small, read_from}
-use Rattle.cfi_runs.specs.Own.{Own, own_start, own_step}
-use Rattle.cfi_runs.specs.OwnRuns.{OwnRuns}
-use Rattle.cfi_runs.specs.Tame.{NamesNoReserved, TameStep}
-use Rattle.cfi_runs.specs.WholeRun.{HasPrologue, RunsTo, own_shared}
 use Rattle.cfi_runs.proofs.WholeRun.{run_keeps_match}
 
 -- after the prologue an enter, `addi x9,x1,0`, `jal x1` to the leaf, `addi x1,x9,0` and a return; the leaf is `sd x1,8(x10)` behind a

@@ -6,9 +6,8 @@ use Rattle.std.specs.List.Sorted.{IsStrictlyIncreasing}
 use Rattle.std.proofs.lemmas.List.{get_or_default}
 use Rattle.std.proofs.lemmas.List.Elements.{All-head, All-tail, Contains-get_or}
 use Rattle.std.proofs.lemmas.List.Kept.{AllPairs-from_increasing}
-use Rattle.cfi_class.specs.Classes.{AreInOne, IsIn}
+use Rattle.cfi_single.proofs.Prelude.{AreInOne, IsIn, AreClasses}
 use Rattle.cfi_class.proofs.Sets.{list_there}
-use Rattle.cfi_flow.specs.Closing.{AreClasses}
 use Rattle.cfi_flow.proofs.Rising.{rising_same}
 
 -- lists that are apart, each rising and with a member, in the order of their least members

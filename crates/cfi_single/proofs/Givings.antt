@@ -1,14 +1,8 @@
 -- What holds of requests of programs holds of those whose program is given, and a program is given or refused in one way.
 use Rattle.std.proofs.Common.{◌≡◌, inl, inr, sym, ap, ◌∙◌}
 use Rattle.std.proofs.lemmas.Option.{none-some, same_Some}
-use Rattle.refusals.specs.declared.refusal.Refusal.{Refusal}
+use Rattle.cfi_single.proofs.Prelude.{Refusal, Given, alone, joined, IsGiven, RefusesGiven, HardenedParts, IsHardened, Refuses, Request, program_request, GivenInOneWay}
 use Rattle.refusals.specs.declared.refusal.Refusal.TheVariants as R
-use Rattle.cfi_harden.specs.Given.{Given, alone, joined, IsGiven, RefusesGiven}
-use Rattle.cfi_writer.specs.Hardened.{HardenedParts}
-use Rattle.cfi_harden.specs.Hardened.{IsHardened}
-use Rattle.cfi_harden.specs.Refused.{Refuses}
-use Rattle.cfi_harden.specs.Request.{Request, program_request}
-use Rattle.cfi_single.specs.OneWay.{GivenInOneWay}
 use Rattle.cfi_single.proofs.Hardened.{hardened_unique}
 use Rattle.cfi_single.proofs.Prepared.{prepared_unique}
 use Rattle.cfi_single.proofs.Refused.{not_refused, refusal_unique}

@@ -1,14 +1,7 @@
 -- One raw graph and one closed graph are right.
 use Rattle.std.proofs.Common.{◌≡◌, suc, List, [], ◌∷◌, refl, sym, ap, map, subst, ◌∙◌, arith}
 use Rattle.std.specs.List.{All}
-use Rattle.rv_image.specs.declared.version.GraphVersion.{GraphVersion}
-use Rattle.cfi_policy.specs.Policy.{PolicyParts}
-use Rattle.cfi_graph.specs.declared.line.Sort.{Sort}
-use Rattle.obj_program.specs.Program.{Program}
-use Rattle.cfi_closed.specs.Closed.{ClosedGraph, Side}
-use Rattle.cfi_flow.specs.Closing.{AreClasses, IsClosed, IsSide, raw_for, sets_of, with_class}
-use Rattle.cfi_flow.specs.Policy.{IsRaw}
-use Rattle.cfi_flow.specs.Raw.{RawGraph}
+use Rattle.cfi_single.proofs.Prelude.{GraphVersion, PolicyParts, Sort, Program, ClosedGraph, Side, AreClasses, IsClosed, IsSide, raw_for, sets_of, with_class, IsRaw, RawGraph}
 use Rattle.cfi_single.proofs.Classes.{classes_unique}
 
 -- the side of a sort

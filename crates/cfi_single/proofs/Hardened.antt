@@ -1,22 +1,9 @@
 -- One hardened program is right for a request.
 use Rattle.std.proofs.Common.{◌≡◌, ℕ, List, length, map, sym, ap, subst, ◌∙◌}
 use Rattle.std.proofs.lemmas.Option.{same_Some}
-use Rattle.rv_image.specs.Form.{graph_version, image_version}
-use Rattle.elf_image.specs.Spelling.{spelling}
-use Rattle.cfi_graph.specs.Graph.{GraphParts}
+use Rattle.cfi_single.proofs.Prelude.{graph_version, image_version, spelling, GraphParts, data_at, Item, ProgramAtMap, arrival, graph_lines, used_labels, placed_code, AreGiven, HardenedParts, IsWritten, chosen, IsWrittenOf, written_code, IsPlacementOf, Spaced, PreparedParts, HardenedInOneWay}
 use Rattle.cfi_unit.specs.declared.unit.Unit as U
-use Rattle.obj_program.specs.DataAtMap.{data_at}
-use Rattle.obj_program.specs.declared.item.Item.{Item}
-use Rattle.cfi_map.specs.GraphAtMap.{ProgramAtMap, arrival, graph_lines}
-use Rattle.cfi_flow.specs.Labels.{used_labels}
-use Rattle.cfi_rules.specs.Placed.{placed_code}
-use Rattle.cfi_writer.specs.Hardened.{AreGiven, HardenedParts, IsWritten, chosen}
-use Rattle.cfi_harden.specs.Hardened.{IsWrittenOf}
-use Rattle.cfi_writer.specs.Laws.{written_code}
-use Rattle.cfi_map.specs.Placing.{IsPlacementOf, Spaced}
-use Rattle.cfi_harden.specs.Prepared.{PreparedParts}
 use Rattle.cfi_harden.proofs.Right.{lines_same}
-use Rattle.cfi_single.specs.OneWay.{HardenedInOneWay}
 use Rattle.cfi_single.proofs.Placed.{layout_unique, sizes_same}
 use Rattle.cfi_single.proofs.Prepared.{prepared_unique}
 use Rattle.cfi_single.proofs.Written.{bytes_same, labels_unique, under, units_same}

@@ -2,27 +2,9 @@
 -- is at the same map.
 use Rattle.std.proofs.Common.{◌≡◌, ℕ, zero, suc, ◌+◌, ◌<◌, ◌≤◌, Bool, true, false, Option, List, [], ◌∷◌, length, get_or, inl, inr, not, refl, sym, ap, subst, ◌∙◌, arith, ◌||◌}
 use Rattle.std.proofs.lemmas.Bool.{or_cases, or_right}
-use Rattle.rv_image.specs.Form.{profile_for}
-use Rattle.rv_image.specs.MemoryMap.{CODE_SIZE}
-use Rattle.rv_image.specs.declared.form.Form.{Form}
-use Rattle.rv_image.specs.declared.version.GraphVersion.{GraphVersion}
-use Rattle.rv_image.specs.declared.version.GraphVersion.TheVariants.{OneLabel, TwoLabels, CalleeSaves}
-use Rattle.obj_input.specs.declared.item_kind.ItemKind.{ItemKind}
+use Rattle.cfi_single.proofs.Prelude.{profile_for, CODE_SIZE, Form, GraphVersion, OneLabel, TwoLabels, CalleeSaves, ItemKind, Item, Program, item_of, no_item, IsLongSet, ClosedGraph, Entered, entered_at, lead_size, in_leaf, ProgramAtMap, entered_in, program_at, bounds_in, is_short, is_store, may_join, AreGates, is_ecall, kind_size, lean_size, size_by, size_of, whole_at, IsPlacement, IsPlacementOf, Spaced, shorts_of, is_branch, grouped_parts, grouped_sizes, whole_size}
 use Rattle.obj_input.specs.declared.item_kind.ItemKind.TheVariants as is
-use Rattle.obj_program.specs.declared.item.Item.{Item}
-use Rattle.obj_program.specs.Program.{Program, item_of, no_item}
-use Rattle.cfi_layout.specs.LongSet.{IsLongSet}
 use Rattle.cfi_layout.specs.LongSet.{is_branch as is_part}
-use Rattle.cfi_closed.specs.Closed.{ClosedGraph}
-use Rattle.cfi_leads.specs.Entered.{Entered, entered_at}
-use Rattle.cfi_leads.specs.Leads.{lead_size}
-use Rattle.cfi_leads.specs.Leaves.{in_leaf}
-use Rattle.cfi_map.specs.GraphAtMap.{ProgramAtMap, entered_in, program_at}
-use Rattle.cfi_map.specs.Groups.{bounds_in, is_short, is_store, may_join}
-use Rattle.cfi_map.specs.Placement.{AreGates, is_ecall, kind_size, lean_size, size_by, size_of, whole_at}
-use Rattle.cfi_map.specs.Placing.{IsPlacement, IsPlacementOf, Spaced}
-use Rattle.cfi_map.specs.Shorts.{shorts_of, is_branch}
-use Rattle.cfi_map.specs.Sizes.{grouped_parts, grouped_sizes, whole_size}
 use Rattle.cfi_map.proofs.GroupsAgree.{members_alike}
 use Rattle.cfi_map.proofs.ShortList.{parts_are}
 

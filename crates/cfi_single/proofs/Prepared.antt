@@ -1,17 +1,7 @@
 -- One program with one closed graph and one entry is right for a request.
 use Rattle.std.proofs.Common.{◌≡◌, ℕ, List, Option, Some, sym, ap, subst, ◌∙◌}
 use Rattle.std.proofs.lemmas.Option.{same_Some}
-use Rattle.rv_image.specs.declared.version.GraphVersion.{GraphVersion}
-use Rattle.rv_image.specs.Form.{graph_version}
-use Rattle.rv_image.specs.declared.form.Form.{Form}
-use Rattle.obj_program.specs.Program.{Program}
-use Rattle.cfi_closed.specs.Closed.{ClosedGraph}
-use Rattle.cfi_flow.specs.Closing.{IsClosed}
-use Rattle.cfi_flow.specs.Entry.{entry_place}
-use Rattle.cfi_flow.specs.Raw.{RawGraph}
-use Rattle.cfi_harden.specs.Prepared.{IsClosedUnder}
-use Rattle.cfi_harden.specs.Request.{policy_asked}
-use Rattle.cfi_single.specs.OneWay.{PreparedInOneWay}
+use Rattle.cfi_single.proofs.Prelude.{GraphVersion, graph_version, Form, Program, ClosedGraph, IsClosed, entry_place, RawGraph, IsClosedUnder, policy_asked, PreparedInOneWay}
 use Rattle.cfi_single.proofs.Graphs.{closed_unique, raw_unique}
 
 -- the closed graph of a program, for a version of graphs, under the text of a policy

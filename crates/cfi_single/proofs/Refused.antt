@@ -2,24 +2,8 @@
 use Rattle.std.proofs.Common.{◌≡◌, ℕ, true, false, inl, inr, List, Option, Some, None, Result, Ok, Err, refl, sym, ap, subst, ◌∙◌, arith}
 use Rattle.std.specs.Prelude.{IsSome}
 use Rattle.std.proofs.lemmas.Option.{same_Some}
-use Rattle.least.specs.declared.place.Place.{Place}
-use Rattle.rv_image.specs.Form.{graph_version}
-use Rattle.rv_word.specs.declared.end.End.{End}
-use Rattle.rv_word.specs.declared.end.End.TheVariants.{Fault}
-use Rattle.text_lines.specs.declared.fault.LineFault.{LineFault}
-use Rattle.obj_program.specs.Program.{Program}
-use Rattle.cfi_flow.specs.Entry.{entry_place}
-use Rattle.cfi_flow.specs.Policy.{wrong_line}
-use Rattle.cfi_map.specs.Source.{first_astray}
-use Rattle.refusals.specs.declared.refusal.Refusal.{Refusal}
+use Rattle.cfi_single.proofs.Prelude.{Place, graph_version, End, Fault, LineFault, Program, entry_place, wrong_line, first_astray, Refusal, RefusesPlaced, HardenedParts, IsWrittenOf, FailsAt, IsClosedUnder, IsPreparedOf, IsWrongPolicy, PreparedParts, IsEarly, RefusesProgram, ProgramRequest, policy_asked, policy_end, HardenedIsNotRefused, RefusedInOneWay}
 use Rattle.refusals.specs.declared.refusal.Refusal.TheVariants as R
-use Rattle.cfi_harden.specs.Fitting.{RefusesPlaced}
-use Rattle.cfi_writer.specs.Hardened.{HardenedParts}
-use Rattle.cfi_harden.specs.Hardened.{IsWrittenOf}
-use Rattle.cfi_harden.specs.Prepared.{FailsAt, IsClosedUnder, IsPreparedOf, IsWrongPolicy, PreparedParts}
-use Rattle.cfi_harden.specs.Refused.{IsEarly, RefusesProgram}
-use Rattle.cfi_harden.specs.Request.{ProgramRequest, policy_asked, policy_end}
-use Rattle.cfi_single.specs.OneWay.{HardenedIsNotRefused, RefusedInOneWay}
 use Rattle.cfi_single.proofs.Placed.{layout_unique, placed_room}
 use Rattle.cfi_single.proofs.Prepared.{prepared_unique}
 

@@ -4,28 +4,10 @@ use Rattle.std.specs.Prelude.{◌-◌, ◌&&◌, not, if◌then◌else◌, slice
 use Rattle.std.proofs.Math.Seq.{take-suc}
 use Rattle.std.proofs.lemmas.Bool.{cases_Bool, cases_lt, or_left, or_right}
 use Rattle.std.proofs.lemmas.List.{get_or_past, take_all}
-use Rattle.rv_image.specs.declared.version.GraphVersion.{GraphVersion}
-use Rattle.rv_image.specs.declared.version.GraphVersion.TheVariants.{OneLabel, TwoLabels, CalleeSaves}
-use Rattle.rv_instr.specs.declared.instr.Instr.{Instr}
+use Rattle.cfi_single.proofs.Prelude.{GraphVersion, OneLabel, TwoLabels, CalleeSaves, Instr, ItemKind, Item, count, item_of, no_item, AreLabels, IsLeastFree, ProgramAtMap, aim_of, entered_in, in_leaf, site_label, whole_at, TargetWord, code_words, is_branch, is_store, field, level, lowest, members_from, jump_word, Choice, Group, followers, group_at, instr_of, is_later_at, lead, lean_unit_of, low_by, mask_at, member_at, offset_at, unit_by, unit_here, unit_of, unit_places, units, units_of}
 use Rattle.rv_instr.specs.declared.instr.Instr.TheVariants as I
-use Rattle.obj_input.specs.declared.item_kind.ItemKind.{ItemKind}
 use Rattle.obj_input.specs.declared.item_kind.ItemKind.TheVariants as is
-use Rattle.obj_program.specs.declared.item.Item.{Item}
-use Rattle.obj_program.specs.Program.{count, item_of, no_item}
-use Rattle.cfi_class.specs.Labels.{AreLabels, IsLeastFree}
-use Rattle.cfi_map.specs.GraphAtMap.{ProgramAtMap, aim_of, entered_in}
-use Rattle.cfi_leads.specs.Leaves.{in_leaf}
-use Rattle.cfi_map.specs.LabelOf.{site_label}
-use Rattle.cfi_map.specs.Placement.{whole_at}
-use Rattle.cfi_unit.specs.declared.target_word.TargetWord.{TargetWord}
 use Rattle.cfi_unit.specs.declared.unit.Unit as U
-use Rattle.cfi_rules.specs.Split.{code_words}
-use Rattle.cfi_map.specs.Shorts.{is_branch}
-use Rattle.cfi_map.specs.Groups.{is_store}
-use Rattle.cfi_runs.specs.Distances.{field, level, lowest}
-use Rattle.cfi_runs.specs.GroupStores.{members_from}
-use Rattle.cfi_rules.specs.Lines.{jump_word}
-use Rattle.cfi_writer.specs.Units.{Choice, Group, followers, group_at, instr_of, is_later_at, lead, lean_unit_of, low_by, mask_at, member_at, offset_at, unit_by, unit_here, unit_of, unit_places, units, units_of}
 use Rattle.cfi_writer.proofs.Runs.{place_there}
 use Rattle.cfi_single.proofs.Placed.{SameSizes, is_sized}
 

@@ -1,16 +1,10 @@
 -- What is answered to a request is complete.
 use Rattle.std.proofs.Common.{◌≡◌, ℕ, List, [], ◌∷◌, Some, Ok, subst}
-use Rattle.tool_common.specs.Reads.{Content, IsLong, IsReached, IsUnread}
-use Rattle.tool_common.specs.declared.read.Unread.TheVariants.{Fault, TooLong}
+use Rattle.cfi_tool.proofs.Prelude.{Content, IsLong, IsReached, IsUnread, Fault, TooLong, IsComplete, Explains, ExplainsRequest, IsReadFault, outcome_status, Outcome, Usage, Help, Version, Unread, Rewrite, Verify, Run, Compare, Demo}
 use Rattle.tool_common.proofs.Held.{none_long}
 use Rattle.tool_objects.proofs.Complete.{all_held, compare_complete, rewrite_complete}
 use Rattle.tool_images.proofs.Complete.{run_complete, verify_complete}
-use Rattle.cfi_tool.specs.Complete.{IsComplete}
-use Rattle.cfi_tool.specs.Explains.{Explains, ExplainsRequest, IsReadFault}
-use Rattle.cfi_tool.specs.Outcomes.{outcome_status}
 use Rattle.cfi_tool.specs.Request.{Request, asks, compare as compares, demo as demos, names_of, taken, rewrite as rewrites, run as runs, verify as verifies}
-use Rattle.cfi_tool.specs.declared.outcome.Outcome.{Outcome}
-use Rattle.cfi_tool.specs.declared.outcome.Outcome.TheVariants.{Usage, Help, Version, Unread, Rewrite, Verify, Run, Compare, Demo}
 use Rattle.cfi_tool.proofs.Headline.{demo_done}
 
 module _ (content : Content) where

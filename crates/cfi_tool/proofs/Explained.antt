@@ -1,16 +1,8 @@
 -- The files of an outcome that is explained.
 use Rattle.std.proofs.Common.{◌≡◌, ◌∙◌, [], ap, refl, sym}
-use Rattle.tool_objects.specs.Rewrite.{IsSpelledOut, RewriteWords, AreNamedApart, outputs_of}
-use Rattle.cfi_tool.specs.Explains.{ExplainsRequest}
-use Rattle.cfi_tool.specs.Outcomes.{outcome_outputs}
-use Rattle.tool_common.specs.Reads.{Content}
+use Rattle.cfi_tool.proofs.Prelude.{IsSpelledOut, RewriteWords, AreNamedApart, outputs_of, ExplainsRequest, outcome_outputs, Content, AreApart, OutputParts, HardenedParts, Rewritten, Outcome, Rewrite, Verify, Run, Compare, Demo}
 use Rattle.cfi_tool.specs.Request.{Request, WritesNone, asks, compare as compares, demo as demos, rewrite as rewrites, run as runs, verify as verifies}
-use Rattle.tool_common.specs.Writes.{AreApart, OutputParts}
-use Rattle.cfi_writer.specs.Hardened.{HardenedParts}
-use Rattle.tool_objects.specs.declared.rewrite.Rewritten.{Rewritten}
 use Rattle.tool_objects.specs.declared.rewrite.RewriteOutcome.TheVariants as outcome
-use Rattle.cfi_tool.specs.declared.outcome.Outcome.{Outcome}
-use Rattle.cfi_tool.specs.declared.outcome.Outcome.TheVariants.{Rewrite, Verify, Run, Compare, Demo}
 
 written_apart : (words : RewriteWords) (hardened : HardenedParts) (written : Rewritten) → AreNamedApart words → IsSpelledOut words hardened written
     → AreApart (outputs_of written)

@@ -1,29 +1,14 @@
 -- What status 0 says of a command that was asked for, and what a report's status does.
 use Rattle.std.proofs.Common.{◌≡◌, ◌⊎◌, ◌≤◌, ℕ, List, [], None, inl, inr, refl, subst, arith, lit≤}
-use Rattle.tool_io.specs.declared.files.Files.{Ghosts}
-use Rattle.cfi_compare.specs.declared.answer.Compared.{Compared}
+use Rattle.cfi_tool.proofs.Prelude.{Ghosts, Compared, RunEnd, Content, IsUnread, unread_status, Wrote, Fault, TooLong, CompareWords, IsTold, answer_status, ExplainsDemo, IsDemonstrated, IsExit, IsUnsettled, demo_status, end_status, IsRewritten, RewriteWords, IsRan, RunWords, DemoOutcome, Explains, ExplainsRequest, outcome_outputs, outcome_status, outcome_text, Outcome, Usage, Help, Version, Unread, Rewrite, Verify, Run, Compare, Demo}
 use Rattle.cfi_compare.specs.declared.answer.Compared.TheVariants as compared
-use Rattle.cfi_step.specs.declared.report.RunEnd.{RunEnd}
 use Rattle.cfi_step.specs.declared.report.RunEnd.TheVariants as ends
-use Rattle.tool_common.specs.Reads.{Content, IsUnread, unread_status}
-use Rattle.tool_common.specs.Writes.{Wrote}
 use Rattle.tool_common.specs.declared.read.Unread.{Unread as UnreadFile}
-use Rattle.tool_common.specs.declared.read.Unread.TheVariants.{Fault, TooLong}
-use Rattle.tool_objects.specs.Compare.{CompareWords, IsTold, answer_status}
-use Rattle.tool_objects.specs.Demo.{ExplainsDemo, IsDemonstrated, IsExit, IsUnsettled, demo_status}
-use Rattle.tool_report.specs.ReportText.{end_status}
-use Rattle.tool_objects.specs.Rewrite.{IsRewritten, RewriteWords}
-use Rattle.tool_images.specs.Run.{IsRan, RunWords}
 use Rattle.tool_objects.specs.declared.compare.CompareOutcome.TheVariants as told
-use Rattle.tool_objects.specs.declared.demo.DemoOutcome.{DemoOutcome}
 use Rattle.tool_objects.specs.declared.demo.DemoOutcome.TheVariants as shown
 use Rattle.tool_objects.specs.declared.rewrite.RewriteOutcome.TheVariants as rewritten
 use Rattle.tool_images.specs.declared.run.RunOutcome.TheVariants as ran
-use Rattle.cfi_tool.specs.Explains.{Explains, ExplainsRequest}
-use Rattle.cfi_tool.specs.Outcomes.{outcome_outputs, outcome_status, outcome_text}
 use Rattle.cfi_tool.specs.Request.{Request, compare as compares, demo as demos, asks, names_of, taken, rewrite as rewrites, run as runs}
-use Rattle.cfi_tool.specs.declared.outcome.Outcome.{Outcome}
-use Rattle.cfi_tool.specs.declared.outcome.Outcome.TheVariants.{Usage, Help, Version, Unread, Rewrite, Verify, Run, Compare, Demo}
 
 -- the status of a command that came to its end
 abbrev pub IsDone : ℕ → Type 0

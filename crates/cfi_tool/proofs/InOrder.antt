@@ -1,13 +1,7 @@
 -- Which files were read, by the status.
 use Rattle.std.proofs.Common.{◌≡◌, ◌⊎◌, ℕ, ◌<◌, ◌≤◌, List, Option, Ok, inl, inr, arith, subst, sym}
-use Rattle.tool_io.specs.Names.{AreRead}
-use Rattle.tool_common.specs.declared.read.Unread.TheVariants.{Fault, TooLong}
+use Rattle.cfi_tool.proofs.Prelude.{AreRead, Fault, TooLong, IsRead, outcome_status, Taken, read_names, Outcome, Unread}
 use Rattle.tool_common.proofs.InOrder.{read_less}
-use Rattle.cfi_tool.specs.Explains.{IsRead}
-use Rattle.cfi_tool.specs.Outcomes.{outcome_status}
-use Rattle.cfi_tool.specs.Request.{Taken, read_names}
-use Rattle.cfi_tool.specs.declared.outcome.Outcome.{Outcome}
-use Rattle.cfi_tool.specs.declared.outcome.Outcome.TheVariants.{Unread}
 
 -- with a status below 3 or above 6 no file of the command was left unread
 read_by_status : (outcome : Outcome) → (outcome_status outcome < 3) ⊎ (6 < outcome_status outcome) → IsRead (Ok outcome)

@@ -1,14 +1,7 @@
 -- What was written since files were read alone.
 use Rattle.std.proofs.Common.{◌≡◌, ◌∙◌, ◌⊎◌, ◌∷◌, ℕ, List, [], Option, None, Some, inl, inr, refl, subst, arith}
-use Rattle.tool_io.specs.Contents.{Becomes}
-use Rattle.tool_io.specs.Reading.{IsOnlyRead}
-use Rattle.tool_io.specs.declared.files.Files.{Ghosts}
-use Rattle.cfi_tool.specs.Finishing.{IsShort, IsStopped}
-use Rattle.cfi_tool.specs.Outcomes.{outcome_outputs, outcome_status}
-use Rattle.tool_common.specs.Writes.{AreWhole, IsTorn, OutputParts, Wrote}
+use Rattle.cfi_tool.proofs.Prelude.{Becomes, IsOnlyRead, Ghosts, IsShort, IsStopped, outcome_outputs, outcome_status, AreWhole, IsTorn, OutputParts, Wrote, Outcome, Usage, Help, Version, Unread, Rewrite, Verify, Run, Compare, Demo}
 use Rattle.tool_objects.specs.declared.rewrite.RewriteOutcome.TheVariants as outcome
-use Rattle.cfi_tool.specs.declared.outcome.Outcome.{Outcome}
-use Rattle.cfi_tool.specs.declared.outcome.Outcome.TheVariants.{Usage, Help, Version, Unread, Rewrite, Verify, Run, Compare, Demo}
 
 module _ {S : Type 0} (files : Ghosts S) (a b c : S) (read : IsOnlyRead files a b) where
   pub only_read_since : IsOnlyRead files b c → IsOnlyRead files a c

@@ -1,12 +1,9 @@
 -- What a command line is taken for, by how `clap` reads it.
 use Rattle.std.proofs.Common.{◌≡◌, ◌∙◌, ℕ, List, None, Some, Ok, Err, ap, sym}
 use Rattle.std.specs.Option.{option_map}
-use Rattle.tool_words.specs.Plain.{TakesMarked, TakesPlain}
+use Rattle.cfi_tool.proofs.Prelude.{TakesMarked, TakesPlain, Asked, WordsEnd, Refused, NoMemory, IsKept, IsRight, IsWordsEnd, TakenMarked, TakenPlainly, asked, if_request, request_of, taken, taken_by, untaken}
 use Rattle.tool_words.specs.Reading.{Gives, reading, request_of as words_of}
-use Rattle.tool_words.specs.declared.asked.Asked.{Asked}
-use Rattle.tool_words.specs.declared.end.WordsEnd.{WordsEnd}
-use Rattle.tool_words.specs.declared.end.WordsEnd.TheVariants.{Help, Version, Refused, NoMemory}
-use Rattle.cfi_tool.specs.Request.{IsKept, IsRight, IsWordsEnd, TakenMarked, TakenPlainly, asked, if_request, request_of, taken, taken_by, untaken}
+use Rattle.tool_words.specs.declared.end.WordsEnd.TheVariants.{Help, Version}
 use Rattle.cfi_tool.specs.declared.request.Request as R
 
 module _ (words : List (List ℕ)) where

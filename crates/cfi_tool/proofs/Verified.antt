@@ -1,21 +1,11 @@
 -- Status 0 where two names stand after `verify`: neither help nor the version can have been asked for, and the two names are the files.
 use Rattle.std.proofs.Common.{◌≡◌, ◌∙◌, ℕ, false, List, [], ◌∷◌, Option, Some, None, inl, inr, ap, ap₂, sym, subst, refl, arith, codes}
 use Rattle.std.specs.Prelude.{⊤}
-use Rattle.tool_words.specs.CommandLine.{VERIFY}
-use Rattle.tool_words.specs.HelpWords.{asks_help, asks_version}
-use Rattle.tool_words.specs.Plain.{AsksFor, Operands, mark_left, none_left, one_more}
+use Rattle.cfi_tool.proofs.Prelude.{VERIFY, asks_help, asks_version, AsksFor, Operands, mark_left, none_left, one_more, Reading, clap_reading, if_alone, reading, Content, Fault, TooLong, IsAccepted, VerifyWords, Explains, ExplainsRequest, outcome_status, outcome_text, Outcome, Usage, Help, Version, Unread, Rewrite, Verify, Run, Compare, Demo}
 use Rattle.tool_words.specs.Reading as reads
-use Rattle.tool_words.specs.Reading.{Reading, clap_reading, if_alone, reading}
 use Rattle.tool_words.proofs.Top.{asks_as_read}
-use Rattle.tool_common.specs.Reads.{Content}
-use Rattle.tool_common.specs.declared.read.Unread.TheVariants.{Fault, TooLong}
-use Rattle.tool_images.specs.Verify.{IsAccepted, VerifyWords}
 use Rattle.tool_images.specs.declared.verify.Verdict.TheVariants as verdict
-use Rattle.cfi_tool.specs.Explains.{Explains, ExplainsRequest}
-use Rattle.cfi_tool.specs.Outcomes.{outcome_status, outcome_text}
 use Rattle.cfi_tool.specs.Request.{Request, Taken, Verifies, asks, helps, if_request, request_of, taken, taken_by, tells_version, verify as verifies}
-use Rattle.cfi_tool.specs.declared.outcome.Outcome.{Outcome}
-use Rattle.cfi_tool.specs.declared.outcome.Outcome.TheVariants.{Usage, Help, Version, Unread, Rewrite, Verify, Run, Compare, Demo}
 
 -- help or the version is told
 abbrev IsText : Taken → Type 0

@@ -1,8 +1,7 @@
 -- The words that bytes are cut into are those of the code.
 use Rattle.std.proofs.Common.{◌≡◌, ◌<◌, ◌≤◌, ℕ, ◌+◌, ◌*◌, ◌/◌, List, [], ◌∷◌, length, refl, ap, arith}
-use Rattle.cfi_scan.specs.Carry.{word_of}
-use Rattle.cfi_scan.specs.Pieces.{IsCut, ends, goes_on}
-use Rattle.cfi_rules.specs.Split.{code_words}
+use Rattle.cfi_verify.proofs.Prelude.{word_of, IsCut, ends, code_words}
+use Rattle.cfi_scan.specs.Pieces.{goes_on}
 
 none_whole : (left : List ℕ) → length left < 4 → code_words left ≡ []
 unfolding code_words

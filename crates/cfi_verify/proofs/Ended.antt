@@ -1,13 +1,6 @@
 -- A scan that has come to the length that the graph gives: what its listing tells of the code.
 use Rattle.std.proofs.Common.{◌≡◌, ℕ, ◌-◌, ◌/◌, List, length, sym, ap, subst, ◌∙◌, arith}
-use Rattle.rv_image.specs.declared.version.Versions.{Versions}
-use Rattle.rv_image.specs.Image.{Contents}
-use Rattle.rv_image.specs.MemoryMap.{Profile, profile_with}
-use Rattle.cfi_graph.specs.Graph.{GraphParts}
-use Rattle.cfi_scan.specs.Pieces.{HasSeen, IsOf, Listed, Sight, prologue_count}
-use Rattle.cfi_verify.specs.Scan.{Scanned, Tells, numbers_in}
-use Rattle.cfi_starts.specs.Starts.{StartParts, profile_in}
-use Rattle.cfi_rules.specs.Split.{code_words}
+use Rattle.cfi_verify.proofs.Prelude.{Versions, Contents, Profile, profile_with, GraphParts, HasSeen, IsOf, Listed, Sight, prologue_count, Scanned, Tells, numbers_in, StartParts, profile_in, code_words}
 use Rattle.cfi_starts.proofs.Laid.{laid_with}
 use Rattle.cfi_verify.proofs.Told.{tells}
 

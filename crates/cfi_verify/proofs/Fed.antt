@@ -3,10 +3,7 @@ use Rattle.std.proofs.Common.{◌≡◌, ◌<◌, ℕ, ◌+◌, List, [], ◌∷
 use Rattle.std.specs.List.{concat}
 use Rattle.std.proofs.lemmas.List.{append-nil, drop_more}
 use Rattle.std.proofs.lemmas.List.Concat.{concat_is, flat_map-cons}
-use Rattle.rv_image.specs.declared.version.Versions.{Versions}
-use Rattle.rv_image.specs.MemoryMap.{profile_with}
-use Rattle.cfi_scan.specs.Pieces.{HasSeen}
-use Rattle.cfi_verify.specs.Scan.{Scanned}
+use Rattle.cfi_verify.proofs.Prelude.{Versions, profile_with, HasSeen, Scanned}
 
 -- between two moments a scan has taken a part of a code, and the rest is left
 pub record IsFed (code rest : List ℕ) (before now : Scanned) : Type 0 where

@@ -1,14 +1,11 @@
 -- Where units start: in the words from the first one on.
 use Rattle.std.proofs.Common.{◌/◌, ◌%◌, inl, inr, length-drop, ◌≡◌, ◌≤◌, ◌<◌, ℕ, zero, suc, ◌+◌, ◌-◌, ◌*◌, true, List, [], ◌∷◌, length, arith}
 use Rattle.std.proofs.lemmas.Option.{slice_get_within}
-use Rattle.rv_image.specs.MemoryMap.{CODE_START, Profile}
+use Rattle.cfi_verify.proofs.Prelude.{CODE_START, Profile, recognised, word_count, starts, is_start, unit_words}
 use Rattle.rv_image.proofs.Profiles.{LaidOut}
 use Rattle.rv_word.proofs.Cases.{cases_Option}
-use Rattle.cfi_unit.specs.Recognise.{recognised}
-use Rattle.cfi_unit.specs.UnitWords.{word_count}
 use Rattle.cfi_rules.proofs.Find.{start_parts}
 use Rattle.cfi_rules.proofs.Marks.{marks_unit}
-use Rattle.cfi_rules.specs.Split.{starts, is_start, unit_words}
 
 -- no more starts than words
 pub length-starts : (skip : ℕ) (ws : List ℕ) (at : ℕ) → length (starts skip ws at) ≤ length ws

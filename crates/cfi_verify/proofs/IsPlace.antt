@@ -2,10 +2,8 @@
 use Rattle.std.proofs.Common.{◌≡◌, ℕ, ◌<◌, ◌==◌, false, List, Option, Some, None, refl, sym, arith, inl, inr}
 use Rattle.std.specs.Prelude.{is_some, nat_le, option_map}
 use Rattle.std.proofs.lemmas.Bool.{cases_Bool, eqb-true, ne_eqb, lt-leb}
-use Rattle.rv_image.specs.MemoryMap.{Profile, START}
+use Rattle.cfi_verify.proofs.Prelude.{Profile, START, is_handler, is_start, entry_of, unit_at, place_at, starts_prologue}
 use Rattle.rv_image.proofs.Profiles.{LaidOut}
-use Rattle.cfi_rules.specs.Split.{is_handler, is_start, entry_of, unit_at, place_at}
-use Rattle.cfi_verify.specs.Scan.{starts_prologue}
 
 some_of : {A B : Type 0} (f : A → B) (x : Option A) → is_some (option_map f x) ≡ is_some x
 some_of f None = refl

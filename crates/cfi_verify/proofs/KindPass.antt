@@ -5,25 +5,13 @@ use Rattle.std.proofs.lemmas.Bool.{and_from, and_left, and_parts, and_right, cas
 use Rattle.std.proofs.lemmas.Option.{same_Some}
 use Rattle.std.specs.List.{list_any}
 use Rattle.rv_word.proofs.Cases.{cases_Option}
-use Rattle.rv_image.specs.MemoryMap.{Profile, START}
+use Rattle.cfi_verify.proofs.Prelude.{Profile, START, GraphLine, Calls, Leaf, Class, Site, Edge, Call, GraphParts, calls_in, has_leaves, is_rising, key_below, key_of, in_leaf, leaf_of, Entry, is_started, is_unit, is_calm, Listed, holds_of, leaves_in, IsBefore, call_at, call_in, count_of, edge_in, end_of, enters_at, entry_at, fresh_at, gate_at, gate_in, goes_on, goes_wrong_at, is_enter, is_right_behind_at, is_whole, lacks_end_at, may_call_at, may_go_at, may_stand, next_at, next_in, or_inside, starts_at, is_barred, AreShut, AreWhole, IsEntered, IsShut, IsShutAt, KindHoldsAt, WordHolds, ends_in_stop}
 use Rattle.rv_image.proofs.Profiles.{LaidOut}
-use Rattle.cfi_graph.specs.declared.line.GraphLine.{GraphLine}
-use Rattle.cfi_graph.specs.declared.line.GraphLine.TheVariants.{Calls, Leaf, Class, Site, Edge, Call}
-use Rattle.cfi_graph.specs.Graph.{GraphParts, calls_in, has_leaves, is_rising, key_below, key_of}
 use Rattle.cfi_pending.specs.Kinds as kinds
-use Rattle.cfi_pending.specs.Kinds.{in_leaf, leaf_of}
-use Rattle.cfi_reader.specs.declared.entry.Entry.{Entry}
 use Rattle.cfi_reader.specs.declared.entry.Entry.TheVariants as E
-use Rattle.cfi_reader.specs.Entries.{is_started, is_unit}
-use Rattle.cfi_scan.specs.Calm.{is_calm}
-use Rattle.cfi_scan.specs.Pieces.{Listed}
-use Rattle.cfi_rules.specs.Lines.{holds_of, leaves_in}
-use Rattle.cfi_starts.specs.Entries.{IsBefore, call_at, call_in, count_of, edge_in, end_of, enters_at, entry_at, fresh_at, gate_at, gate_in, goes_on, goes_wrong_at, is_enter, is_right_behind_at, is_whole, lacks_end_at, may_call_at, may_go_at, may_stand, next_at, next_in, or_inside, starts_at}
 use Rattle.cfi_starts.proofs.Behind.{Ends, ends}
 use Rattle.cfi_starts.proofs.LeafLines.{leaf_there}
 use Rattle.cfi_starts.proofs.Started.{started}
-use Rattle.cfi_fails.specs.Fails.{is_barred}
-use Rattle.cfi_verify.specs.Pass.{AreShut, AreWhole, IsEntered, IsShut, IsShutAt, KindHoldsAt, WordHolds, ends_in_stop}
 use Rattle.cfi_verify.proofs.Told.{entry_is, started_place}
 
 -- where units cover the code, they end where it does

@@ -5,9 +5,8 @@ use Rattle.std.specs.List.{list_any}
 use Rattle.std.proofs.lemmas.Bool.{cases_Bool, and_left, and_right, and_from, eq-eqb, eqb-true, ne_eqb}
 use Rattle.std.proofs.lemmas.Option.{slice_get_within, get_or_from_slice_get}
 use Rattle.std.proofs.lemmas.List.{take_more, take_all}
-use Rattle.least.specs.Least.{IsLeast, lesser}
+use Rattle.cfi_verify.proofs.Prelude.{IsLeast, lesser, is_among}
 use Rattle.least.proofs.Leasts.{least_either, least_same}
-use Rattle.cfi_rules.specs.Lines.{is_among}
 
 pub list_any-push : {A : Type 0} (p : A → Bool) (xs : List A) (y : A) → list_any p (xs ++ y ∷ []) ≡ (list_any p xs || p y)
 list_any-push p [] y = elim (cases_Bool (p y)) [ inl e ↦ rw e refl | inr e ↦ rw e refl ]

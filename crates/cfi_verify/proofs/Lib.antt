@@ -1,3 +1,4 @@
+pub mod Prelude
 pub mod WordList
 pub mod InUnits
 pub mod IsPlace

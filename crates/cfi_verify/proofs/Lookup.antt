@@ -5,19 +5,13 @@ use Rattle.std.proofs.lemmas.Bool.{cases_lt, cases_eq, false≢true}
 use Rattle.std.proofs.lemmas.Option.{same_Some}
 use Rattle.std.proofs.lemmas.List.{drop-drop}
 use Rattle.std.proofs.Math.Seq.{drop-append_seam}
-use Rattle.cfi_unit.specs.declared.mask.Mask.TheVariants.{Shifts, Short, Long}
+use Rattle.cfi_verify.proofs.Prelude.{Shifts, Short, Long, recognised, Fits, may_precede, word_count, words_of, Entry, entries_of, inside, is_started, is_unit, plain_entry, writes_link, AllStand, last_of, spelled, width, next_in, or_inside, is_marked, starts}
 use Rattle.cfi_unit.specs.declared.unit.Unit as U
 use Rattle.cfi_unit.specs.declared.unit.Unit.TheVariants as V
 use Rattle.cfi_unit.specs.declared.unit.SystemOp.TheVariants as S
-use Rattle.cfi_unit.specs.Recognise.{recognised}
-use Rattle.cfi_unit.specs.UnitWords.{Fits, may_precede, word_count, words_of}
 use Rattle.cfi_unit.proofs.Found.{found, words_counted}
-use Rattle.cfi_reader.specs.declared.entry.Entry.{Entry}
 use Rattle.cfi_reader.specs.declared.entry.Entry.TheVariants as E
-use Rattle.cfi_reader.specs.Entries.{entries_of, entry_of, inside, is_started, is_unit, plain_entry, writes_link}
-use Rattle.cfi_scan.specs.Stream.{AllStand, last_of, spelled, width}
-use Rattle.cfi_starts.specs.Entries.{next_in, or_inside}
-use Rattle.cfi_rules.specs.Split.{is_marked, starts}
+use Rattle.cfi_reader.specs.Entries.{entry_of}
 use Rattle.least.proofs.Firsts.{first_found, none_first}
 use Rattle.cfi_starts.proofs.Started.{started}
 use Rattle.cfi_unit.proofs.Counts.{some_word}

@@ -5,29 +5,12 @@ use Rattle.std.specs.List.{list_all, list_any}
 use Rattle.std.proofs.lemmas.Bool.{and_left, and_parts, cases_Bool, cases_eq, cases_lt, cases_order, eqb-true, false≢true, le-ltb, leb-true, lt-leb, lt-ltb, ltb-true, ne_eqb, or_from}
 use Rattle.std.proofs.lemmas.Option.{same_Some, slice_get_within}
 use Rattle.std.proofs.Math.Bool.{and-true, and-false}
-use Rattle.rv_image.specs.declared.version.GraphVersion.{GraphVersion}
+use Rattle.cfi_verify.proofs.Prelude.{GraphVersion, CODE_START, Profile, START, GraphLine, Calls, Leaf, Class, Site, Edge, Call, Address, GraphParts, IsGraph, calls_in, fits_version, has_leaves, is_rising, key_below, key_of, Entry, is_quiet, Listed, prologue_count, leaf_of, call_at, call_in, count_of, edge_at, edge_in, enters_at, entry_at, fails_target_at, fresh_at, gate_at, gate_in, goes_on, goes_wrong_at, is_enter, is_right_behind_at, lacks_end_at, may_call_at, may_go_at, may_stand, next_at, or_inside, signs_at, site_in, stands_outside, stands_wrong_at, starts_at, fails_at, fails_end_at, fails_gate_at, fails_unit_at, is_barred, is_barred_at, is_lone_at, is_stop_entry, is_unused_at, misses_start, misses_start_at, Tells, numbers_in, holds_of, is_outside, leaves_in, line_at, targets_for, HasPassed, HoldsAt, HoldsEarly, KindHoldsAt, NoneStands, ends_in_stop, Holds, fails_prologue, is_call_to, is_edge_to, is_site_with, lacks_gate, Asks, Rule}
 use Rattle.rv_word.proofs.Cases.{cases_Option}
-use Rattle.rv_image.specs.MemoryMap.{CODE_START, Profile, START}
 use Rattle.rv_image.proofs.Profiles.{LaidOut}
-use Rattle.cfi_graph.specs.declared.line.GraphLine.{GraphLine}
-use Rattle.cfi_graph.specs.declared.line.GraphLine.TheVariants.{Calls, Leaf, Class, Site, Edge, Call}
-use Rattle.cfi_graph.specs.declared.line.Key.TheVariants.{Address}
-use Rattle.cfi_graph.specs.Graph.{GraphParts, IsGraph, calls_in, fits_version, has_leaves, is_rising, key_below, key_of}
 use Rattle.cfi_graph.proofs.Rising.{key_transitive}
-use Rattle.cfi_reader.specs.declared.entry.Entry.{Entry}
 use Rattle.cfi_reader.specs.declared.entry.Entry.TheVariants as E
-use Rattle.cfi_reader.specs.Entries.{is_quiet}
-use Rattle.cfi_scan.specs.Pieces.{Listed, prologue_count}
 use Rattle.cfi_pending.specs.Kinds as kinds
-use Rattle.cfi_pending.specs.Kinds.{leaf_of}
-use Rattle.cfi_starts.specs.Entries.{call_at, call_in, count_of, edge_at, edge_in, enters_at, entry_at, fails_target_at, fresh_at, gate_at, gate_in, goes_on, goes_wrong_at, is_enter, is_right_behind_at, lacks_end_at, may_call_at, may_go_at, may_stand, next_at, or_inside, signs_at, site_in, stands_outside, stands_wrong_at, starts_at}
-use Rattle.cfi_fails.specs.Fails.{fails_at, fails_end_at, fails_gate_at, fails_unit_at, is_barred, is_barred_at, is_lone_at, is_stop_entry, is_unused_at, misses_start, misses_start_at}
-use Rattle.cfi_verify.specs.Scan.{Tells, numbers_in}
-use Rattle.cfi_rules.specs.Lines.{holds_of, is_outside, leaves_in, line_at, targets_for}
-use Rattle.cfi_verify.specs.Pass.{HasPassed, HoldsAt, HoldsEarly, KindHoldsAt, NoneStands, ends_in_stop}
-use Rattle.cfi_rules.specs.Rules.{Holds, fails_prologue, is_call_to, is_edge_to, is_site_with, lacks_gate}
-use Rattle.cfi_rules.specs.declared.asks.Asks.{Asks}
-use Rattle.cfi_rules.specs.declared.reject.Rule.{Rule}
 use Rattle.cfi_rules.specs.declared.reject.Rule.TheVariants as R
 use Rattle.cfi_rules.proofs.LineOrder.{line_at-with, pair_below, with_key, without_key}
 use Rattle.cfi_unit.proofs.Counts.{some_word}

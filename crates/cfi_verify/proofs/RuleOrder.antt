@@ -1,8 +1,7 @@
 -- The rules in the order in which they are asked.
 use Rattle.std.proofs.Common.{◌≡◌, ◌<◌, ℕ, ◌+◌, List, [], ◌∷◌, get_or, refl, ap, ◌∙◌, subst, arith, inl, inr}
 use Rattle.std.proofs.lemmas.Bool.{cases_lt}
-use Rattle.cfi_rules.specs.Rules.{order}
-use Rattle.cfi_rules.specs.declared.reject.Rule.{Rule}
+use Rattle.cfi_verify.proofs.Prelude.{order, Rule}
 use Rattle.cfi_rules.specs.declared.reject.Rule.TheVariants as R
 
 abbrev pub rules_listed : List Rule

@@ -3,19 +3,9 @@ use Rattle.std.proofs.Common.{◌≡◌, ◌≢◌, ◌<◌, ◌≤◌, ℕ, ◌
 use Rattle.std.specs.Prelude.{option_map, option_and_then, is_some}
 use Rattle.std.specs.List.{list_all, list_any}
 use Rattle.std.proofs.lemmas.Bool.{and_parts, or_cases, cases_Bool, false_from_ne_true, leb-true, ltb-true, eqb-true, false≢true}
-use Rattle.rv_image.specs.MemoryMap.{CODE_START, Profile, START}
+use Rattle.cfi_verify.proofs.Prelude.{CODE_START, Profile, START, GraphLine, Calls, Leaf, Class, Site, Edge, Call, GraphParts, IsGraph, is_code_address, line_in_range, Place, prologue_count, unit_starts, unit_words, is_start, unit_at, place_at, is_handler, holds_of, leaves_in, line_at, targets_for, fails, edge_of, call_of, site_of, goes_wrong, is_edge_to, is_call_to, is_site_with, is_unused, is_lone_site, is_astray, is_bad_end, lacks_end, may_call_to, may_go, may_stand_at, Asks, Rule}
 use Rattle.rv_image.proofs.Profiles.{LaidOut}
-use Rattle.cfi_graph.specs.declared.line.GraphLine.{GraphLine}
-use Rattle.cfi_graph.specs.declared.line.GraphLine.TheVariants.{Calls, Leaf, Class, Site, Edge, Call}
-use Rattle.cfi_graph.specs.Graph.{GraphParts, IsGraph, is_code_address, line_in_range}
 use Rattle.cfi_unit.specs.declared.unit.Unit as U
-use Rattle.cfi_unit.specs.declared.place.Place.{Place}
-use Rattle.cfi_scan.specs.Pieces.{prologue_count}
-use Rattle.cfi_rules.specs.Split.{unit_starts, unit_words, is_start, unit_at, place_at, is_handler}
-use Rattle.cfi_rules.specs.Lines.{holds_of, leaves_in, line_at, targets_for}
-use Rattle.cfi_rules.specs.Rules.{fails, edge_of, call_of, site_of, goes_wrong, is_edge_to, is_call_to, is_site_with, is_unused, is_lone_site, is_astray, is_bad_end, lacks_end, may_call_to, may_go, may_stand_at}
-use Rattle.cfi_rules.specs.declared.asks.Asks.{Asks}
-use Rattle.cfi_rules.specs.declared.reject.Rule.{Rule}
 use Rattle.cfi_rules.specs.declared.reject.Rule.TheVariants as R
 use Rattle.cfi_verify.proofs.InUnits.{start_within}
 

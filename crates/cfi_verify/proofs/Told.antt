@@ -5,44 +5,18 @@ use Rattle.std.specs.List.{list_any}
 use Rattle.std.proofs.lemmas.Bool.{cases_Bool, cases_lt, cases_eq, le-leb, lt-leb, eqb-true, eq-eqb, ne_eqb, lt-ltb, ltb-true, and_parts, false_from_ne_true, false≢true}
 use Rattle.std.proofs.lemmas.List.{drop-drop}
 use Rattle.std.proofs.Math.Bool.{and-true, and_comm}
-use Rattle.rv_image.specs.declared.version.GraphVersion.{GraphVersion}
-use Rattle.rv_image.specs.declared.version.GraphVersion.TheVariants.{OneLabel, TwoLabels, CalleeSaves}
-use Rattle.rv_image.specs.MemoryMap.{CODE_START, Profile, lies_within, START}
+use Rattle.cfi_verify.proofs.Prelude.{GraphVersion, OneLabel, TwoLabels, CalleeSaves, CODE_START, Profile, lies_within, START, decoded, GraphLine, Calls, Leaf, Class, Site, Edge, Call, ClassLine, GraphParts, calls_in, class_in, Shifts, Short, Long, TargetWord, First, Second, Third, Place, recognised, target_in, BAD_TARGET, BAD_RETURN, DEEP, Fits, after_unit, word_count, begins_at, in_leaf, is_fresh, is_gate, is_gate_there, is_right_behind, leaf_of, may_be_called, may_be_reached, stands_by, is_link, written, Entry, IsOf, Listed, prologue_count, IsSplitUp, last_of, spelled, width, entries_of, inside, is_unit, call_at, call_in, count_of, edge_at, edge_in, end_of, enters_at, entry_at, fresh_at, gate_at, gate_in, goes_wrong_at, is_right_behind_at, is_whole, lacks_end_at, may_be_called_at, may_be_reached_at, may_call_at, may_go_at, may_stand, next_at, or_inside, signs_at, site_at, site_in, stands_outside, stands_within, starts_at, fails_at, is_bad_end_at, is_barred, is_barred_at, is_lone_at, is_of_others, is_stop_entry, is_unused_at, may_not_call, Tells, numbers_in, is_outside, holds_of, leaves_in, line_at, targets_for, is_among, read_of, admits, admitted_in, call_of, edge_of, fails, fails_prologue, gate_of, goes_wrong, is_astray, is_bad_end, is_borne, is_call_to, is_edge_to, is_label, is_lone_site, is_of_version, is_site_with, is_stop, is_unused, lacks_end, lacks_gate, may_call, may_call_to, may_go, may_stand_at, prologue_word_fits, signs_in, site_of, code_words, entry_of, is_handler, is_marked, is_start, place_at, starts, unit_at, unit_starts, unit_words, Asks, Rule}
 use Rattle.rv_image.proofs.Profiles.{LaidOut}
-use Rattle.rv_code.specs.Decode.{decoded}
-use Rattle.cfi_graph.specs.declared.line.GraphLine.{GraphLine}
-use Rattle.cfi_graph.specs.declared.line.GraphLine.TheVariants.{Calls, Leaf, Class, Site, Edge, Call}
-use Rattle.cfi_graph.specs.Graph.{ClassLine, GraphParts, calls_in, class_in}
-use Rattle.cfi_unit.specs.declared.mask.Mask.TheVariants.{Shifts, Short, Long}
-use Rattle.cfi_unit.specs.declared.target_word.TargetWord.{TargetWord}
-use Rattle.cfi_unit.specs.declared.target_word.TargetWord.TheVariants.{First, Second, Third}
 use Rattle.cfi_unit.specs.declared.unit.Unit as U
 use Rattle.cfi_unit.specs.declared.unit.Unit.TheVariants as V
 use Rattle.cfi_unit.specs.declared.unit.SystemOp.TheVariants as S
-use Rattle.cfi_unit.specs.declared.place.Place.{Place}
 use Rattle.cfi_unit.specs.declared.place.Place.TheVariants.{Handler as handler, Opening as opening, Closing as closing, Body as body}
-use Rattle.cfi_unit.specs.Recognise.{recognised, target_in}
-use Rattle.cfi_unit.specs.UnitWords.{BAD_TARGET, BAD_RETURN, DEEP, Fits, after_unit, word_count}
 use Rattle.cfi_pending.specs.Kinds as kinds
-use Rattle.cfi_pending.specs.Kinds.{begins_at, goes_on, in_leaf, is_enter, is_fresh, is_gate, is_gate_there, is_right_behind, leaf_of, may_be_called, may_be_reached, stands_by}
-use Rattle.cfi_pending.specs.Starts.{is_link}
-use Rattle.rv_instr.specs.Operands.{written}
-use Rattle.cfi_reader.specs.declared.entry.Entry.{Entry}
+use Rattle.cfi_pending.specs.Kinds.{goes_on, is_enter}
 use Rattle.cfi_reader.specs.declared.entry.Entry.TheVariants as E
 use Rattle.cfi_reader.specs.Entries as reader
 use Rattle.cfi_reader.specs.Entries.{entry_of as entry_of_unit, numbers_or_none, plain_entry, writes_link}
-use Rattle.cfi_scan.specs.Pieces.{IsOf, Listed, prologue_count}
-use Rattle.cfi_scan.specs.Stream.{IsSplitUp, last_of, spelled, width}
-use Rattle.cfi_reader.specs.Entries.{entries_of, inside, is_unit}
 use Rattle.cfi_starts.specs.Entries as entries
-use Rattle.cfi_starts.specs.Entries.{call_at, call_in, count_of, edge_at, edge_in, end_of, enters_at, entry_at, fresh_at, gate_at, gate_in, goes_wrong_at, is_right_behind_at, is_whole, lacks_end_at, may_be_called_at, may_be_reached_at, may_call_at, may_go_at, may_stand, next_at, or_inside, signs_at, site_at, site_in, stands_outside, stands_within, starts_at}
-use Rattle.cfi_fails.specs.Fails.{fails_at, is_bad_end_at, is_barred, is_barred_at, is_lone_at, is_of_others, is_stop_entry, is_unused_at, may_not_call}
-use Rattle.cfi_verify.specs.Scan.{Tells, numbers_in}
-use Rattle.cfi_rules.specs.Lines.{is_outside, holds_of, leaves_in, line_at, targets_for, is_among, read_of}
-use Rattle.cfi_rules.specs.Rules.{admits, admitted_in, call_of, edge_of, fails, fails_prologue, gate_of, goes_wrong, is_astray, is_bad_end, is_borne, is_call_to, is_edge_to, is_label, is_lone_site, is_of_version, is_site_with, is_stop, is_unused, lacks_end, lacks_gate, may_call, may_call_to, may_go, may_stand_at, prologue_word_fits, signs_in, site_of}
-use Rattle.cfi_rules.specs.Split.{code_words, entry_of, is_handler, is_marked, is_start, place_at, starts, unit_at, unit_starts, unit_words}
-use Rattle.cfi_rules.specs.declared.asks.Asks.{Asks}
-use Rattle.cfi_rules.specs.declared.reject.Rule.{Rule}
 use Rattle.cfi_rules.specs.declared.reject.Rule.TheVariants as R
 use Rattle.cfi_verify.proofs.Cut.{cut_count, cut_is}
 use Rattle.cfi_rules.proofs.Find.{no_start_below, no_start_odd, no_unit, start_parts}

@@ -5,14 +5,9 @@ use Rattle.std.proofs.lemmas.Bool.{cases_lt, le-leb}
 use Rattle.std.proofs.lemmas.Option.{some_pair_parts}
 use Rattle.std.proofs.lemmas.List.Elements.{All-take}
 use Rattle.rv_word.proofs.Cases.{cases_Option}
-use Rattle.cfi_unit.specs.declared.mask.Mask.{Mask}
-use Rattle.cfi_unit.specs.declared.mask.Mask.TheVariants.{Shifts, Short, Long}
+use Rattle.cfi_verify.proofs.Prelude.{Mask, Shifts, Short, Long, MOST_MEMBERS, member_of, AreWords, recognised, Begins, instr_at, mask_words, may_precede, near_offset, skips_jump, word_count}
 use Rattle.cfi_unit.specs.declared.unit.Unit as U
 use Rattle.cfi_unit.specs.declared.unit.Unit.TheVariants as V
-use Rattle.cfi_unit.specs.Members.{MOST_MEMBERS, member_of}
-use Rattle.cfi_unit.specs.Laws.{AreWords}
-use Rattle.cfi_unit.specs.Recognise.{recognised}
-use Rattle.cfi_unit.specs.UnitWords.{Begins, instr_at, mask_words, may_precede, near_offset, skips_jump, word_count}
 use Rattle.cfi_unit.proofs.Counts.{most_words}
 use Rattle.cfi_unit.proofs.Found.{begins_recognised}
 use Rattle.cfi_unit.proofs.Told.{recognised_begins}

@@ -2,18 +2,8 @@
 use Rattle.std.proofs.Common.{◌≡◌, ◌+◌, ℕ, ◌<◌, ◌≤◌, inl, inr, List, [], ◌∷◌, length, drop, get_or, refl, sym, subst, ◌∙◌}
 use Rattle.std.proofs.lemmas.List.{drop_all}
 use Rattle.rv_word.proofs.Lists.{drop_step}
-use Rattle.rv_image.specs.Image.{Contents}
-use Rattle.rv_image.specs.MemoryMap.{IsProfile, Profile}
-use Rattle.cfi_graph.specs.Graph.{GraphParts}
-use Rattle.cfi_graph.specs.declared.line.GraphLine.{GraphLine}
-use Rattle.cfi_unit.specs.Prologue.{OPENING}
-use Rattle.cfi_rules.specs.Along.{IsSafe}
-use Rattle.cfi_rules.specs.Rules.{IsWellFormed}
-use Rattle.cfi_rules.specs.Split.{code_words}
-use Rattle.cfi_rules.specs.Walks.{AreSteps, IsGraphWalk, IsStep, IsWalked, WalkState, walk_start}
+use Rattle.cfi_walk.proofs.Prelude.{Contents, IsProfile, Profile, GraphParts, GraphLine, OPENING, IsSafe, IsWellFormed, code_words, AreSteps, IsGraphWalk, IsStep, IsWalked, WalkState, walk_start, AreSites, LeadTo, StopAt}
 use Rattle.cfi_rules.proofs.Walks.{safe_walks}
-use Rattle.cfi_walk.specs.Laws.{AreSites}
-use Rattle.cfi_walk.specs.Trail.{LeadTo, StopAt}
 use Rattle.cfi_walk.proofs.Sites.{sites_kept}
 use Rattle.cfi_walk.proofs.Unique.{one_step}
 

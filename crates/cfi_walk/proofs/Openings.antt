@@ -1,12 +1,7 @@
 -- By a graph's version, who saves the sites of calls in code of the pair.
 use Rattle.std.proofs.Common.{◌≡◌, true, false, ap, ◌∙◌}
-use Rattle.rv_image.specs.declared.version.GraphVersion.{GraphVersion}
-use Rattle.rv_image.specs.declared.version.GraphVersion.TheVariants.{OneLabel, TwoLabels, CalleeSaves}
-use Rattle.rv_image.specs.Image.{Contents}
-use Rattle.rv_image.specs.MemoryMap.{lean_profile_of, profile_of, profile_under}
+use Rattle.cfi_walk.proofs.Prelude.{GraphVersion, OneLabel, TwoLabels, CalleeSaves, Contents, lean_profile_of, profile_of, profile_under, GraphParts, pair_profile}
 use Rattle.rv_image.proofs.Profiles.{full_saves, is_full, is_lean, lean_saves}
-use Rattle.cfi_graph.specs.Graph.{GraphParts}
-use Rattle.cfi_rules.specs.Rules.{pair_profile}
 
 pub callees_save : (image : Contents) (graph : GraphParts) → graph.version ≡ CalleeSaves → (pair_profile image graph).callee_saves ≡ true
 callees_save image graph e =

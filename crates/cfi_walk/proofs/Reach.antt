@@ -2,17 +2,11 @@
 use Rattle.std.proofs.Common.{◌≡◌, ℕ, ◌*◌, ◌-◌, ◌/◌, ◌^◌, ◌<◌, ◌≤◌, ◌⊎◌, inl, inr, List, length, drop, Option, Some, None, sym, ap, ◌∙◌, arith}
 use Rattle.std.specs.Prelude.{◌==◌, ◌||◌, true, option_map}
 use Rattle.std.proofs.lemmas.Bool.{eqb-true, or_cases}
-use Rattle.rv_image.specs.Image.{Contents, IsImageSize}
-use Rattle.rv_image.specs.MemoryMap.{CODE_START, Profile}
+use Rattle.cfi_walk.proofs.Prelude.{Contents, IsImageSize, CODE_START, Profile, Place, OPENING, recognised, BAD_TARGET, BAD_RETURN, DEEP, code_words, is_start, unit_at, is_handler, entry_of, place_at}
 use Rattle.rv_word.proofs.Cases.{cases_Option, chosen}
 use Rattle.rv_image.proofs.Profiles.{LaidOut}
 use Rattle.cfi_unit.specs.declared.unit.Unit as U
-use Rattle.cfi_unit.specs.declared.place.Place.{Place}
 use Rattle.cfi_unit.specs.declared.place.Place.TheVariants.{Handler as handler, Opening as opening, Closing as closing, Body as body}
-use Rattle.cfi_unit.specs.Prologue.{OPENING}
-use Rattle.cfi_unit.specs.Recognise.{recognised}
-use Rattle.cfi_unit.specs.UnitWords.{BAD_TARGET, BAD_RETURN, DEEP}
-use Rattle.cfi_rules.specs.Split.{code_words, is_start, unit_at, is_handler, entry_of, place_at}
 use Rattle.cfi_rules.proofs.Bytes.{length-code_words}
 use Rattle.cfi_verify.proofs.InUnits.{IsInUnits, start_within}
 

@@ -1,21 +1,12 @@
 -- A step leaves sites pending: what it puts on top lies above the handlers.
 use Rattle.std.proofs.Common.{◌≡◌, ℕ, ◌+◌, ◌<◌, ◌≤◌, ◌⊎◌, inl, inr, Bool, true, false, List, [], ◌∷◌, Some, refl, sym, ap, subst, ◌∙◌, arith}
-use Rattle.rv_image.specs.MemoryMap.{Profile}
+use Rattle.cfi_walk.proofs.Prelude.{Profile, GraphLine, TargetWord, Third, Place, Exit, Flow, flow_of, BAD_TARGET, DEEP, after_unit, code_words, CallGoes, JumpGoes, ComputedCallGoes, ComputedLinkGoes, ExitGoes, FlowGoes, LeafGoes, LinkGoes, OpeningGoes, ReturnGoes, SaveGoes, Goes, To, AreSites, StepKeepsSites}
 use Rattle.rv_image.proofs.Profiles.{LaidOut, laid_out}
-use Rattle.cfi_graph.specs.declared.line.GraphLine.{GraphLine}
-use Rattle.cfi_unit.specs.declared.target_word.TargetWord.{TargetWord}
-use Rattle.cfi_unit.specs.declared.target_word.TargetWord.TheVariants.{Third}
 use Rattle.cfi_unit.specs.declared.unit.Unit as U
 use Rattle.cfi_unit.specs.declared.unit.SystemOp.TheVariants as S
-use Rattle.cfi_unit.specs.declared.place.Place.{Place}
 use Rattle.cfi_unit.specs.declared.place.Place.TheVariants.{Handler as handler, Opening as opening, Closing as closing, Body as body}
 use Rattle.cfi_unit.specs.Flow as F
-use Rattle.cfi_unit.specs.Flow.{Exit, Flow, flow_of}
-use Rattle.cfi_unit.specs.UnitWords.{BAD_TARGET, DEEP, after_unit}
 use Rattle.cfi_unit.proofs.Flows.{entered, linked_back, linking_call, linking_computed_call, Suits, is_untested, suits, untested, direct_call, guarded_call, computed_jump, computed_call, turned_back}
-use Rattle.cfi_rules.specs.Split.{code_words}
-use Rattle.cfi_rules.specs.Walk.{CallGoes, JumpGoes, ComputedCallGoes, ComputedLinkGoes, ExitGoes, FlowGoes, LeafGoes, LinkGoes, OpeningGoes, ReturnGoes, SaveGoes, Goes, To}
-use Rattle.cfi_walk.specs.Laws.{AreSites, StepKeepsSites}
 use Rattle.cfi_walk.proofs.Reach.{body_low}
 
 same : (before after : List ℕ) → AreSites before → after ≡ before → AreSites after

@@ -1,31 +1,15 @@
 -- An address fixes the step to it: no site and no target of a class is a handler.
 use Rattle.std.proofs.Common.{◌≡◌, ℕ, ◌+◌, ◌<◌, Bool, true, false, Some, refl, inl, inr, List, [], ◌∷◌, sym, ap, subst, ◌∙◌, arith}
 use Rattle.std.proofs.lemmas.Bool.{false≢true}
-use Rattle.rv_image.specs.Image.{Contents}
-use Rattle.rv_image.specs.declared.version.GraphVersion.{GraphVersion}
-use Rattle.rv_image.specs.MemoryMap.{Profile}
+use Rattle.cfi_walk.proofs.Prelude.{Contents, GraphVersion, Profile, GraphLine, SiteKind, GraphParts, TargetWord, First, Third, Place, Flow, flow_of, BAD_TARGET, DEEP, after_unit, holds_of, is_among, leaves_in, targets_for, IsWellFormed, asked_by, code_words, InClass, CallGoes, ComputedCallGoes, ComputedLinkGoes, FlowGoes, LeafGoes, OpeningGoes, ReturnGoes, Goes, WalkState, AreSites, StepIsUnique}
 use Rattle.rv_word.proofs.Cases.{cases_Option}
 use Rattle.rv_image.proofs.Profiles.{LaidOut, laid_out}
-use Rattle.cfi_graph.specs.declared.line.GraphLine.{GraphLine}
-use Rattle.cfi_graph.specs.declared.line.SiteKind.{SiteKind}
 use Rattle.cfi_graph.specs.declared.line.SiteKind.TheVariants as K
-use Rattle.cfi_graph.specs.Graph.{GraphParts}
-use Rattle.cfi_unit.specs.declared.target_word.TargetWord.{TargetWord}
-use Rattle.cfi_unit.specs.declared.target_word.TargetWord.TheVariants.{First, Third}
-use Rattle.cfi_unit.specs.declared.place.Place.{Place}
 use Rattle.cfi_unit.specs.declared.place.Place.TheVariants.{Handler as handler, Opening as opening, Closing as closing, Body as body}
 use Rattle.cfi_unit.specs.declared.unit.Unit as U
-use Rattle.cfi_unit.specs.Flow.{Flow, flow_of}
-use Rattle.cfi_unit.specs.UnitWords.{BAD_TARGET, DEEP, after_unit}
 use Rattle.cfi_unit.proofs.Flows.{entered, linked_back, linking_call, linking_computed_call, Suits, suits, untested, direct_call, guarded_call, computed_jump, computed_call, turned_back}
-use Rattle.cfi_rules.specs.Lines.{holds_of, is_among, leaves_in, targets_for}
-use Rattle.cfi_rules.specs.Rules.{IsWellFormed, asked_by}
-use Rattle.cfi_rules.specs.Split.{code_words}
-use Rattle.cfi_rules.specs.Walk.{InClass, CallGoes, ComputedCallGoes, ComputedLinkGoes, FlowGoes, LeafGoes, OpeningGoes, ReturnGoes, Goes}
-use Rattle.cfi_rules.specs.Walks.{WalkState}
 use Rattle.cfi_rules.proofs.RuleFacts.{Reads, landing, target_bears, unit_borne, unit_reads}
 use Rattle.cfi_rules.proofs.Served.{read_by}
-use Rattle.cfi_walk.specs.Laws.{AreSites, StepIsUnique}
 use Rattle.cfi_walk.proofs.Reach.{body_unit, unit_within}
 use Rattle.cfi_walk.proofs.Sites.{either_kept, exit_kept, jump_kept, save_kept}
 

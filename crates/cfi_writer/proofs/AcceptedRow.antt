@@ -4,34 +4,10 @@ use Rattle.std.proofs.Common.{◌≡◌, ℕ, zero, suc, ◌+◌, ◌^◌, ◌<�
 use Rattle.std.specs.Prelude.{is_some, nat_lt, slice_index_or}
 use Rattle.std.proofs.lemmas.Bool.{agree_below, agree_below_at, ltb-true}
 use Rattle.std.proofs.lemmas.Option.{same_Some}
-use Rattle.rv_code.specs.Decode.{decoded}
-use Rattle.rv_code.specs.Encode.{code_of}
-use Rattle.obj_program.specs.declared.item.Item.{Item}
-use Rattle.obj_program.specs.AtMap.{instr_at}
-use Rattle.obj_program.specs.Program.{AreInOrder, count, is_before, is_end, item_of, no_item}
-use Rattle.obj_program.specs.Sound.{IsSound, aims, is_patch, is_read}
-use Rattle.cfi_class.specs.Classes.{IsIn}
-use Rattle.cfi_class.specs.Labels.{AreLabels}
+use Rattle.cfi_writer.proofs.Prelude.{decoded, code_of, Item, instr_at, AreInOrder, count, is_before, is_end, item_of, no_item, IsSound, aims, is_patch, is_read, IsIn, AreLabels, SiteKind, Both, Site, Side, has_site, is_of, head, is_spoilt_by, ProgramAtMap, words_at, used_labels, empty_classes, label_at, labels_of, site_label, site_number, tagged, AreGroups, AreGates, whole_at, words_from, site_kind, words_of, code_from, IsAccepted, IsShortAt, is_branch, Choice, bounds_at, followers, is_later_at, units_of}
 use Rattle.std.specs.List.Sorted.{IsStrictlyIncreasing}
 use Rattle.rv_word.proofs.Booleans.{implied}
-use Rattle.cfi_graph.specs.declared.line.SiteKind.{SiteKind}
-use Rattle.cfi_graph.specs.declared.line.Sort.TheVariants.{Both}
 use Rattle.cfi_class.proofs.Sets.{in_none}
-use Rattle.cfi_closed.specs.declared.side.Site.{Site}
-use Rattle.cfi_closed.specs.Closed.{Side, has_site, is_of}
-use Rattle.cfi_leads.specs.Leaves.{head, is_spoilt_by}
-use Rattle.cfi_map.specs.GraphAtMap.{ProgramAtMap, words_at}
-use Rattle.cfi_flow.specs.Labels.{used_labels}
-use Rattle.cfi_map.specs.LabelOf.{empty_classes, label_at, labels_of, site_label, site_number, tagged}
-use Rattle.cfi_map.specs.Groups.{AreGroups}
-use Rattle.cfi_map.specs.Placement.{AreGates, whole_at, words_from}
-use Rattle.cfi_flow.specs.Sites.{site_kind}
-use Rattle.cfi_unit.specs.UnitWords.{words_of}
-use Rattle.cfi_rules.specs.Placed.{code_from}
-use Rattle.cfi_writer.specs.Accepted.{IsAccepted}
-use Rattle.cfi_map.specs.PlacingLaws.{IsShortAt}
-use Rattle.cfi_map.specs.Shorts.{is_branch}
-use Rattle.cfi_writer.specs.Units.{Choice, bounds_at, followers, is_later_at, units_of}
 use Rattle.cfi_writer.proofs.Grouping.{later_below}
 use Rattle.cfi_writer.proofs.LeanRows.{calling_leaf, no_sides}
 use Rattle.cfi_writer.proofs.WrittenRows.{pointer, short, short_of_harts}

@@ -2,9 +2,7 @@
 use Rattle.std.proofs.Common.{◌≡◌, ℕ, ◌<◌, true, not, ◌&&◌, Option, Some, None, arith}
 use Rattle.std.specs.Prelude.{nat_lt}
 use Rattle.std.proofs.lemmas.Bool.{and_parts, ltb-true}
-use Rattle.obj_input.specs.declared.item_kind.ItemKind.{ItemKind}
-use Rattle.obj_program.specs.Program.{Program, count, is_end, item_of}
-use Rattle.obj_program.specs.Sound.{IsSound, aims, is_direct}
+use Rattle.cfi_writer.proofs.Prelude.{ItemKind, Program, count, is_end, item_of, IsSound, aims, is_direct}
 
 aimed : (program : Program) (kind : ItemKind) (target : Option ℕ) (t : ℕ) → aims program kind target ≡ true → target ≡ Some t → t < count program
 aimed program kind None t is some = absurd (cc)

@@ -4,39 +4,13 @@ use Rattle.std.proofs.Common.{◌≡◌, ℕ, zero, suc, ◌+◌, ◌-◌, ◌*�
 use Rattle.std.specs.Prelude.{IsTrue, is_some, nat_le, not, option_and_then, slice_get, slice_index}
 use Rattle.std.proofs.lemmas.Bool.{and_from, le-leb}
 use Rattle.std.proofs.lemmas.Option.{get_or_from_slice_get, same_Some, slice_get_within, slice_get-get_or}
-use Rattle.rv_image.specs.declared.version.GraphVersion.{GraphVersion}
-use Rattle.rv_image.specs.declared.version.GraphVersion.TheVariants.{OneLabel, TwoLabels, CalleeSaves}
-use Rattle.rv_image.specs.MemoryMap.{Profile}
-use Rattle.rv_code.specs.Decode.{decoded}
-use Rattle.obj_input.specs.declared.item_kind.ItemKind.{ItemKind}
+use Rattle.cfi_writer.proofs.Prelude.{GraphVersion, OneLabel, TwoLabels, CalleeSaves, Profile, decoded, ItemKind, count, is_end, item_of, no_item, has, ClassLine, class_in, has_leaves, Sort, is_target, is_target_of, is_gate, used_labels, enters, in_leaf, aim_of, entered_in, gate, word, words_at, Tagged, labels_of, site_label, tagged, whole_at, TargetWord, First, Second, Third, past, Leaf, is_enter, is_fresh, class_with, is_among, is_word_of, leaves_in, read_of, Bears, StartsIn, unit_in, IsAccepted, written_classes, written_heads, word_of_side, Choice, group_at, instr_of, is_later_at, lead, lead_unit, unit_here, units}
 use Rattle.obj_input.specs.declared.item_kind.ItemKind.TheVariants as is
-use Rattle.obj_program.specs.Program.{count, is_end, item_of, no_item}
 use Rattle.obj_program.specs.Sound.{is_of}
 use Rattle.obj_program.proofs.Read.{read_there}
-use Rattle.cfi_class.specs.Classes.{has}
-use Rattle.cfi_graph.specs.Graph.{ClassLine, class_in, has_leaves}
-use Rattle.cfi_graph.specs.declared.line.Sort.{Sort}
 use Rattle.cfi_graph.specs.declared.line.Sort.TheVariants as sorts
-use Rattle.cfi_closed.specs.Closed.{is_target, is_target_of}
-use Rattle.cfi_flow.specs.Labels.{is_gate, used_labels}
-use Rattle.cfi_leads.specs.Leads.{enters}
-use Rattle.cfi_leads.specs.Leaves.{in_leaf}
-use Rattle.cfi_map.specs.GraphAtMap.{aim_of, entered_in, gate, word, words_at}
-use Rattle.cfi_map.specs.LabelOf.{Tagged, labels_of, site_label, tagged}
-use Rattle.cfi_map.specs.Placement.{whole_at}
-use Rattle.cfi_unit.specs.declared.target_word.TargetWord.{TargetWord}
-use Rattle.cfi_unit.specs.declared.target_word.TargetWord.TheVariants.{First, Second, Third}
 use Rattle.cfi_unit.specs.declared.unit.Unit as U
 use Rattle.cfi_unit.specs.declared.unit.Unit.TheVariants as V
-use Rattle.cfi_unit.specs.UnitWords.{past}
-use Rattle.cfi_pending.specs.Kinds.{Leaf, is_enter, is_fresh}
-use Rattle.cfi_rules.specs.Lines.{class_with, is_among, is_word_of, leaves_in, read_of}
-use Rattle.cfi_rules.specs.Sound.{Bears, StartsIn}
-use Rattle.cfi_rules.specs.Split.{unit_in}
-use Rattle.cfi_writer.specs.Accepted.{IsAccepted}
-use Rattle.cfi_writer.specs.Laws.{written_classes, written_heads}
-use Rattle.cfi_writer.specs.SideLaws.{word_of_side}
-use Rattle.cfi_writer.specs.Units.{Choice, group_at, instr_of, is_later_at, lead, lead_unit, unit_here, units}
 use Rattle.cfi_writer.proofs.ClassLines.{targets_of}
 use Rattle.cfi_writer.proofs.CodeRoom.{target_entered}
 use Rattle.cfi_writer.proofs.FreshStarts.{stands}

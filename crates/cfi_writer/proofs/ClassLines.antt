@@ -5,18 +5,8 @@ use Rattle.std.specs.List.{list_all}
 use Rattle.std.specs.List.Sorted.{IsStrictlyIncreasing}
 use Rattle.std.proofs.lemmas.Bool.{and_from, cases_Bool, eq-eqb, eqb-true, lt-ltb, or_cases, or_left, or_right}
 use Rattle.std.proofs.lemmas.Option.{same_Some}
-use Rattle.rv_image.specs.declared.version.GraphVersion.{GraphVersion}
-use Rattle.cfi_graph.specs.declared.line.GraphLine.TheVariants.{Class}
-use Rattle.cfi_graph.specs.declared.line.GraphLine.{GraphLine}
-use Rattle.cfi_graph.specs.declared.line.SiteKind.{SiteKind}
-use Rattle.cfi_graph.specs.declared.line.Sort.{Sort}
-use Rattle.cfi_graph.specs.Graph.{ClassLine, class_in, fits_version, is_class, is_code_address, is_label, is_rising, is_sort_of, key_below, key_of, line_in_range, targets_rise}
-use Rattle.cfi_class.specs.Classes.{has}
+use Rattle.cfi_writer.proofs.Prelude.{GraphVersion, Class, GraphLine, SiteKind, Sort, ClassLine, class_in, fits_version, is_class, is_code_address, is_label, is_rising, is_sort_of, key_below, key_of, line_in_range, targets_rise, has, class_lines, Tagged, TargetWord, class_with, if_serves, is_among, or_class, serves, targets_for}
 use Rattle.cfi_flow.proofs.Rising.{tail_rises}
-use Rattle.cfi_map.specs.GraphAtMap.{class_lines}
-use Rattle.cfi_map.specs.LabelOf.{Tagged}
-use Rattle.cfi_unit.specs.declared.target_word.TargetWord.{TargetWord}
-use Rattle.cfi_rules.specs.Lines.{class_with, if_serves, is_among, or_class, serves, targets_for}
 
 -- a gate is among those of a class just where its place is a member
 pub among_to : (gates : ℕ → ℕ) (class : List ℕ) (k : ℕ) → has k class ≡ true → is_among (gates k) (map gates class) ≡ true

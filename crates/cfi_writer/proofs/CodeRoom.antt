@@ -4,29 +4,14 @@ use Rattle.std.specs.Prelude.{◌&&◌, ◌==◌, ◌-◌, ◌≤◌, not, is_so
 use Rattle.std.proofs.lemmas.Bool.{and_from, cases_Bool, not_from_false, or_left, or_right}
 use Rattle.std.proofs.lemmas.List.FromFn.{length-map-range_with_len}
 use Rattle.rv_word.proofs.Cases.{cases_Option}
-use Rattle.rv_instr.specs.declared.instr.Instr.{Instr}
+use Rattle.cfi_writer.proofs.Prelude.{Instr, CODE_SIZE, CODE_START, IsProfile, instr_at, count, is_end, item_of, IsSound, names_reserved, suits, ItemKind, decoded, entered_in, gate, words_at, is_target, in_leaf, AreGroups, is_direct_target, AreGates, is_ecall, is_ecall_instr, whole_at, word_count, code_from, placed_code, part_sizes, Choice, behind, bounds_at, entry_arrival, group_at, instr_of, later_from, lead, low_at, member_at, unit_here, unit_places, units, units_of}
 use Rattle.rv_instr.specs.declared.instr.Instr.TheVariants as I
-use Rattle.rv_image.specs.MemoryMap.{CODE_SIZE, CODE_START, IsProfile}
-use Rattle.obj_program.specs.AtMap.{instr_at}
-use Rattle.obj_program.specs.Program.{count, is_end, item_of}
-use Rattle.obj_program.specs.Sound.{IsSound, is_of}
-use Rattle.obj_program.specs.Suits.{names_reserved, suits}
+use Rattle.obj_program.specs.Sound.{is_of}
 use Rattle.obj_program.proofs.Kept.{kept}
 use Rattle.obj_program.proofs.Read.{read_there}
-use Rattle.obj_input.specs.declared.item_kind.ItemKind.{ItemKind}
 use Rattle.obj_input.specs.declared.item_kind.ItemKind.TheVariants as is
-use Rattle.rv_code.specs.Decode.{decoded}
-use Rattle.cfi_map.specs.GraphAtMap.{entered_in, gate, words_at}
-use Rattle.cfi_closed.specs.Closed.{is_target}
-use Rattle.cfi_leads.specs.Leaves.{in_leaf}
-use Rattle.cfi_map.specs.Groups.{AreGroups, is_direct_target}
-use Rattle.cfi_map.specs.Placement.{AreGates, is_ecall, is_ecall_instr, whole_at}
 use Rattle.cfi_unit.specs.declared.unit.Unit as U
-use Rattle.cfi_unit.specs.UnitWords.{word_count}
-use Rattle.cfi_rules.specs.Placed.{code_from, placed_code}
 use Rattle.cfi_rules.proofs.UnitIn.{length-code_from, length-placed_code}
-use Rattle.cfi_map.specs.Sizes.{part_sizes}
-use Rattle.cfi_writer.specs.Units.{Choice, behind, bounds_at, entry_arrival, group_at, instr_of, later_from, lead, low_at, member_at, unit_here, unit_places, units, units_of}
 use Rattle.cfi_writer.proofs.Entering.{unentered_lead}
 use Rattle.cfi_writer.proofs.Grouping.{later_joins, no_first_later, none_behind, none_later, whole_first}
 use Rattle.cfi_writer.proofs.InstrAt.{own_system}

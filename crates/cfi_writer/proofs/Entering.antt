@@ -4,19 +4,10 @@ use Rattle.std.proofs.Common.{◌≡◌, ℕ, ◌+◌, ◌*◌, inl, inr, Bool, 
 use Rattle.std.specs.Prelude.{◌==◌, ◌||◌, not, if◌then◌else◌, slice_index_or}
 use Rattle.std.specs.List.{list_any}
 use Rattle.std.proofs.lemmas.Bool.{and_from, and_left, and_parts, and_right, false_from_ne_true, not-true, not_from_false, not_from_true, or_cases, or_left, or_parts, or_right, true≢false}
-use Rattle.rv_image.specs.declared.version.GraphVersion.{GraphVersion}
-use Rattle.rv_image.specs.declared.version.GraphVersion.TheVariants.{OneLabel, TwoLabels, CalleeSaves}
-use Rattle.obj_program.specs.declared.item.Item.{Item}
-use Rattle.obj_program.specs.Program.{Program, count, is_end, item_of}
+use Rattle.cfi_writer.proofs.Prelude.{GraphVersion, OneLabel, TwoLabels, CalleeSaves, Item, Program, count, is_end, item_of, Side, is_of, is_target, is_target_of, Entered, aims_at, call_target, if_kind, is_call, is_call_target, is_called, is_entry, serves_calls, enters, lead_size, lead_words, begins, in_leaf, is_leaf, is_spoilt_by, is_direct_target, is_entered}
 use Rattle.cfi_graph.specs.declared.line.SiteKind.TheVariants as site
-use Rattle.cfi_closed.specs.Closed.{Side, is_of, is_target, is_target_of}
-use Rattle.cfi_leads.specs.Entered.{Entered}
-use Rattle.cfi_leads.specs.Entries.{aims_at, call_target, if_kind, is_call, is_call_target, is_called, is_entry, serves_calls}
-use Rattle.cfi_leads.specs.Leads.{enters, lead_size, lead_words}
-use Rattle.cfi_leads.specs.Leaves.{begins, in_leaf, is_leaf, is_spoilt_by}
 use Rattle.cfi_leads.proofs.Ends.{entry_begins}
 use Rattle.cfi_leads.proofs.Tables.{head_of_first}
-use Rattle.cfi_map.specs.Groups.{is_direct_target, is_entered}
 
 -- where one test implies another, so it does of some of a list
 any_of : {A : Type 0} (p q : A → Bool) → ((x : A) → p x ≡ true → q x ≡ true) → (xs : List A) → list_any p xs ≡ true → list_any q xs ≡ true

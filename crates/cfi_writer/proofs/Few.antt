@@ -11,35 +11,10 @@ use Rattle.std.proofs.lemmas.List.Folds.{list_any_at}
 use Rattle.std.proofs.lemmas.List.Sums.{count_by_more_no, count_by_more_yes, length-filter, sum_by-cons}
 use Rattle.std.proofs.lemmas.Option.{get_or_from_slice_get, slice_get_within}
 use Rattle.rv_word.proofs.Cases.{cases_Option}
-use Rattle.rv_image.specs.MemoryMap.{CODE_SIZE}
-use Rattle.obj_input.specs.declared.item_kind.ItemKind.{ItemKind}
+use Rattle.cfi_writer.proofs.Prelude.{CODE_SIZE, ItemKind, Item, Program, count, item_of, no_item, SiteKind, Sort, PolicyParts, Site, ClosedGraph, Side, is_target, is_target_of, where_below, IsClosed, has, Tagged, all_classes, empty_classes, tag, tagged, with_empty, is_gate, used_labels, GraphVersion, OneLabel, TwoLabels, CalleeSaves, Entered, entered_at, lead_size, in_leaf, is_short, is_ecall, kind_size, lean_size, size_by, size_of, site_kind, IsRaw, RawGraph, IsGraphOf, part_sizes, whole_sizes}
 use Rattle.obj_input.specs.declared.item_kind.ItemKind.TheVariants as is
-use Rattle.obj_program.specs.declared.item.Item.{Item}
-use Rattle.obj_program.specs.Program.{Program, count, item_of, no_item}
-use Rattle.cfi_graph.specs.declared.line.SiteKind.{SiteKind}
-use Rattle.cfi_graph.specs.declared.line.Sort.{Sort}
-use Rattle.cfi_policy.specs.Policy.{PolicyParts}
-use Rattle.cfi_closed.specs.declared.side.Site.{Site}
-use Rattle.cfi_closed.specs.Closed.{ClosedGraph, Side, is_target, is_target_of}
 use Rattle.cfi_closed.proofs.Sides.{few_sides}
-use Rattle.cfi_flow.specs.Below.{where_below}
-use Rattle.cfi_flow.specs.Closing.{IsClosed}
-use Rattle.cfi_class.specs.Classes.{has}
-use Rattle.cfi_map.specs.LabelOf.{Tagged, all_classes, empty_classes, tag, tagged, with_empty}
-use Rattle.cfi_flow.specs.Labels.{is_gate, used_labels}
-use Rattle.rv_image.specs.declared.version.GraphVersion.{GraphVersion}
-use Rattle.rv_image.specs.declared.version.GraphVersion.TheVariants.{OneLabel, TwoLabels, CalleeSaves}
-use Rattle.cfi_leads.specs.Entered.{Entered, entered_at}
-use Rattle.cfi_leads.specs.Leads.{lead_size}
-use Rattle.cfi_leads.specs.Leaves.{in_leaf}
-use Rattle.cfi_map.specs.Groups.{is_short}
-use Rattle.cfi_map.specs.Placement.{is_ecall, kind_size, lean_size, size_by, size_of}
-use Rattle.cfi_flow.specs.Sites.{site_kind}
-use Rattle.cfi_flow.specs.Policy.{IsRaw}
-use Rattle.cfi_flow.specs.Raw.{RawGraph}
 use Rattle.cfi_flow.proofs.Laws.{is_kind_of, is_site_of, members_there, place_of_site, side_places}
-use Rattle.cfi_writer.specs.GraphOf.{IsGraphOf}
-use Rattle.cfi_map.specs.Sizes.{part_sizes, whole_sizes}
 use Rattle.cfi_writer.proofs.Plain.{lead_some}
 use Rattle.cfi_writer.proofs.SideLabels.{any_get}
 use Rattle.cfi_writer.proofs.SitesThere.{side_at}

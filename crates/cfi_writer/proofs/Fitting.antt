@@ -3,32 +3,12 @@ use Rattle.std.proofs.Common.{◌≡◌, ◌≢◌, ℕ, ◌+◌, ◌*◌, ◌%�
 use Rattle.std.specs.Prelude.{◌&&◌, ◌||◌, ◌==◌, nat_le, nat_lt, not}
 use Rattle.std.specs.List.{AllByRecursion, list_all}
 use Rattle.std.proofs.lemmas.Bool.{and_from, and_parts, leb-true, ltb-true, not-true, or_parts}
-use Rattle.rv_image.specs.MemoryMap.{CODE_SIZE, CODE_START, START}
-use Rattle.rv_image.specs.declared.version.GraphVersion.{GraphVersion}
-use Rattle.rv_image.specs.declared.version.GraphVersion.TheVariants.{OneLabel, TwoLabels, CalleeSaves}
-use Rattle.rv_instr.specs.InRange.{IsInstr}
-use Rattle.rv_instr.specs.Reserved.{is_reserved}
-use Rattle.rv_instr.specs.declared.instr.Instr.{Instr}
+use Rattle.cfi_writer.proofs.Prelude.{CODE_SIZE, CODE_START, START, GraphVersion, OneLabel, TwoLabels, CalleeSaves, IsInstr, is_reserved, Instr, UpperOp, Lui, Auipc, ItemKind, is_direct, IsNumber, MOST_NUMBERS, may_be_calls, are_calls, is_rising, AreNumbers, AreMembers, BAD_RETURN, BAD_TARGET, CheckFits, DEEP, Fits, IsNear, MaskFits, Reaches, is_lui, is_plain, word_count, is_store, is_branch, TargetWord, jump_word, Group, call_unit, lean_unit_of, unit_by, unit_of}
 use Rattle.rv_instr.specs.declared.instr.Instr.TheVariants as I
-use Rattle.rv_instr.specs.declared.instr.UpperOp.{UpperOp}
-use Rattle.rv_instr.specs.declared.instr.UpperOp.TheVariants.{Lui, Auipc}
-use Rattle.obj_input.specs.declared.item_kind.ItemKind.{ItemKind}
 use Rattle.obj_input.specs.declared.item_kind.ItemKind.TheVariants as is
-use Rattle.obj_program.specs.Sound.{is_direct}
 use Rattle.obj_program.specs.Suits as of
-use Rattle.rv_word.specs.Numbers.{IsNumber, MOST_NUMBERS}
-use Rattle.cfi_graph.specs.Calls.{may_be_calls}
-use Rattle.cfi_graph.specs.Graph.{are_calls, is_rising}
-use Rattle.cfi_unit.specs.Guarded.{AreNumbers}
-use Rattle.cfi_unit.specs.Members.{AreMembers}
-use Rattle.cfi_unit.specs.UnitWords.{BAD_RETURN, BAD_TARGET, CheckFits, DEEP, Fits, IsNear, MaskFits, Reaches, is_lui, is_plain, word_count}
 use Rattle.cfi_unit.proofs.Near.{branch_reached, near_reached}
-use Rattle.cfi_map.specs.Groups.{is_store}
-use Rattle.cfi_map.specs.Shorts.{is_branch}
-use Rattle.cfi_unit.specs.declared.target_word.TargetWord.{TargetWord}
 use Rattle.cfi_unit.specs.declared.unit.Unit.TheVariants as V
-use Rattle.cfi_rules.specs.Lines.{jump_word}
-use Rattle.cfi_writer.specs.Units.{Group, call_unit, lean_unit_of, unit_by, unit_of}
 use Rattle.cfi_writer.proofs.UnitOf.{is_right}
 
 -- a register that is not named is not reserved

@@ -4,29 +4,13 @@ use Rattle.std.proofs.Common.{◌≡◌, ℕ, ◌+◌, ◌*◌, ◌<◌, inl, in
 use Rattle.std.specs.Prelude.{◌&&◌, ◌||◌, ◌==◌, not, is_some, slice_get}
 use Rattle.std.specs.List.{list_any}
 use Rattle.std.proofs.lemmas.Bool.{and_from, and_left, and_right, cases_Bool, eq-eqb, lt-ltb, or_left, or_right}
-use Rattle.obj_input.specs.declared.item_kind.ItemKind.{ItemKind}
+use Rattle.cfi_writer.proofs.Prelude.{ItemKind, count, is_end, item_of, has_leaves, Entered, is_entry, enters, in_leaf, is_leaf, leaf_end, aim_of, arrival, arrival_by, entered_in, gate, word, is_store, site_label, whole_at, GraphVersion, OneLabel, TwoLabels, CalleeSaves, word_count, begins_at, is_enter, is_fresh, is_gate_there, leaf_of, may_be_called, unit_in, IsAccepted, Choice, group_at, instr_of, is_later_at, lead, lead_unit, lean_unit_of, unit_by, unit_here, units}
 use Rattle.obj_input.specs.declared.item_kind.ItemKind.TheVariants as is
-use Rattle.obj_program.specs.Program.{count, is_end, item_of}
-use Rattle.cfi_graph.specs.Graph.{has_leaves}
-use Rattle.cfi_leads.specs.Entered.{Entered}
-use Rattle.cfi_leads.specs.Entries.{is_entry}
-use Rattle.cfi_leads.specs.Leads.{enters}
-use Rattle.cfi_leads.specs.Leaves.{in_leaf, is_leaf, leaf_end}
 use Rattle.cfi_leads.proofs.Ends.{entry_begins}
 use Rattle.cfi_leads.proofs.Tables.{head_of_first}
-use Rattle.cfi_map.specs.GraphAtMap.{aim_of, arrival, arrival_by, entered_in, gate, word}
-use Rattle.cfi_map.specs.Groups.{is_store}
-use Rattle.cfi_map.specs.LabelOf.{site_label}
-use Rattle.cfi_map.specs.Placement.{whole_at}
-use Rattle.rv_image.specs.declared.version.GraphVersion.{GraphVersion}
-use Rattle.rv_image.specs.declared.version.GraphVersion.TheVariants.{OneLabel, TwoLabels, CalleeSaves}
 use Rattle.cfi_unit.specs.declared.unit.Unit as U
 use Rattle.cfi_unit.specs.declared.unit.Unit.TheVariants as V
-use Rattle.cfi_unit.specs.UnitWords.{word_count}
-use Rattle.cfi_pending.specs.Kinds.{begins_at, is_enter, is_fresh, is_gate, is_gate_there, leaf_of, may_be_called}
-use Rattle.cfi_rules.specs.Split.{unit_in}
-use Rattle.cfi_writer.specs.Accepted.{IsAccepted}
-use Rattle.cfi_writer.specs.Units.{Choice, group_at, instr_of, is_later_at, lead, lead_unit, lean_unit_of, unit_by, unit_here, units}
+use Rattle.cfi_pending.specs.Kinds.{is_gate}
 use Rattle.cfi_writer.proofs.Entering.{in_leaf_passed}
 use Rattle.cfi_writer.proofs.Grouping.{first_after}
 use Rattle.cfi_writer.proofs.LeadWords.{lean_lead}

@@ -3,21 +3,9 @@ use Rattle.std.specs.Prelude.{if◌then◌else◌}
 use Rattle.std.proofs.Common.{◌≡◌, ℕ, suc, ◌+◌, ◌-◌, ◌^◌, ◌<◌, ◌≤◌, Bool, true, false, List, [], ◌∷◌, ◌++◌, length, Some, refl, sym, ap, subst, ◌∙◌, arith, inl, inr, min}
 use Rattle.std.proofs.lemmas.Bool.{cases_Bool}
 use Rattle.std.proofs.lemmas.List.FromFn.{length-map-range_with_len, map-range_with_len_more}
-use Rattle.rv_image.specs.declared.version.GraphVersion.{GraphVersion}
-use Rattle.rv_image.specs.declared.version.GraphVersion.TheVariants.{OneLabel, TwoLabels, CalleeSaves}
+use Rattle.cfi_writer.proofs.Prelude.{GraphVersion, OneLabel, TwoLabels, CalleeSaves, count, item_of, has_leaves, is_short, is_store, Short, Long, MOST_MEMBERS, Member, level, lowest, members_from, IsAccepted, instr_if, Choice, behind, group_at, instr_of, is_later_at, later_from, low_at, mask_at, mask_by, member_at, offset_at}
 use Rattle.obj_input.specs.declared.item_kind.ItemKind.TheVariants as is
-use Rattle.obj_program.specs.Program.{count, item_of}
-use Rattle.cfi_graph.specs.Graph.{has_leaves}
-use Rattle.cfi_map.specs.Groups.{is_short, is_store}
 use Rattle.cfi_map.proofs.LaterRuns.{store_no_end}
-use Rattle.cfi_unit.specs.declared.mask.Mask.TheVariants.{Short, Long}
-use Rattle.cfi_unit.specs.Members.{MOST_MEMBERS}
-use Rattle.cfi_unit.specs.declared.members.Member.{Member}
-use Rattle.cfi_runs.specs.Distances.{level, lowest}
-use Rattle.cfi_runs.specs.GroupStores.{members_from}
-use Rattle.cfi_writer.specs.Accepted.{IsAccepted}
-use Rattle.cfi_writer.specs.Chosen.{instr_if}
-use Rattle.cfi_writer.specs.Units.{Choice, behind, group_at, instr_of, is_later_at, later_from, low_at, mask_at, mask_by, member_at, offset_at}
 use Rattle.cfi_writer.proofs.Grouping.{later_below, none_later, one_later}
 use Rattle.cfi_writer.proofs.GroupUnit.{inside, masked, most_members}
 

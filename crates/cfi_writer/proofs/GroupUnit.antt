@@ -4,37 +4,14 @@ use Rattle.std.specs.Prelude.{option_and_then}
 use Rattle.std.specs.List.{AllByRecursion}
 use Rattle.std.proofs.lemmas.Bool.{and_parts, cases_lt, leb-true}
 use Rattle.std.proofs.lemmas.List.FromFn.{length-map-range_with_len}
-use Rattle.rv_image.specs.declared.version.GraphVersion.{GraphVersion}
-use Rattle.rv_image.specs.declared.version.GraphVersion.TheVariants.{OneLabel, TwoLabels, CalleeSaves}
-use Rattle.rv_instr.specs.InRange.{IsInstr}
-use Rattle.rv_instr.specs.declared.instr.Instr.{Instr}
+use Rattle.cfi_writer.proofs.Prelude.{GraphVersion, OneLabel, TwoLabels, CalleeSaves, IsInstr, Instr, StoreOp, decoded, ItemKind, Patch, instr_at, patched_instr, Program, count, item_of, is_own, has_leaves, words_at, base, base_of, is_forward, is_short, is_store, level_of, whole_at, Mask, Shifts, Short, Long, IsMember, MOST_MEMBERS, Member, MaskFits, field, level, IsMasked, IsPast, members_from, IsAccepted, Choice, behind, bounds_at, group_at, instr_of, is_later_at, least_at, low_at, low_by, mask_at, mask_by, member_at, member_for, offset_at, offset_of}
 use Rattle.rv_instr.specs.declared.instr.Instr.TheVariants as I
-use Rattle.rv_instr.specs.declared.instr.StoreOp.{StoreOp}
-use Rattle.rv_code.specs.Decode.{decoded}
-use Rattle.obj_input.specs.declared.item_kind.ItemKind.{ItemKind}
 use Rattle.obj_input.specs.declared.item_kind.ItemKind.TheVariants as is
-use Rattle.obj_program.specs.declared.item.Patch.{Patch}
 use Rattle.obj_program.specs.declared.item.Patch.TheVariants as put
-use Rattle.obj_program.specs.AtMap.{instr_at, patched_instr}
-use Rattle.obj_program.specs.Program.{Program, count, item_of}
-use Rattle.obj_program.specs.Sound.{is_own}
-use Rattle.cfi_graph.specs.Graph.{has_leaves}
-use Rattle.cfi_map.specs.GraphAtMap.{words_at}
-use Rattle.cfi_map.specs.Groups.{base, base_of, is_forward, is_short, is_store, level_of}
 use Rattle.cfi_map.specs.Groups as groups
-use Rattle.cfi_map.specs.Placement.{whole_at}
 use Rattle.cfi_map.proofs.GroupFacts.{Grouped, grouped}
 use Rattle.cfi_map.proofs.LaterRuns.{store_no_end}
-use Rattle.cfi_unit.specs.declared.mask.Mask.{Mask}
-use Rattle.cfi_unit.specs.declared.mask.Mask.TheVariants.{Shifts, Short, Long}
-use Rattle.cfi_unit.specs.Members.{IsMember, MOST_MEMBERS}
-use Rattle.cfi_unit.specs.declared.members.Member.{Member}
-use Rattle.cfi_unit.specs.UnitWords.{MaskFits}
-use Rattle.cfi_runs.specs.Distances.{field, level}
-use Rattle.cfi_runs.specs.GroupStores.{IsMasked, IsPast, members_from}
 use Rattle.cfi_runs.proofs.Distances.{groups_are_masked, lowest_least, offsets_are_past}
-use Rattle.cfi_writer.specs.Accepted.{IsAccepted}
-use Rattle.cfi_writer.specs.Units.{Choice, behind, bounds_at, group_at, instr_of, is_later_at, least_at, low_at, low_by, mask_at, mask_by, member_at, member_for, offset_at, offset_of}
 use Rattle.cfi_writer.proofs.Fitting.{FitsMask}
 use Rattle.cfi_writer.proofs.Grouping.{group_there, later_below, later_behind, later_store}
 use Rattle.cfi_writer.proofs.Standing.{instr_in_range, instr_is, right}

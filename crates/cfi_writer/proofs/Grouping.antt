@@ -3,11 +3,8 @@
 use Rattle.std.proofs.Common.{◌≡◌, ℕ, zero, suc, ◌+◌, ◌-◌, ◌<◌, ◌≤◌, true, false, inl, inr, refl, sym, subst, ap, ◌∙◌, arith}
 use Rattle.std.proofs.lemmas.Bool.{cases_Bool, cases_lt}
 use Rattle.std.proofs.lemmas.List.{get_or_past}
-use Rattle.obj_program.specs.Program.{count, item_of, no_item}
-use Rattle.cfi_map.specs.Groups.{AreGroups, is_store, members_before}
-use Rattle.cfi_map.specs.Placement.{whole_at}
+use Rattle.cfi_writer.proofs.Prelude.{count, item_of, no_item, AreGroups, is_store, members_before, whole_at, Choice, behind, bounds_at, followers, is_later_at, later_from}
 use Rattle.cfi_map.proofs.GroupFacts.{IsGroup, Joins, joins, later_if, later_parts, none_at_start, none_before}
-use Rattle.cfi_writer.specs.Units.{Choice, behind, bounds_at, followers, is_later_at, later_from}
 
 -- a later store is one, without its whole size, and there is a place with it
 pub later_store : (m : Choice) (k : ℕ) → is_later_at m k ≡ true → (is_store (item_of m.layout.program k).kind ≡ true) × (whole_at m.whole k ≡ false)

@@ -5,25 +5,9 @@ use Rattle.std.specs.Prelude.{if◌then◌else◌, nat_le, nat_lt, option_and_th
 use Rattle.std.specs.List.{list_all}
 use Rattle.std.proofs.lemmas.Bool.{and_from, and_parts, le-leb, lt-ltb}
 use Rattle.std.proofs.lemmas.List.Folds.{list_all-append}
-use Rattle.rv_image.specs.declared.version.GraphVersion.{GraphVersion}
-use Rattle.rv_image.specs.declared.version.GraphVersion.TheVariants.{OneLabel, TwoLabels, CalleeSaves}
-use Rattle.obj_program.specs.Program.{count}
-use Rattle.cfi_graph.specs.Calls.{may_be_calls}
-use Rattle.cfi_graph.specs.declared.line.GraphLine.{GraphLine}
-use Rattle.cfi_graph.specs.declared.line.GraphLine.TheVariants.{Calls, Leaf, Class}
-use Rattle.cfi_graph.specs.declared.line.Key.{Key}
-use Rattle.cfi_graph.specs.declared.line.Key.TheVariants.{Head, Range}
-use Rattle.cfi_graph.specs.declared.line.SiteKind.{SiteKind}
-use Rattle.cfi_graph.specs.Graph.{ClassLine, IsGraph, are_calls, calls_in, class_in, fits_version, has_leaves, is_class, is_code_address, is_code_end, is_rising, key_below, key_of, line_in_range, targets_rise}
-use Rattle.cfi_leads.specs.Leaves.{is_leaf, leaf_end}
-use Rattle.cfi_map.specs.GraphAtMap.{ProgramAtMap, call_lines, class_lines, entered_in, gate, leaf_lines_by, leaf_lines_from, with_line, word}
-use Rattle.cfi_map.specs.LabelOf.{Tagged, tagged}
-use Rattle.cfi_unit.specs.declared.target_word.TargetWord.{TargetWord}
-use Rattle.cfi_rules.specs.Lines.{class_with, if_serves, leaves_in, targets_for}
-use Rattle.cfi_rules.specs.Placed.{is_head}
+use Rattle.cfi_writer.proofs.Prelude.{GraphVersion, OneLabel, TwoLabels, CalleeSaves, count, may_be_calls, GraphLine, Class, Key, Head, Range, SiteKind, ClassLine, IsGraph, are_calls, calls_in, class_in, fits_version, has_leaves, is_class, is_code_address, is_code_end, is_rising, key_below, key_of, line_in_range, targets_rise, is_leaf, leaf_end, ProgramAtMap, call_lines, class_lines, entered_in, gate, leaf_lines_by, leaf_lines_from, with_line, word, Tagged, tagged, TargetWord, class_with, if_serves, leaves_in, targets_for, is_head, written_classes, written_heads, Choice}
+use Rattle.cfi_graph.specs.declared.line.GraphLine.TheVariants.{Calls, Leaf}
 use Rattle.cfi_rules.proofs.PlacedLines.{leaves_before}
-use Rattle.cfi_writer.specs.Laws.{written_classes, written_heads}
-use Rattle.cfi_writer.specs.Units.{Choice}
 use Rattle.cfi_writer.proofs.ClassLines.{all_classes_lines}
 use Rattle.cfi_writer.proofs.LeafLines.{IsLeafPlace, behind_leaves_class, behind_leaves_with, leaf_at, leaf_lines_all, leaf_lines_are, leaf_lines_tell, leaf_places_by, leaves_of, leaves_tell}
 

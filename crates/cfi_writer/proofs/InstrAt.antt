@@ -5,24 +5,11 @@ use Rattle.std.specs.Prelude.{ℤ, ◌&&◌, not}
 use Rattle.std.proofs.lemmas.Bool.{and_parts}
 use Rattle.std.proofs.lemmas.Option.{cond_some, same_Some}
 use Rattle.rv_word.proofs.Cases.{cases_Option, mapped}
-use Rattle.rv_reloc.specs.Value.{hi20, lo12, low_bits}
-use Rattle.rv_reloc.specs.Word.{is_high_in_range}
-use Rattle.rv_instr.specs.InRange.{IsInstr}
-use Rattle.rv_instr.specs.Operands.{written}
-use Rattle.rv_instr.specs.declared.instr.Instr.{Instr}
-use Rattle.rv_instr.specs.declared.instr.Instr.TheVariants.{Upper, Jalr, Load, Store, Immediate}
-use Rattle.rv_instr.specs.declared.instr.UpperOp.{UpperOp}
-use Rattle.rv_instr.specs.declared.instr.UpperOp.TheVariants.{Lui, Auipc}
-use Rattle.rv_code.specs.Decode.{decoded}
-use Rattle.rv_code.specs.Encode.{code_of}
+use Rattle.cfi_writer.proofs.Prelude.{hi20, lo12, low_bits, is_high_in_range, IsInstr, written, Instr, Upper, Jalr, Load, Store, Immediate, UpperOp, Lui, Auipc, decoded, code_of, distance, distance_to, high_part, instr_at, low_part, patched_instr, value_at, with_lower, with_upper, Program, item_of, names_reserved, stands_on, suits, Patch}
 use Rattle.rv_code.proofs.Inverse.{code_of-decoded, decoded-in_range}
 use Rattle.rv_reloc.proofs.Pair.{below}
 use Rattle.obj_input.specs.declared.item_kind.ItemKind.TheVariants as is
-use Rattle.obj_program.specs.AtMap.{distance, distance_to, high_part, instr_at, low_part, patched_instr, value_at, with_lower, with_upper}
-use Rattle.obj_program.specs.Program.{Program, item_of}
 use Rattle.obj_program.specs.Sound.{is_of}
-use Rattle.obj_program.specs.Suits.{names_reserved, stands_on, suits}
-use Rattle.obj_program.specs.declared.item.Patch.{Patch}
 use Rattle.obj_program.specs.declared.item.Patch.TheVariants as put
 
 upper_range : (i : Instr) (field : ℕ) → field < 2 ^ 20 → IsInstr i → IsInstr (with_upper i field)

@@ -4,11 +4,7 @@ use Rattle.std.specs.Prelude.{slice_get, slice_index}
 use Rattle.std.specs.List.Sorted.{IsStrictlyIncreasing}
 use Rattle.std.proofs.lemmas.Bool.{cases_Bool, cases_order, eq-eqb, eqb-true, or_cases}
 use Rattle.std.proofs.lemmas.Option.{get_or_from_slice_get, same_Some, slice_get_within}
-use Rattle.obj_program.specs.declared.item.Item.{Item}
-use Rattle.cfi_class.specs.Classes.{has}
-use Rattle.cfi_closed.specs.declared.side.Site.{Site}
-use Rattle.cfi_flow.specs.Labels.{is_gate}
-use Rattle.cfi_map.specs.LabelOf.{empty_classes, label_at, next_after, number, site_number, with_empty}
+use Rattle.cfi_writer.proofs.Prelude.{Item, has, Site, is_gate, empty_classes, label_at, next_after, number, site_number, with_empty}
 use Rattle.cfi_map.proofs.ByGate.{rises}
 
 -- a class has what its list contains

@@ -2,18 +2,10 @@
 use Rattle.std.proofs.Common.{◌≡◌, ℕ, ◌+◌, ◌*◌, ◌<◌, true, false, List, Option, Some, None, refl, sym, ap, subst, ◌∙◌, arith}
 use Rattle.std.specs.Prelude.{◌&&◌, is_some, not, slice_get}
 use Rattle.std.proofs.lemmas.Bool.{and_left, false_from_ne_true, or_left, or_right}
-use Rattle.obj_program.specs.Program.{count}
-use Rattle.cfi_graph.specs.Graph.{has_leaves}
-use Rattle.cfi_leads.specs.Entered.{Entered}
-use Rattle.cfi_leads.specs.Leaves.{in_leaf}
-use Rattle.cfi_map.specs.GraphAtMap.{entered_in, gate, word}
+use Rattle.cfi_writer.proofs.Prelude.{count, has_leaves, Entered, in_leaf, entered_in, gate, word, flow_of, after_unit, IsOfItsKind, Leaf, is_enter, is_fresh, is_gate_there, is_right_behind, is_right_target, leaf_of, may_be_reached, stands_by, IsAccepted, Choice, lead, lead_unit}
 use Rattle.cfi_unit.specs.declared.unit.Unit as U
 use Rattle.cfi_unit.specs.declared.unit.Unit.TheVariants as V
-use Rattle.cfi_unit.specs.Flow.{flow_of}
-use Rattle.cfi_unit.specs.UnitWords.{after_unit}
-use Rattle.cfi_pending.specs.Kinds.{IsOfItsKind, Leaf, is_enter, is_fresh, is_gate, is_gate_there, is_right_behind, is_right_target, leaf_of, may_be_reached, stands_by}
-use Rattle.cfi_writer.specs.Accepted.{IsAccepted}
-use Rattle.cfi_writer.specs.Units.{Choice, lead, lead_unit}
+use Rattle.cfi_pending.specs.Kinds.{is_gate}
 use Rattle.cfi_writer.proofs.FreshStarts.{fresh_if, stands, word_fresh, word_there}
 use Rattle.cfi_writer.proofs.LeafLines.{leaves_of}
 use Rattle.cfi_writer.proofs.LeafStarts.{no_leaf_at}

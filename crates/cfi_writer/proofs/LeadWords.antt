@@ -6,27 +6,12 @@ use Rattle.std.specs.List.{list_any}
 use Rattle.std.proofs.lemmas.Bool.{cases_Bool, false≢true, true≢false}
 use Rattle.std.proofs.lemmas.List.{length-map}
 use Rattle.std.proofs.lemmas.Option.{same_Some, slice_get-map}
-use Rattle.rv_image.specs.declared.version.GraphVersion.{GraphVersion}
-use Rattle.rv_image.specs.declared.version.GraphVersion.TheVariants.{OneLabel, TwoLabels, CalleeSaves}
+use Rattle.cfi_writer.proofs.Prelude.{GraphVersion, OneLabel, TwoLabels, CalleeSaves, has, has_leaves, Sort, Calls, Jumps, Side, is_of, is_target, is_target_of, sorts_of, Entered, is_call_target, enters, lead_size, lead_words, entered_in, word, all_classes, class_count, empty_classes, label_at, labels_of, tag, tagged, word_count, IsAccepted, word_of_side, Choice, lead, lead_by, lead_of_entry, lead_of_sides, lead_unit}
 use Rattle.rv_word.proofs.Cases.{mapped}
-use Rattle.cfi_class.specs.Classes.{has}
-use Rattle.cfi_graph.specs.Graph.{has_leaves}
 use Rattle.cfi_graph.specs.declared.line.SiteKind.TheVariants as site
-use Rattle.cfi_graph.specs.declared.line.Sort.{Sort}
-use Rattle.cfi_graph.specs.declared.line.Sort.TheVariants.{Calls, Jumps}
-use Rattle.cfi_closed.specs.Closed.{Side, is_of, is_target, is_target_of, sorts_of}
-use Rattle.cfi_leads.specs.Entered.{Entered}
-use Rattle.cfi_leads.specs.Entries.{is_call_target}
-use Rattle.cfi_leads.specs.Leads.{enters, lead_size, lead_words}
-use Rattle.cfi_map.specs.GraphAtMap.{entered_in, word}
-use Rattle.cfi_map.specs.LabelOf.{all_classes, class_count, empty_classes, label_at, labels_of, tag, tagged}
 use Rattle.cfi_unit.specs.declared.unit.Unit as U
 use Rattle.cfi_unit.specs.declared.unit.Unit.TheVariants as V
-use Rattle.cfi_unit.specs.UnitWords.{word_count}
 use Rattle.cfi_unit.proofs.Counts.{some_word}
-use Rattle.cfi_writer.specs.Accepted.{IsAccepted}
-use Rattle.cfi_writer.specs.SideLaws.{word_of_side}
-use Rattle.cfi_writer.specs.Units.{Choice, lead, lead_by, lead_of_entry, lead_of_sides, lead_unit}
 use Rattle.cfi_writer.proofs.Entering.{call_enters}
 use Rattle.cfi_writer.proofs.Labelled.{labelled}
 use Rattle.cfi_writer.proofs.SideLabels.{any_get, from_side, length-labels_of}

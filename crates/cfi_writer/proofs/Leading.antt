@@ -5,39 +5,14 @@ use Rattle.std.specs.List.{list_any}
 use Rattle.std.proofs.lemmas.Bool.{and_from, and_parts, cases_Bool, cases_lt, cases_order, eq-eqb, ltb-true, or_left, or_right}
 use Rattle.std.proofs.lemmas.List.{get_or_past}
 use Rattle.std.proofs.lemmas.Option.{get_or_from_slice_get, same_Some, slice_get-get_or}
-use Rattle.rv_word.specs.Bits.{wrap}
-use Rattle.rv_image.specs.MemoryMap.{START}
-use Rattle.rv_image.specs.declared.version.GraphVersion.{GraphVersion}
-use Rattle.rv_image.specs.declared.version.GraphVersion.TheVariants.{OneLabel, TwoLabels, CalleeSaves}
-use Rattle.rv_instr.specs.declared.instr.Instr.{Instr}
+use Rattle.cfi_writer.proofs.Prelude.{wrap, START, GraphVersion, OneLabel, TwoLabels, CalleeSaves, Instr, offset, ItemKind, Item, Program, count, is_end, item_of, no_item, aims, is_direct, has_leaves, ProgramAtMap, aim_of, arrival, arrival_by, arrival_to, entered_in, gate, gate_to, word, labels_of, site_label, whole_at, aims_at, is_call, enters, lead_size, in_leaf, TargetWord, Fits, IsNear, near_offset, skip_offset, word_count, jump_word, AllAhead, AllFit, unit_in, IsAccepted, is_direct_target, is_store, is_branch, is_kept, is_skipped, Choice, Group, bounds_at, call_unit, group_at, instr_of, is_later_at, lead_unit, lean_unit_of, unit_by, unit_here, unit_of, units}
 use Rattle.rv_instr.specs.declared.instr.Instr.TheVariants as I
-use Rattle.rv_code.specs.Step.{offset}
-use Rattle.obj_input.specs.declared.item_kind.ItemKind.{ItemKind}
 use Rattle.obj_input.specs.declared.item_kind.ItemKind.TheVariants as is
-use Rattle.obj_program.specs.declared.item.Item.{Item}
-use Rattle.obj_program.specs.Program.{Program, count, is_end, item_of, no_item}
-use Rattle.obj_program.specs.Sound.{aims, is_direct}
-use Rattle.cfi_graph.specs.Graph.{has_leaves}
-use Rattle.cfi_map.specs.GraphAtMap.{ProgramAtMap, aim_of, arrival, arrival_by, arrival_to, entered_in, gate, gate_to, word}
-use Rattle.cfi_map.specs.LabelOf.{labels_of, site_label}
-use Rattle.cfi_map.specs.Placement.{whole_at}
-use Rattle.cfi_leads.specs.Entries.{aims_at, is_call}
-use Rattle.cfi_leads.specs.Leads.{enters, lead_size}
-use Rattle.cfi_leads.specs.Leaves.{in_leaf}
-use Rattle.cfi_unit.specs.declared.target_word.TargetWord.{TargetWord}
 use Rattle.cfi_unit.specs.declared.unit.Unit as U
 use Rattle.cfi_unit.specs.declared.unit.Unit.TheVariants as V
-use Rattle.cfi_unit.specs.UnitWords.{Fits, IsNear, near_offset, skip_offset, word_count}
 use Rattle.cfi_unit.proofs.Counts.{some_word}
-use Rattle.cfi_rules.specs.Lines.{jump_word}
-use Rattle.cfi_rules.specs.Placed.{AllAhead, AllFit}
-use Rattle.cfi_rules.specs.Split.{unit_in}
 use Rattle.cfi_rules.proofs.Ahead.{IsShortSkip, all_ahead, all_fit, is_jump_unit}
-use Rattle.cfi_writer.specs.Accepted.{IsAccepted}
-use Rattle.cfi_map.specs.Groups.{is_direct_target, is_store}
-use Rattle.cfi_map.specs.Shorts.{is_branch, is_kept, is_skipped}
 use Rattle.cfi_map.proofs.Placements.{no_store}
-use Rattle.cfi_writer.specs.Units.{Choice, Group, bounds_at, call_unit, group_at, instr_of, is_later_at, lead_unit, lean_unit_of, unit_by, unit_here, unit_of, units}
 use Rattle.cfi_writer.proofs.Grouping.{entered_first, first_after, other_first}
 use Rattle.cfi_writer.proofs.GroupUnit.{fits_mask}
 use Rattle.cfi_writer.proofs.Fitting.{IsThere, enter_fits, jump_fits, near_target, unit_fits}

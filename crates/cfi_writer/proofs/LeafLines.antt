@@ -5,18 +5,8 @@ use Rattle.std.specs.List.{filter, list_all, range_with_len}
 use Rattle.std.proofs.lemmas.Bool.{and_from, cases_Bool, cases_eq}
 use Rattle.std.proofs.lemmas.Option.{same_Some, slice_get-map}
 use Rattle.rv_word.proofs.Cases.{mapped}
-use Rattle.rv_image.specs.declared.version.GraphVersion.{GraphVersion}
-use Rattle.rv_image.specs.declared.version.GraphVersion.TheVariants.{OneLabel, TwoLabels, CalleeSaves}
-use Rattle.obj_program.specs.Program.{count}
-use Rattle.cfi_graph.specs.declared.line.GraphLine.{GraphLine}
+use Rattle.cfi_writer.proofs.Prelude.{GraphVersion, OneLabel, TwoLabels, CalleeSaves, count, GraphLine, ClassLine, calls_in, class_in, has_leaves, Entered, is_leaf, leaf_end, ProgramAtMap, entered_in, gate, leaf_lines_by, leaf_lines_from, with_line, word, Leaf, class_with, leaves_in, Choice}
 use Rattle.cfi_graph.specs.declared.line.GraphLine.TheVariants as line
-use Rattle.cfi_graph.specs.Graph.{ClassLine, calls_in, class_in, has_leaves}
-use Rattle.cfi_leads.specs.Entered.{Entered}
-use Rattle.cfi_leads.specs.Leaves.{is_leaf, leaf_end}
-use Rattle.cfi_map.specs.GraphAtMap.{ProgramAtMap, entered_in, gate, leaf_lines_by, leaf_lines_from, with_line, word}
-use Rattle.cfi_pending.specs.Kinds.{Leaf}
-use Rattle.cfi_rules.specs.Lines.{class_with, leaves_in}
-use Rattle.cfi_writer.specs.Units.{Choice}
 
 -- of so many numbers from one on those that pass a test
 module _ (p : ℕ → Bool) where

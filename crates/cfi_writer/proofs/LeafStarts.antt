@@ -5,20 +5,10 @@ use Rattle.std.specs.Prelude.{is_some, nat_le, nat_lt, slice_get}
 use Rattle.std.specs.List.{find}
 use Rattle.std.proofs.lemmas.Bool.{and_from, and_parts, cases_Bool, cases_eq, cases_lt, cond-false, cond-true, false_from_ne_true, le-leb, leb-true, lt-ltb, ltb-true, true≢false}
 use Rattle.std.proofs.lemmas.Option.{same_Some}
-use Rattle.obj_program.specs.MapFit.{EndsLast}
-use Rattle.obj_program.specs.Program.{count, is_end, item_of}
-use Rattle.cfi_graph.specs.Graph.{has_leaves}
-use Rattle.cfi_leads.specs.Entered.{Entered}
-use Rattle.cfi_leads.specs.Leads.{lead_size}
-use Rattle.cfi_leads.specs.Leaves.{head, in_leaf, is_leaf, leaf_end}
+use Rattle.cfi_writer.proofs.Prelude.{EndsLast, count, is_end, item_of, has_leaves, Entered, lead_size, head, in_leaf, is_leaf, leaf_end, entered_in, gate, word, whole_at, leaf_of, IsAccepted, Choice}
 use Rattle.cfi_leads.proofs.Tables.{head_before, head_of_first}
-use Rattle.cfi_map.specs.GraphAtMap.{entered_in, gate, word}
-use Rattle.cfi_map.specs.Placement.{whole_at}
 use Rattle.cfi_map.proofs.PartSizes.{unit_many}
-use Rattle.cfi_pending.specs.Kinds.{leaf_of}
 use Rattle.cfi_pending.specs.Kinds as kinds
-use Rattle.cfi_writer.specs.Accepted.{IsAccepted}
-use Rattle.cfi_writer.specs.Units.{Choice}
 use Rattle.cfi_writer.proofs.LeafLines.{IsLeafPlace, from_leaf, leaf_at, leaves_of, to_leaf}
 use Rattle.cfi_writer.proofs.Pieces.{end_behind, end_inside, leaf_begins, place_inside, place_outside}
 use Rattle.cfi_writer.proofs.Standing.{gates_rise, next_gate, no_lead_in_leaf}

@@ -5,29 +5,11 @@ use Rattle.std.specs.Prelude.{if◌then◌else◌, not, slice_get}
 use Rattle.std.specs.List.{list_any}
 use Rattle.std.proofs.lemmas.Bool.{cases_Bool, eq-eqb, false_from_ne_true, not-true, or_left, or_right, true≢false}
 use Rattle.std.proofs.lemmas.Option.{same_Some, slice_get-get_or}
-use Rattle.rv_instr.specs.Operands.{written}
-use Rattle.rv_instr.specs.declared.instr.Instr.{Instr}
-use Rattle.rv_code.specs.Decode.{decoded}
-use Rattle.obj_input.specs.declared.item_kind.ItemKind.{ItemKind}
+use Rattle.cfi_writer.proofs.Prelude.{written, Instr, decoded, ItemKind, Item, count, is_end, item_of, no_item, is_direct, has_leaves, Entered, aims_at, call_target, if_kind, is_call, is_call_target, is_called, is_entry, edge_target, ends_before, head, in_leaf, is_edge, may_stand, writes_link, aim_of, arrival, arrival_to, entered_in, gate, gate_to, word, words_at, site_label, whole_at, flow_of, IsOfItsKind, Leaf, goes_on, is_fresh, is_right_behind, is_right_target, leaf_of, may_be_called, may_be_reached, stands_by, is_link, IsAccepted, Choice, behind, group_at, instr_of, is_later_at, lean_unit_of, unit_here}
 use Rattle.obj_input.specs.declared.item_kind.ItemKind.TheVariants as is
-use Rattle.obj_program.specs.declared.item.Item.{Item}
-use Rattle.obj_program.specs.Program.{count, is_end, item_of, no_item}
-use Rattle.obj_program.specs.Sound.{is_direct}
-use Rattle.cfi_graph.specs.Graph.{has_leaves}
-use Rattle.cfi_leads.specs.Entered.{Entered}
-use Rattle.cfi_leads.specs.Entries.{aims_at, call_target, if_kind, is_call, is_call_target, is_called, is_entry}
-use Rattle.cfi_leads.specs.Leaves.{edge_target, ends_before, head, in_leaf, is_edge, may_stand, writes_link}
 use Rattle.cfi_leads.proofs.Tables.{head_before}
-use Rattle.cfi_map.specs.GraphAtMap.{aim_of, arrival, arrival_to, entered_in, gate, gate_to, word, words_at}
-use Rattle.cfi_map.specs.LabelOf.{site_label}
-use Rattle.cfi_map.specs.Placement.{whole_at}
 use Rattle.cfi_unit.specs.declared.unit.Unit as U
-use Rattle.cfi_unit.specs.Flow.{flow_of}
-use Rattle.cfi_pending.specs.Kinds.{IsOfItsKind, Leaf, goes_on, is_fresh, is_right_behind, is_right_target, leaf_of, may_be_called, may_be_reached, stands_by}
 use Rattle.cfi_pending.specs.Kinds as kinds
-use Rattle.cfi_pending.specs.Starts.{is_link}
-use Rattle.cfi_writer.specs.Accepted.{IsAccepted}
-use Rattle.cfi_writer.specs.Units.{Choice, behind, group_at, instr_of, is_later_at, lean_unit_of, unit_here}
 use Rattle.cfi_writer.proofs.FreshStarts.{callable, gate_fresh, here_is, lean_here, stands}
 use Rattle.cfi_writer.proofs.Grouping.{entered_first, first_behind}
 use Rattle.cfi_writer.proofs.LeadKinds.{behind_saved}

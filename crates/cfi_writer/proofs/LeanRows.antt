@@ -2,26 +2,10 @@
 -- several harts, a function that saves a register, one that calls a leaf, one that goes on into an entry, a call through a pointer, and a
 -- jump and a call to one function. Their words, gates, lengths and lines are worked out by hand as those of the other versions.
 use Rattle.std.proofs.Common.{◌≡◌, ℕ, List, [], ◌∷◌, ◌++◌, Some, None, length, take, drop, refl}
-use Rattle.rv_image.specs.declared.version.GraphVersion.TheVariants.{CalleeSaves}
-use Rattle.rv_image.specs.MemoryMap.{Profile, lean_version_1, lean_version_2}
-use Rattle.rv_code.specs.Decode.{decoded}
-use Rattle.rv_code.specs.Encode.{code_of}
+use Rattle.cfi_writer.proofs.Prelude.{CalleeSaves, Profile, lean_version_1, lean_version_2, decoded, code_of, Item, instr_at, Program, Calls, Jumps, Call, Class, Edge, Side, head, is_spoilt_by, next_piece, ProgramAtMap, class_lines, entered_in, graph_lines, leaf_lines_from, place_lines, empty_classes, label_at, labels_of, site_label, site_number, tagged, AreGates, words_from, words_of, code_from, written_code, Choice, followers, units_of}
 use Rattle.obj_input.specs.declared.item_kind.ItemKind.TheVariants as is
-use Rattle.obj_program.specs.declared.item.Item.{Item}
-use Rattle.obj_program.specs.AtMap.{instr_at}
-use Rattle.obj_program.specs.Program.{Program}
-use Rattle.cfi_graph.specs.declared.line.Sort.TheVariants.{Calls, Jumps}
-use Rattle.cfi_graph.specs.declared.line.GraphLine.TheVariants.{Call, Class, Edge, Leaf, Site}
+use Rattle.cfi_graph.specs.declared.line.GraphLine.TheVariants.{Leaf, Site}
 use Rattle.cfi_graph.specs.declared.line.SiteKind.TheVariants as site
-use Rattle.cfi_closed.specs.Closed.{Side}
-use Rattle.cfi_leads.specs.Leaves.{head, is_spoilt_by, next_piece}
-use Rattle.cfi_map.specs.GraphAtMap.{ProgramAtMap, class_lines, entered_in, graph_lines, leaf_lines_from, place_lines}
-use Rattle.cfi_map.specs.LabelOf.{empty_classes, label_at, labels_of, site_label, site_number, tagged}
-use Rattle.cfi_map.specs.Placement.{AreGates, words_from}
-use Rattle.cfi_unit.specs.UnitWords.{words_of}
-use Rattle.cfi_rules.specs.Placed.{code_from}
-use Rattle.cfi_writer.specs.Laws.{written_code}
-use Rattle.cfi_writer.specs.Units.{Choice, followers, units_of}
 use Rattle.cfi_writer.proofs.WrittenRows.{jumping, place, pointer}
 
 abbrev pub program : List Item → Program

@@ -4,27 +4,13 @@
 use Rattle.std.proofs.Common.{◌≡◌, ℕ, inl, inr, Bool, true, false, List, Option, Some, None, refl, sym, ap, ◌∙◌}
 use Rattle.std.proofs.lemmas.Bool.{true≢false}
 use Rattle.rv_word.proofs.Cases.{cases_Option}
-use Rattle.rv_image.specs.declared.version.GraphVersion.{GraphVersion}
-use Rattle.rv_image.specs.declared.version.GraphVersion.TheVariants.{OneLabel, TwoLabels, CalleeSaves}
-use Rattle.rv_instr.specs.Operands.{written}
-use Rattle.rv_instr.specs.declared.instr.Instr.{Instr}
+use Rattle.cfi_writer.proofs.Prelude.{GraphVersion, OneLabel, TwoLabels, CalleeSaves, written, Instr, decoded, ItemKind, instr_at, Program, is_end, item_of, has_leaves, ends_before, ends_leaf, is_edge, may_stand, writes_link, is_store, flow_of, word_count, Leaf, goes_on, is_enter, is_right_target, leaf_of, may_be_called, may_be_reached, stands_by, is_link, Group, call_unit, lean_unit_of}
 use Rattle.rv_instr.specs.declared.instr.Instr.TheVariants as I
-use Rattle.rv_code.specs.Decode.{decoded}
-use Rattle.obj_input.specs.declared.item_kind.ItemKind.{ItemKind}
 use Rattle.obj_input.specs.declared.item_kind.ItemKind.TheVariants as is
-use Rattle.obj_program.specs.AtMap.{instr_at}
-use Rattle.obj_program.specs.Program.{Program, is_end, item_of}
-use Rattle.cfi_graph.specs.Graph.{has_leaves}
-use Rattle.cfi_leads.specs.Leaves.{ends_before, ends_leaf, is_edge, may_stand, writes_link}
 use Rattle.cfi_leads.specs.Leaves as leads
-use Rattle.cfi_map.specs.Groups.{is_store}
 use Rattle.cfi_unit.specs.declared.unit.Unit as U
 use Rattle.cfi_unit.specs.declared.unit.Unit.TheVariants as V
-use Rattle.cfi_unit.specs.Flow.{flow_of}
-use Rattle.cfi_unit.specs.UnitWords.{word_count}
-use Rattle.cfi_pending.specs.Kinds.{Leaf, goes_on, is_enter, is_gate, is_right_target, leaf_of, may_be_called, may_be_reached, stands_by}
-use Rattle.cfi_pending.specs.Starts.{is_link}
-use Rattle.cfi_writer.specs.Units.{Group, call_unit, lean_unit_of}
+use Rattle.cfi_pending.specs.Kinds.{is_gate}
 use Rattle.cfi_writer.proofs.InstrAt.{instr_written}
 
 -- graphs with leaves are of version 3

@@ -6,28 +6,9 @@ use Rattle.std.proofs.Math.ListN.{drop_of_length-le}
 use Rattle.std.proofs.Math.Seq.{drop-cons, take-suc}
 use Rattle.std.proofs.lemmas.List.{get_or_append_left, get_or-append-add, drop_more, get_or_default, length-drop, length-map, map-append, take_all}
 use Rattle.std.proofs.lemmas.Option.{get_or_from_slice_get, slice_get_within}
-use Rattle.rv_image.specs.MemoryMap.{START}
-use Rattle.rv_image.specs.declared.version.GraphVersion.{GraphVersion}
-use Rattle.rv_image.specs.declared.version.GraphVersion.TheVariants.{OneLabel, TwoLabels, CalleeSaves}
-use Rattle.obj_input.specs.declared.item_kind.ItemKind.{ItemKind}
+use Rattle.cfi_writer.proofs.Prelude.{START, GraphVersion, OneLabel, TwoLabels, CalleeSaves, ItemKind, Item, EndsLast, count, is_end, item_of, no_item, GraphLine, Sort, IsIn, Site, has_leaves, Side, is_target, is_call, enters, ProgramAtMap, arrival, arrival_to, class_lines, entered_in, gate, gate_to, graph_lines, head_lines, jump_line, jump_line_by, leaf_line, leaf_lines_from, line_for, line_of_kind, place_lines, with_line, word, Tagged, all_classes, empty_classes, site_label, tag, tagged, with_empty, IsAccepted, labels_before, Choice}
 use Rattle.obj_input.specs.declared.item_kind.ItemKind.TheVariants as is
-use Rattle.obj_program.specs.declared.item.Item.{Item}
-use Rattle.obj_program.specs.MapFit.{EndsLast}
-use Rattle.obj_program.specs.Program.{count, is_end, item_of, no_item}
-use Rattle.cfi_graph.specs.declared.line.GraphLine.{GraphLine}
 use Rattle.cfi_graph.specs.declared.line.GraphLine.TheVariants as line
-use Rattle.cfi_graph.specs.declared.line.Sort.{Sort}
-use Rattle.cfi_class.specs.Classes.{IsIn}
-use Rattle.cfi_closed.specs.declared.side.Site.{Site}
-use Rattle.cfi_graph.specs.Graph.{has_leaves}
-use Rattle.cfi_closed.specs.Closed.{Side, is_target}
-use Rattle.cfi_leads.specs.Entries.{is_call}
-use Rattle.cfi_leads.specs.Leads.{enters}
-use Rattle.cfi_map.specs.GraphAtMap.{ProgramAtMap, arrival, arrival_to, class_lines, entered_in, gate, gate_to, graph_lines, head_lines, jump_line, jump_line_by, leaf_line, leaf_lines_from, line_for, line_of_kind, place_lines, with_line, word}
-use Rattle.cfi_map.specs.LabelOf.{Tagged, all_classes, empty_classes, site_label, tag, tagged, with_empty}
-use Rattle.cfi_writer.specs.Accepted.{IsAccepted}
-use Rattle.cfi_writer.specs.Chosen.{labels_before}
-use Rattle.cfi_writer.specs.Units.{Choice}
 use Rattle.cfi_writer.proofs.PlaceUnits.{full_aim}
 use Rattle.cfi_writer.proofs.SideLabels.{drop_more as drop_twice}
 use Rattle.cfi_writer.proofs.Starts.{before_first, before_next, counted_at}

@@ -4,19 +4,10 @@ use Rattle.std.specs.Prelude.{◌&&◌, slice_get, slice_index}
 use Rattle.std.specs.List.{list_all}
 use Rattle.std.proofs.lemmas.Bool.{and_from, eq-eqb, le-leb, lt-ltb}
 use Rattle.std.proofs.lemmas.Option.{same_Some, slice_get_within}
-use Rattle.rv_image.specs.Form.{profile_for}
-use Rattle.rv_image.specs.MemoryMap.{CODE_SIZE, CODE_START, Profile}
-use Rattle.rv_image.specs.declared.form.Form.{Form}
-use Rattle.cfi_map_text.specs.declared.map.MapLine.{MapLine}
-use Rattle.cfi_graph.specs.Graph.{is_rising}
-use Rattle.cfi_map_text.specs.Map.{IsMap, is_gate, map_line_below, map_line_in_range, place_below}
-use Rattle.obj_program.specs.declared.item.Item.{Item}
-use Rattle.obj_program.specs.Program.{Program, count, item_of, no_item}
-use Rattle.cfi_map.specs.GraphAtMap.{ProgramAtMap, gate}
+use Rattle.cfi_writer.proofs.Prelude.{profile_for, CODE_SIZE, CODE_START, Profile, Form, MapLine, is_rising, IsMap, map_line_below, map_line_in_range, place_below, Item, Program, count, item_of, no_item, ProgramAtMap, gate, IsAccepted, Choice}
+use Rattle.cfi_map_text.specs.Map.{is_gate}
 use Rattle.cfi_writer.proofs.Gates.{gates_counted}
-use Rattle.cfi_writer.specs.Accepted.{IsAccepted}
 use Rattle.cfi_writer.specs.MapLines.{lines_from, map_lines as lines_of}
-use Rattle.cfi_writer.specs.Units.{Choice}
 use Rattle.cfi_writer.proofs.Standing.{gate_lies, gates_rise, laid}
 
 -- the lines of places with gates

@@ -3,19 +3,9 @@
 use Rattle.std.proofs.Common.{◌≡◌, ℕ, zero, suc, ◌+◌, ◌≤◌, ◌<◌, inl, inr, Bool, true, false, Some, refl, sym, ap, subst, ◌∙◌, arith}
 use Rattle.std.specs.Prelude.{◌||◌}
 use Rattle.std.proofs.lemmas.Bool.{cases_Bool, cases_lt, eq-eqb, eqb-true, false_from_ne_true, true≢false}
-use Rattle.obj_input.specs.declared.item_kind.ItemKind.{ItemKind}
+use Rattle.cfi_writer.proofs.Prelude.{ItemKind, count, is_end, item_of, is_target, Entered, is_entry, begins, edge_target, ends_before, head, in_leaf, is_leaf, entered_in, gate, word, is_store, after_unit, IsAccepted, Choice, behind, is_later_at, unit_here}
 use Rattle.obj_input.specs.declared.item_kind.ItemKind.TheVariants as is
-use Rattle.obj_program.specs.Program.{count, is_end, item_of}
-use Rattle.cfi_closed.specs.Closed.{is_target}
-use Rattle.cfi_leads.specs.Entered.{Entered}
-use Rattle.cfi_leads.specs.Entries.{is_entry}
-use Rattle.cfi_leads.specs.Leaves.{begins, edge_target, ends_before, head, in_leaf, is_leaf}
 use Rattle.cfi_leads.proofs.Tables.{head_of_first}
-use Rattle.cfi_map.specs.GraphAtMap.{entered_in, gate, word}
-use Rattle.cfi_map.specs.Groups.{is_store}
-use Rattle.cfi_unit.specs.UnitWords.{after_unit}
-use Rattle.cfi_writer.specs.Accepted.{IsAccepted}
-use Rattle.cfi_writer.specs.Units.{Choice, behind, is_later_at, unit_here}
 use Rattle.cfi_writer.proofs.CodeRoom.{target_entered}
 use Rattle.cfi_writer.proofs.Entering.{entry_entered}
 use Rattle.cfi_writer.proofs.Grouping.{entered_first, later_behind, later_below, later_store, other_first}

@@ -3,10 +3,7 @@
 use Rattle.std.proofs.Common.{◌≡◌, ◌⊎◌, ℕ, zero, suc, ◌+◌, ◌-◌, ◌<◌, ◌≤◌, ◌==◌, inl, inr, Bool, true, false, Some, sym, ap, subst, ◌∙◌, arith}
 use Rattle.std.specs.Prelude.{◌&&◌, ◌||◌, not}
 use Rattle.std.proofs.lemmas.Bool.{and_from, cases_Bool, cases_eq, cases_lt, cond-false, eq-eqb, false_from_ne_true, or_parts, true≢false, not-false}
-use Rattle.obj_program.specs.MapFit.{EndsLast}
-use Rattle.obj_program.specs.Program.{count, item_of}
-use Rattle.cfi_leads.specs.Entered.{Entered}
-use Rattle.cfi_leads.specs.Leaves.{begins, crosses_to, edge_target, ends_before, ends_leaf, head, is_in, is_leaf, leaf_end, next_piece, parts_them, spoils_inside, stands_in_leaf}
+use Rattle.cfi_writer.proofs.Prelude.{EndsLast, count, item_of, Entered, begins, crosses_to, edge_target, ends_before, ends_leaf, head, is_in, is_leaf, leaf_end, next_piece, parts_them, spoils_inside, stands_in_leaf}
 use Rattle.cfi_leads.proofs.Ends.{entry_begins, leaf_end_before, leaf_parts, next_before, next_from, next_here, next_last, next_on}
 use Rattle.cfi_leads.proofs.Tables.{head_before, head_of_first}
 

@@ -3,18 +3,7 @@ use Rattle.std.proofs.Common.{◌≡◌, ℕ, suc, ◌+◌, ◌<◌, ◌≤◌, 
 use Rattle.std.specs.Prelude.{slice_index}
 use Rattle.std.proofs.Math.ListN.{drop_of_length-le}
 use Rattle.std.proofs.Math.Seq.{drop-cons}
-use Rattle.rv_image.specs.Form.{profile_for}
-use Rattle.rv_image.specs.MemoryMap.{Profile}
-use Rattle.rv_image.specs.declared.form.Form.{Form}
-use Rattle.obj_program.specs.declared.item.Item.{Item}
-use Rattle.obj_program.specs.Program.{count, item_of, no_item}
-use Rattle.cfi_map_text.specs.declared.map.MapLine.{MapLine}
-use Rattle.cfi_map.specs.GraphAtMap.{ProgramAtMap, entered_in}
-use Rattle.cfi_map.specs.LegalMap.{IsLegalMap, gates_of}
-use Rattle.cfi_map.specs.Placement.{AreGates, IsLegal}
-use Rattle.cfi_writer.specs.Accepted.{IsAccepted}
-use Rattle.cfi_writer.specs.MapLines.{lines_from, map_line, map_lines}
-use Rattle.cfi_writer.specs.Units.{Choice}
+use Rattle.cfi_writer.proofs.Prelude.{profile_for, Profile, Form, Item, count, item_of, no_item, MapLine, ProgramAtMap, entered_in, IsLegalMap, gates_of, AreGates, IsLegal, IsAccepted, lines_from, map_line, map_lines, Choice}
 use Rattle.cfi_writer.proofs.Gates.{gates_counted}
 
 -- these are the lines of the first places

@@ -2,29 +2,10 @@
 use Rattle.std.specs.Prelude.{if◌then◌else◌}
 use Rattle.std.proofs.Common.{◌≡◌, ◌⊎◌, inl, inr, ℕ, Bool, true, false, List, Option, Some, None, refl, sym, ap, ◌∙◌}
 use Rattle.std.proofs.lemmas.Option.{same_Some}
-use Rattle.rv_image.specs.declared.version.GraphVersion.{GraphVersion}
-use Rattle.rv_image.specs.declared.version.GraphVersion.TheVariants.{OneLabel, TwoLabels, CalleeSaves}
-use Rattle.rv_instr.specs.declared.instr.Instr.{Instr}
-use Rattle.obj_input.specs.declared.item_kind.ItemKind.{ItemKind}
+use Rattle.cfi_writer.proofs.Prelude.{GraphVersion, OneLabel, TwoLabels, CalleeSaves, Instr, ItemKind, Item, is_end, item_of, has_leaves, ClosedGraph, is_call, enters, in_leaf, ProgramAtMap, aim_of, arrival_by, arrival_to, entered_in, gate, gate_to, word, is_short, is_store, site_label, whole_at, Shifts, TargetWord, jump_word, instr_if, Choice, Group, group_at, instr_of, lean_unit_of, mask_at, mask_by, unit_by, unit_here, unit_of}
 use Rattle.obj_input.specs.declared.item_kind.ItemKind.TheVariants as is
-use Rattle.obj_program.specs.declared.item.Item.{Item}
-use Rattle.obj_program.specs.Program.{is_end, item_of}
-use Rattle.cfi_graph.specs.Graph.{has_leaves}
-use Rattle.cfi_closed.specs.Closed.{ClosedGraph}
-use Rattle.cfi_leads.specs.Entries.{is_call}
-use Rattle.cfi_leads.specs.Leads.{enters}
-use Rattle.cfi_leads.specs.Leaves.{in_leaf}
-use Rattle.cfi_map.specs.GraphAtMap.{ProgramAtMap, aim_of, arrival_by, arrival_to, entered_in, gate, gate_to, word}
-use Rattle.cfi_map.specs.Groups.{is_short, is_store}
-use Rattle.cfi_map.specs.LabelOf.{site_label}
-use Rattle.cfi_map.specs.Placement.{whole_at}
-use Rattle.cfi_unit.specs.declared.mask.Mask.TheVariants.{Shifts}
-use Rattle.cfi_unit.specs.declared.target_word.TargetWord.{TargetWord}
 use Rattle.cfi_unit.specs.declared.unit.Unit as U
 use Rattle.cfi_unit.specs.declared.unit.Unit.TheVariants as V
-use Rattle.cfi_rules.specs.Lines.{jump_word}
-use Rattle.cfi_writer.specs.Chosen.{instr_if}
-use Rattle.cfi_writer.specs.Units.{Choice, Group, group_at, instr_of, lean_unit_of, mask_at, mask_by, unit_by, unit_here, unit_of}
 use Rattle.cfi_writer.proofs.GroupLoops.{some_instr}
 
 -- under graphs of versions 1 and 2 a group's mask is one of shifts

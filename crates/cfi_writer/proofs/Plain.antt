@@ -1,21 +1,8 @@
 -- Sizes of leads and of units. Where callers save the sites of calls that of a unit is by its kind. In each version a target has a word before
 -- its unit, a later store has one word, and the first store of a group the words of its mask too.
 use Rattle.std.proofs.Common.{◌≡◌, ℕ, ◌+◌, ◌*◌, ◌≤◌, Bool, true, false, List, [], ◌∷◌, length, Option, refl, arith}
-use Rattle.rv_image.specs.declared.version.GraphVersion.{GraphVersion}
-use Rattle.rv_image.specs.declared.version.GraphVersion.TheVariants.{OneLabel, TwoLabels, CalleeSaves}
-use Rattle.obj_input.specs.declared.item_kind.ItemKind.{ItemKind}
+use Rattle.cfi_writer.proofs.Prelude.{GraphVersion, OneLabel, TwoLabels, CalleeSaves, ItemKind, Item, has_leaves, Side, is_target, Entered, lead_size, lead_words, words_of_entry, words_of_sides, in_leaf, is_short, is_store, is_ecall, kind_size, lean_size, size_by, size_of, Shifts, mask_words, mask_by}
 use Rattle.obj_input.specs.declared.item_kind.ItemKind.TheVariants as is
-use Rattle.obj_program.specs.declared.item.Item.{Item}
-use Rattle.cfi_graph.specs.Graph.{has_leaves}
-use Rattle.cfi_closed.specs.Closed.{Side, is_target}
-use Rattle.cfi_leads.specs.Entered.{Entered}
-use Rattle.cfi_leads.specs.Leads.{lead_size, lead_words, words_of_entry, words_of_sides}
-use Rattle.cfi_leads.specs.Leaves.{in_leaf}
-use Rattle.cfi_map.specs.Groups.{is_short, is_store}
-use Rattle.cfi_map.specs.Placement.{is_ecall, kind_size, lean_size, size_by, size_of}
-use Rattle.cfi_unit.specs.declared.mask.Mask.TheVariants.{Shifts}
-use Rattle.cfi_unit.specs.UnitWords.{mask_words}
-use Rattle.cfi_writer.specs.Units.{mask_by}
 
 size_plain : (version : GraphVersion) (calls : Option (List ℕ)) (inside : Bool) (item : Item) (whole : Bool) → has_leaves version ≡ false →
     size_by version calls inside item whole ≡ kind_size calls item.kind (is_ecall item) whole

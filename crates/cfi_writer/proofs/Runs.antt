@@ -5,17 +5,9 @@ use Rattle.std.specs.Prelude.{slice_get, slice_index, sum}
 use Rattle.std.proofs.lemmas.Bool.{cases_Bool, cases_eq}
 use Rattle.std.proofs.lemmas.List.Sums.{sum_by-cons}
 use Rattle.std.proofs.lemmas.Option.{same_Some, slice_get_within}
-use Rattle.obj_program.specs.declared.item.Item.{Item}
-use Rattle.obj_program.specs.Program.{count, item_of, no_item}
-use Rattle.cfi_leads.specs.Leads.{lead_size}
-use Rattle.cfi_map.specs.GraphAtMap.{entered_in, gate, word}
-use Rattle.cfi_map.specs.Placement.{AreGates, size_of, whole_at}
-use Rattle.cfi_map.specs.Sizes.{part_sizes}
+use Rattle.cfi_writer.proofs.Prelude.{Item, count, item_of, no_item, lead_size, entered_in, gate, word, AreGates, size_of, whole_at, part_sizes, word_count, unit_in, Choice, behind, is_later_at, later_from, lead, unit_here, unit_places, units_of}
 use Rattle.cfi_unit.specs.declared.unit.Unit as U
-use Rattle.cfi_unit.specs.UnitWords.{word_count}
-use Rattle.cfi_rules.specs.Split.{unit_in}
 use Rattle.cfi_rules.proofs.UnitIn.{in_here, in_later, in_past}
-use Rattle.cfi_writer.specs.Units.{Choice, behind, is_later_at, later_from, lead, unit_here, unit_places, units_of}
 use Rattle.cfi_writer.proofs.Grouping.{later_below, later_store, none_later, one_later}
 use Rattle.cfi_writer.proofs.Plain.{size_later}
 pub use Rattle.cfi_writer.proofs.LeadWords.{AreSingle, IsLabelled, IsLeadWord, IsSaverAt, IsWordOf, LeanLead, calls_saved, enters_bytes, from_lead, labels_there, lead_bytes, lead_cases, lead_few, lead_single, lead_sized, lean_lead, lean_lead_if, over, saver, saver_last, side_word, some_words, to_lead, words_in}

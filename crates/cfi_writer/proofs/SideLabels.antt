@@ -5,24 +5,10 @@ use Rattle.std.specs.List.{list_any}
 use Rattle.std.proofs.lemmas.Bool.{cases_Bool, eqb-true, or_cases, or_left, or_right}
 use Rattle.std.proofs.lemmas.List.{length-map}
 use Rattle.std.proofs.lemmas.Option.{get_or_from_slice_get, same_Some, slice_get-get_or, slice_get-map, slice_get_within}
-use Rattle.rv_image.specs.declared.version.GraphVersion.{GraphVersion}
-use Rattle.rv_image.specs.declared.version.GraphVersion.TheVariants.{OneLabel, TwoLabels, CalleeSaves}
+use Rattle.cfi_writer.proofs.Prelude.{GraphVersion, OneLabel, TwoLabels, CalleeSaves, IsIn, has, Sort, Both, Calls, Jumps, SiteKind, ClassLine, is_sort_of, Site, Side, has_site, is_of, is_target_of, sorts_of, class_lines, Tagged, all_classes, class_count, empty_classes, label_at, labels_of, site_label, site_number, tag, tagged, with_empty, past, call_word, is_among, jump_word, read_of, serves, targets_for, labels_before, GatesListed, SitesServed, TargetsBear, word_asked, word_of_side}
 use Rattle.rv_word.proofs.Cases.{mapped}
-use Rattle.cfi_class.specs.Classes.{IsIn, has}
-use Rattle.cfi_graph.specs.declared.line.Sort.{Sort}
-use Rattle.cfi_graph.specs.declared.line.Sort.TheVariants.{Both, Calls, Jumps}
-use Rattle.cfi_graph.specs.declared.line.SiteKind.{SiteKind}
 use Rattle.cfi_graph.specs.declared.line.SiteKind.TheVariants as kinds
-use Rattle.cfi_graph.specs.Graph.{ClassLine, is_sort_of}
-use Rattle.cfi_closed.specs.declared.side.Site.{Site}
-use Rattle.cfi_closed.specs.Closed.{Side, has_site, is_of, is_target_of, sorts_of}
-use Rattle.cfi_map.specs.GraphAtMap.{class_lines}
-use Rattle.cfi_map.specs.LabelOf.{Tagged, all_classes, class_count, empty_classes, label_at, labels_of, site_label, site_number, tag, tagged, with_empty}
-use Rattle.cfi_unit.specs.UnitWords.{past}
 use Rattle.cfi_unit.proofs.Context.{slice_get-front}
-use Rattle.cfi_rules.specs.Lines.{call_word, is_among, jump_word, read_of, serves, targets_for}
-use Rattle.cfi_writer.specs.Chosen.{labels_before}
-use Rattle.cfi_writer.specs.SideLaws.{GatesListed, SitesServed, TargetsBear, word_asked, word_of_side}
 use Rattle.cfi_writer.proofs.ClassLines.{among_from, among_to, class_given, class_line, line_get, served_by, targets_of}
 use Rattle.cfi_writer.proofs.Labelled.{has_in, label_found, label_once, labelled, site_below}
 

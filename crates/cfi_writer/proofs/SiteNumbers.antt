@@ -9,10 +9,7 @@ use Rattle.std.proofs.Math.Seq.{drop-cons}
 use Rattle.std.proofs.lemmas.Bool.{cases_eq, eq-eqb, ne_eqb}
 use Rattle.std.proofs.lemmas.List.{get_or-set_same, get_or-set_other}
 use Rattle.rv_instr.proofs.RegisterFile.{index-zeros}
-use Rattle.cfi_closed.specs.declared.side.Site.{Site}
-use Rattle.cfi_closed.specs.Closed.{Side, has_site}
-use Rattle.cfi_map.specs.LabelOf.{class_count, site_label, empty_classes, number, next_after, site_number, with_empty}
-use Rattle.cfi_writer.specs.Chosen.{labels_before}
+use Rattle.cfi_writer.proofs.Prelude.{Site, Side, has_site, class_count, site_label, empty_classes, number, next_after, site_number, with_empty, labels_before}
 use Rattle.cfi_writer.proofs.SideLabels.{drop_more}
 use Rattle.cfi_writer.proofs.Starts.{before_first, before_next}
 

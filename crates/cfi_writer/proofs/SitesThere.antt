@@ -6,27 +6,12 @@ use Rattle.std.proofs.lemmas.Bool.{eq-eqb, eqb-true, or_cases, or_left, or_right
 use Rattle.std.proofs.lemmas.List.Elements.{All-contains}
 use Rattle.std.proofs.lemmas.List.Quantifiers.{position-Some}
 use Rattle.std.proofs.lemmas.Option.{get_or_from_slice_get, same_Some, slice_get-get_or, slice_get-map, slice_get_within}
-use Rattle.rv_image.specs.declared.version.GraphVersion.{GraphVersion}
-use Rattle.rv_image.specs.declared.version.GraphVersion.TheVariants.{OneLabel, TwoLabels, CalleeSaves}
+use Rattle.cfi_writer.proofs.Prelude.{GraphVersion, OneLabel, TwoLabels, CalleeSaves, Program, count, item_of, SiteKind, Sort, Both, Calls, Jumps, PolicyParts, Site, Side, has_site, is_of, sorts_of, where_below, IsSide, class_reached, raw_for, with_class, has, IsRaw, RawGraph, site_kind, IsSiteOf}
 use Rattle.rv_word.proofs.Cases.{mapped}
-use Rattle.obj_program.specs.Program.{Program, count, item_of}
-use Rattle.cfi_graph.specs.declared.line.SiteKind.{SiteKind}
 use Rattle.cfi_graph.specs.declared.line.SiteKind.TheVariants as kinds
-use Rattle.cfi_graph.specs.declared.line.Sort.{Sort}
-use Rattle.cfi_graph.specs.declared.line.Sort.TheVariants.{Both, Calls, Jumps}
-use Rattle.cfi_policy.specs.Policy.{PolicyParts}
-use Rattle.cfi_closed.specs.declared.side.Site.{Site}
-use Rattle.cfi_closed.specs.Closed.{Side, has_site, is_of, sorts_of}
-use Rattle.cfi_flow.specs.Below.{where_below}
-use Rattle.cfi_flow.specs.Closing.{IsSide, class_reached, raw_for, with_class}
-use Rattle.cfi_class.specs.Classes.{has}
-use Rattle.cfi_flow.specs.Policy.{IsRaw}
-use Rattle.cfi_flow.specs.Raw.{RawGraph}
-use Rattle.cfi_flow.specs.Sites.{site_kind}
 use Rattle.cfi_flow.proofs.Laws.{is_kind_of, is_site_of, place_of_site, side_places}
 use Rattle.cfi_flow.proofs.Listing.{below_all}
 use Rattle.cfi_flow.proofs.Rising.{below_found}
-use Rattle.cfi_writer.specs.Accepted.{IsSiteOf}
 use Rattle.cfi_writer.proofs.SideLabels.{each_sort, sort_get}
 
 -- a number among the places of sites is a site's

@@ -3,25 +3,11 @@ use Rattle.std.proofs.Common.{◌≡◌, ℕ, zero, suc, ◌+◌, ◌<◌, inl, 
 use Rattle.std.specs.Prelude.{is_some, slice_get}
 use Rattle.std.specs.List.{last_or}
 use Rattle.std.proofs.lemmas.Bool.{cases_Bool}
-use Rattle.rv_image.specs.declared.version.GraphVersion.{GraphVersion}
-use Rattle.rv_image.specs.declared.version.GraphVersion.TheVariants.{OneLabel, TwoLabels, CalleeSaves}
-use Rattle.rv_instr.specs.declared.instr.Instr.{Instr}
-use Rattle.obj_input.specs.declared.item_kind.ItemKind.{ItemKind}
+use Rattle.cfi_writer.proofs.Prelude.{GraphVersion, OneLabel, TwoLabels, CalleeSaves, Instr, ItemKind, count, is_end, item_of, in_leaf, leaf_end, aim_of, entered_in, site_label, whole_at, Leaf, leaves_in, admits, EndsIn, StartsIn, IsAccepted, WrittenIsSound, written_heads, Choice, Group, entry_arrival, group_at, instr_of, is_later_at, lead, unit_by, unit_here, unit_places, units, units_of}
 use Rattle.obj_input.specs.declared.item_kind.ItemKind.TheVariants as is
-use Rattle.obj_program.specs.Program.{count, is_end, item_of}
-use Rattle.cfi_leads.specs.Leaves.{in_leaf, leaf_end}
-use Rattle.cfi_map.specs.GraphAtMap.{aim_of, entered_in}
-use Rattle.cfi_map.specs.LabelOf.{site_label}
-use Rattle.cfi_map.specs.Placement.{whole_at}
 use Rattle.cfi_unit.specs.declared.unit.Unit as U
 use Rattle.cfi_unit.specs.declared.unit.Unit.TheVariants as V
-use Rattle.cfi_pending.specs.Kinds.{Leaf}
-use Rattle.cfi_rules.specs.Lines.{leaves_in}
-use Rattle.cfi_rules.specs.Rules.{admits}
-use Rattle.cfi_rules.specs.Sound.{EndsIn, IsSound, StartsIn}
-use Rattle.cfi_writer.specs.Accepted.{IsAccepted}
-use Rattle.cfi_writer.specs.Laws.{WrittenIsSound, written_heads}
-use Rattle.cfi_writer.specs.Units.{Choice, Group, entry_arrival, group_at, instr_of, is_later_at, lead, unit_by, unit_here, unit_places, units, units_of}
+use Rattle.cfi_rules.specs.Sound.{IsSound}
 pub use Rattle.cfi_writer.proofs.BorneLabels.{member_at, member_there}
 use Rattle.cfi_writer.proofs.BorneLabels.{gated, strays}
 use Rattle.cfi_writer.proofs.Grouping.{other_first}

@@ -3,35 +3,15 @@
 use Rattle.std.proofs.Common.{◌≡◌, ℕ, zero, suc, ◌+◌, ◌*◌, ◌%◌, ◌≤◌, ◌<◌, inl, inr, Bool, true, false, List, [], length, Option, Some, refl, sym, ap, subst, ◌∙◌, arith, unwrap_or}
 use Rattle.std.specs.Prelude.{◌&&◌, ◌-◌, not, is_some, slice_get, sum}
 use Rattle.std.proofs.lemmas.Bool.{and_from, cases_Bool, cases_eq, not_from_false, or_left, or_right}
-use Rattle.rv_image.specs.MemoryMap.{CODE_SIZE, CODE_START}
-use Rattle.rv_image.specs.declared.version.GraphVersion.{GraphVersion}
-use Rattle.rv_image.specs.declared.version.GraphVersion.TheVariants.{OneLabel, TwoLabels, CalleeSaves}
+use Rattle.cfi_writer.proofs.Prelude.{CODE_SIZE, CODE_START, GraphVersion, OneLabel, TwoLabels, CalleeSaves, IsInstr, Instr, instr_at, count, is_end, item_of, names_reserved, suits, has_leaves, enters, lead_size, in_leaf, arrival, arrival_by, entered_in, gate, word, words_at, is_store, size_of, whole_at, part_sizes, mask_words, word_count, code_from, StartsIn, unit_in, IsAccepted, Choice, behind, entry_arrival, instr_of, is_later_at, lead, mask_at, unit_here, unit_places, units}
 use Rattle.rv_word.proofs.Cases.{cases_Option}
 use Rattle.rv_image.proofs.Profiles.{LaidOut, laid_out}
-use Rattle.rv_instr.specs.InRange.{IsInstr}
-use Rattle.rv_instr.specs.declared.instr.Instr.{Instr}
 use Rattle.rv_instr.specs.declared.instr.Instr.TheVariants as I
-use Rattle.obj_program.specs.AtMap.{instr_at}
-use Rattle.obj_program.specs.Program.{count, is_end, item_of}
-use Rattle.obj_program.specs.Suits.{names_reserved, suits}
 use Rattle.obj_program.proofs.Kept.{kept}
-use Rattle.cfi_graph.specs.Graph.{has_leaves}
-use Rattle.cfi_leads.specs.Leads.{enters, lead_size}
-use Rattle.cfi_leads.specs.Leaves.{in_leaf}
-use Rattle.cfi_map.specs.GraphAtMap.{arrival, arrival_by, entered_in, gate, word, words_at}
-use Rattle.cfi_map.specs.Groups.{is_store}
-use Rattle.cfi_map.specs.Placement.{size_of, whole_at}
-use Rattle.cfi_map.specs.Sizes.{part_sizes}
 use Rattle.cfi_map.proofs.PartSizes.{unit_many}
 use Rattle.cfi_unit.specs.declared.unit.Unit as U
 use Rattle.cfi_unit.specs.declared.unit.Unit.TheVariants as V
-use Rattle.cfi_unit.specs.UnitWords.{mask_words, word_count}
-use Rattle.cfi_rules.specs.Placed.{code_from}
-use Rattle.cfi_rules.specs.Sound.{StartsIn}
-use Rattle.cfi_rules.specs.Split.{unit_in}
 use Rattle.cfi_rules.proofs.UnitIn.{length-placed_code, lies}
-use Rattle.cfi_writer.specs.Accepted.{IsAccepted}
-use Rattle.cfi_writer.specs.Units.{Choice, behind, entry_arrival, instr_of, is_later_at, lead, mask_at, unit_here, unit_places, units}
 use Rattle.cfi_writer.proofs.CodeRoom.{run_bytes, sized, whole_run}
 use Rattle.cfi_writer.proofs.Entering.{leaf_unled}
 use Rattle.cfi_writer.proofs.GateSteps.{next_from, within}

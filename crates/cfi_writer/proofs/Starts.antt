@@ -5,9 +5,7 @@ use Rattle.std.proofs.lemmas.Bool.{cases_lt}
 use Rattle.std.proofs.Math.Seq.{get_or-append_seam}
 use Rattle.std.proofs.lemmas.List.{get_or_append_left, length-drop, length-map}
 use Rattle.std.proofs.lemmas.Option.{slice_get-get_or}
-use Rattle.cfi_closed.specs.Closed.{Side}
-use Rattle.cfi_map.specs.LabelOf.{all_classes, class_count, tag, tagged}
-use Rattle.cfi_writer.specs.Chosen.{AreStarts, labels_before}
+use Rattle.cfi_writer.proofs.Prelude.{Side, all_classes, class_count, tag, tagged, AreStarts, labels_before}
 
 pub before_first : (sides : List Side) → labels_before sides 0 ≡ 0
 unfolding labels_before

@@ -3,20 +3,9 @@
 use Rattle.std.proofs.Common.{◌≡◌, ℕ, ◌<◌, ◌==◌, inl, inr, Bool, true, false, List, Some, refl, sym, ap, subst, ◌∙◌}
 use Rattle.std.specs.Prelude.{not}
 use Rattle.std.proofs.lemmas.Bool.{cases_Bool, eq-eqb, false_from_ne_true, or_left, true≢false}
-use Rattle.obj_program.specs.Program.{count}
-use Rattle.cfi_graph.specs.Graph.{has_leaves}
-use Rattle.cfi_closed.specs.Closed.{is_target}
-use Rattle.cfi_leads.specs.Leaves.{in_leaf}
-use Rattle.cfi_map.specs.GraphAtMap.{entered_in, gate}
+use Rattle.cfi_writer.proofs.Prelude.{count, has_leaves, is_target, in_leaf, entered_in, gate, is_full, IsOfItsKind, Leaf, is_fresh, may_be_called, leaves_in, may_be_entered, IsAccepted, written_heads, Choice, entry_arrival, is_later_at, unit_here}
 use Rattle.cfi_unit.specs.declared.unit.Unit as U
-use Rattle.cfi_unit.specs.Templates.{is_full}
-use Rattle.cfi_pending.specs.Kinds.{IsOfItsKind, Leaf, is_fresh, may_be_called}
 use Rattle.cfi_rules.proofs.FullKinds.{admits_full, kinds_if_full, saved_if_full}
-use Rattle.cfi_rules.specs.Lines.{leaves_in}
-use Rattle.cfi_rules.specs.Sound.{may_be_entered}
-use Rattle.cfi_writer.specs.Accepted.{IsAccepted}
-use Rattle.cfi_writer.specs.Laws.{written_heads}
-use Rattle.cfi_writer.specs.Units.{Choice, entry_arrival, is_later_at, unit_here}
 use Rattle.cfi_writer.proofs.CodeRoom.{target_entered}
 use Rattle.cfi_writer.proofs.Entering.{in_leaf_untargeted}
 use Rattle.cfi_writer.proofs.FreshStarts.{callable, gate_fresh, stands}

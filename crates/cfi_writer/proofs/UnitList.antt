@@ -5,18 +5,9 @@ use Rattle.std.specs.List.{filter, range_with_len}
 use Rattle.std.proofs.lemmas.List.Elements.{filter-append}
 use Rattle.std.proofs.lemmas.List.{length-map, map-append, take_all, take_more}
 use Rattle.std.proofs.lemmas.Option.{get_or_from_slice_get, same_Some, slice_get_within}
-use Rattle.rv_image.specs.declared.version.GraphVersion.{GraphVersion}
-use Rattle.rv_image.specs.declared.version.GraphVersion.TheVariants.{OneLabel, TwoLabels, CalleeSaves}
-use Rattle.obj_program.specs.Program.{count}
-use Rattle.cfi_graph.specs.Graph.{has_leaves}
+use Rattle.cfi_writer.proofs.Prelude.{GraphVersion, OneLabel, TwoLabels, CalleeSaves, count, has_leaves, Side, is_target, sorts_of, enters, entered_in, word, labels_of, IsAccepted, Choice, gate_unit, is_later_at, lead, lead_by, lead_of_entry, lead_of_sides, lead_unit, unit_here, unit_places, units, units_of}
 use Rattle.cfi_unit.specs.declared.unit.Unit as U
 use Rattle.cfi_unit.specs.declared.unit.Unit.TheVariants as V
-use Rattle.cfi_closed.specs.Closed.{Side, is_target, sorts_of}
-use Rattle.cfi_leads.specs.Leads.{enters}
-use Rattle.cfi_map.specs.GraphAtMap.{entered_in, word}
-use Rattle.cfi_map.specs.LabelOf.{labels_of}
-use Rattle.cfi_writer.specs.Accepted.{IsAccepted}
-use Rattle.cfi_writer.specs.Units.{Choice, gate_unit, is_later_at, lead, lead_by, lead_of_entry, lead_of_sides, lead_unit, unit_here, unit_places, units, units_of}
 use Rattle.cfi_writer.proofs.SideLabels.{length-labels_of}
 
 -- a word more of those before a unit

@@ -4,43 +4,15 @@ use Rattle.std.proofs.Common.{◌≡◌, ℕ, suc, ◌+◌, ◌*◌, Bool, true,
 use Rattle.std.specs.Prelude.{◌&&◌, ◌||◌, not}
 use Rattle.std.proofs.lemmas.Bool.{and_from}
 use Rattle.std.proofs.lemmas.Option.{same_Some}
-use Rattle.rv_image.specs.declared.version.GraphVersion.{GraphVersion}
-use Rattle.rv_image.specs.declared.version.GraphVersion.TheVariants.{OneLabel, TwoLabels, CalleeSaves}
+use Rattle.cfi_writer.proofs.Prelude.{GraphVersion, OneLabel, TwoLabels, CalleeSaves, UpperOp, Instr, ItemKind, Item, is_end, is_direct, names_reserved, suits, has_leaves, SiteKind, line_of_kind, is_short, is_store, call_size, is_ecall, is_ecall_instr, kind_size, lean_size, size_by, site_kind, Mask, Shifts, TargetWord, First, Second, Third, flow_of, mask_words, word_count, stands_in, jump_word, line_of, admits, asks, gate_of, is_of_version, may_call, same_word, site_of, test_is_of_version, target_of, Asks, word_asked, Group, call_unit, inverse, lean_unit_of, mask_by, unit_by, unit_of}
 use Rattle.rv_word.proofs.SameNumbers.{same_itself}
-use Rattle.rv_instr.specs.declared.instr.UpperOp.{UpperOp}
-use Rattle.rv_instr.specs.declared.instr.Instr.{Instr}
 use Rattle.rv_instr.specs.declared.instr.Instr.TheVariants as I
-use Rattle.obj_input.specs.declared.item_kind.ItemKind.{ItemKind}
 use Rattle.obj_input.specs.declared.item_kind.ItemKind.TheVariants as is
-use Rattle.obj_program.specs.declared.item.Item.{Item}
-use Rattle.obj_program.specs.Program.{is_end}
-use Rattle.obj_program.specs.Sound.{is_direct}
-use Rattle.obj_program.specs.Suits.{names_reserved, suits}
-use Rattle.cfi_graph.specs.Graph.{has_leaves}
-use Rattle.cfi_graph.specs.declared.line.SiteKind.{SiteKind}
 use Rattle.cfi_graph.specs.declared.line.SiteKind.TheVariants as K
-use Rattle.cfi_map.specs.GraphAtMap.{line_of_kind}
-use Rattle.cfi_map.specs.Groups.{is_short, is_store}
-use Rattle.cfi_map.specs.Placement.{call_size, is_ecall, is_ecall_instr, kind_size, lean_size, size_by}
-use Rattle.cfi_flow.specs.Sites.{site_kind}
-use Rattle.cfi_unit.specs.declared.mask.Mask.{Mask}
-use Rattle.cfi_unit.specs.declared.mask.Mask.TheVariants.{Shifts}
 use Rattle.cfi_unit.specs.declared.place.Place.TheVariants.{Body as body}
 use Rattle.cfi_unit.specs.declared.unit.Unit as U
 use Rattle.cfi_unit.specs.declared.unit.Unit.TheVariants as V
 use Rattle.cfi_unit.specs.declared.unit.SystemOp.TheVariants as S
-use Rattle.cfi_unit.specs.declared.target_word.TargetWord.{TargetWord}
-use Rattle.cfi_unit.specs.declared.target_word.TargetWord.TheVariants.{First, Second, Third}
-use Rattle.cfi_unit.specs.Flow.{flow_of}
-use Rattle.cfi_unit.specs.UnitWords.{mask_words, word_count}
-use Rattle.cfi_pending.specs.StartLaw.{stands_in}
-use Rattle.cfi_rules.specs.Lines.{jump_word}
-use Rattle.cfi_rules.specs.Placed.{line_of}
-use Rattle.cfi_rules.specs.Rules.{admits, asks, gate_of, is_of_version, may_call, same_word, site_of, test_is_of_version}
-use Rattle.cfi_rules.specs.Sound.{target_of}
-use Rattle.cfi_rules.specs.declared.asks.Asks.{Asks}
-use Rattle.cfi_writer.specs.SideLaws.{word_asked}
-use Rattle.cfi_writer.specs.Units.{Group, call_unit, inverse, lean_unit_of, mask_by, unit_by, unit_of}
 
 -- what is known of the instruction of a place: it is of the place's kind and names no reserved register, or the place is an end
 abbrev pub is_right : ItemKind → Instr → Bool

@@ -4,31 +4,10 @@ use Rattle.std.proofs.Common.{◌≡◌, ◌⊎◌, ℕ, ◌<◌, ◌==◌, inl,
 use Rattle.std.specs.Prelude.{is_some}
 use Rattle.std.proofs.lemmas.Bool.{cond_both, eq-eqb, or_left}
 use Rattle.std.proofs.lemmas.Option.{same_Some}
-use Rattle.rv_image.specs.declared.version.GraphVersion.{GraphVersion}
-use Rattle.rv_image.specs.declared.version.GraphVersion.TheVariants.{OneLabel, TwoLabels, CalleeSaves}
-use Rattle.obj_program.specs.Program.{count, item_of}
-use Rattle.cfi_graph.specs.Graph.{has_leaves}
-use Rattle.cfi_graph.specs.declared.line.SiteKind.{SiteKind}
-use Rattle.cfi_flow.specs.Sites.{site_kind}
-use Rattle.cfi_leads.specs.Entries.{is_call}
-use Rattle.cfi_leads.specs.Leads.{enters}
-use Rattle.cfi_leads.specs.Leaves.{in_leaf}
-use Rattle.cfi_map.specs.GraphAtMap.{aim_of, arrival, arrival_by, arrival_to, entered_in, gate, gate_to, word}
-use Rattle.cfi_map.specs.Groups.{is_short}
-use Rattle.cfi_map.specs.LabelOf.{site_label}
-use Rattle.cfi_map.specs.Placement.{whole_at}
+use Rattle.cfi_writer.proofs.Prelude.{GraphVersion, OneLabel, TwoLabels, CalleeSaves, count, item_of, has_leaves, SiteKind, site_kind, is_call, enters, in_leaf, aim_of, arrival, arrival_by, arrival_to, entered_in, gate, gate_to, word, is_short, site_label, whole_at, Reaches, targets_for, admits, site_of, StartsIn, target_of, Asks, IsAccepted, written_classes, AreLabelled, word_asked, Choice, bounds_at, entry_arrival, group_at, instr_of, is_later_at, lead_unit, unit_here, units}
 use Rattle.cfi_unit.specs.declared.place.Place.TheVariants.{Body as body}
 use Rattle.cfi_unit.specs.declared.unit.Unit as U
 use Rattle.cfi_unit.specs.declared.unit.Unit.TheVariants as V
-use Rattle.cfi_unit.specs.UnitWords.{Reaches}
-use Rattle.cfi_rules.specs.Lines.{targets_for}
-use Rattle.cfi_rules.specs.Rules.{admits, site_of}
-use Rattle.cfi_rules.specs.Sound.{StartsIn, target_of}
-use Rattle.cfi_rules.specs.declared.asks.Asks.{Asks}
-use Rattle.cfi_writer.specs.Accepted.{IsAccepted}
-use Rattle.cfi_writer.specs.Laws.{written_classes}
-use Rattle.cfi_writer.specs.SideLaws.{AreLabelled, word_asked}
-use Rattle.cfi_writer.specs.Units.{Choice, bounds_at, entry_arrival, group_at, instr_of, is_later_at, lead_unit, unit_here, units}
 use Rattle.cfi_writer.proofs.Fitting.{IsInCode, reach}
 use Rattle.cfi_writer.proofs.Grouping.{entered_first}
 use Rattle.cfi_writer.proofs.LeadWords.{IsLeadWord, from_lead, over, saver, side_word}

@@ -4,25 +4,11 @@ use Rattle.std.specs.Prelude.{◌&&◌, nat_le, nat_lt, slice_get, slice_index}
 use Rattle.std.specs.List.Sorted.{IsStrictlyIncreasing}
 use Rattle.std.proofs.lemmas.Bool.{and_from, and_parts, eq-eqb, le-leb, lt-ltb, ltb-true, or_left}
 use Rattle.std.proofs.lemmas.Option.{get_or_from_slice_get, slice_get_within}
-use Rattle.rv_image.specs.declared.version.GraphVersion.{GraphVersion}
-use Rattle.rv_image.specs.MemoryMap.{CODE_SIZE, CODE_START}
-use Rattle.obj_program.specs.Program.{count}
-use Rattle.cfi_graph.specs.Graph.{IsGraph, is_code_address, is_code_end, is_code_length, is_label, is_sort_of}
-use Rattle.cfi_graph.specs.declared.line.GraphLine.{GraphLine}
-use Rattle.cfi_closed.specs.Closed.{Side}
-use Rattle.cfi_class.specs.Classes.{has}
-use Rattle.cfi_leads.specs.Leaves.{leaf_end}
-use Rattle.cfi_map.specs.GraphAtMap.{entered_in, gate, graph_lines, word}
-use Rattle.cfi_map.specs.LabelOf.{Tagged, all_classes, tagged}
-use Rattle.cfi_unit.specs.UnitWords.{mask_words}
+use Rattle.cfi_writer.proofs.Prelude.{GraphVersion, CODE_SIZE, CODE_START, count, IsGraph, is_code_address, is_code_end, is_code_length, is_label, is_sort_of, GraphLine, Side, has, leaf_end, entered_in, gate, graph_lines, word, Tagged, all_classes, tagged, mask_words, unit_at, unit_in, IsAccepted, WrittenEntry, WrittenIsGraph, WrittenIsWellFormed, WrittenUnits, written_classes, written_code, written_heads, Choice, entry_arrival, mask_at, unit_places, units}
 use Rattle.cfi_rules.specs.Sound.{IsSound}
-use Rattle.cfi_rules.specs.Split.{unit_at, unit_in}
 use Rattle.cfi_rules.proofs.PlacedCode.{placed_entry, placed_units, placed_well_formed}
 use Rattle.cfi_rules.proofs.PlacedGraph.{placed_is_graph}
 use Rattle.cfi_rules.proofs.UnitIn.{length-placed_code}
-use Rattle.cfi_writer.specs.Accepted.{IsAccepted}
-use Rattle.cfi_writer.specs.Laws.{WrittenEntry, WrittenIsGraph, WrittenIsWellFormed, WrittenUnits, written_classes, written_code, written_heads}
-use Rattle.cfi_writer.specs.Units.{Choice, entry_arrival, mask_at, unit_places, units}
 use Rattle.cfi_writer.proofs.ClassLines.{lines_of_version, lines_order, lines_range, lines_targets}
 use Rattle.cfi_writer.proofs.CodeRoom.{run_bytes}
 use Rattle.cfi_writer.proofs.GateSteps.{within}

@@ -1,32 +1,8 @@
 -- A prepared program that is written, with its graph and map.
 use Rattle.std.proofs.Common.{◌≡◌, ℕ, ◌*◌, ◌^◌, ◌<◌, ◌≤◌, List, length, Some, sym, ap, subst, ◌∙◌, arith}
 use Rattle.std.specs.Prelude.{slice_index}
-use Rattle.rv_image.specs.declared.version.GraphVersion.{GraphVersion}
-use Rattle.rv_image.specs.declared.version.ImageVersion.{ImageVersion}
-use Rattle.rv_image.specs.Image.{IsImageSize}
-use Rattle.rv_image.specs.declared.version.Versions.{Versions}
-use Rattle.rv_image.specs.Form.{graph_version, image_version, profile_for}
-use Rattle.rv_image.specs.MemoryMap.{CODE_SIZE, Profile, profile_under, profile_with}
-use Rattle.rv_image.specs.declared.form.Form.{Form}
-use Rattle.elf_image.specs.Spelling.{spelling}
-use Rattle.cfi_graph.specs.Graph.{GraphParts, IsGraph}
-use Rattle.cfi_map_text.specs.Map.{MapParts}
-use Rattle.obj_program.specs.DataAtMap.{data_at, init_size}
-use Rattle.cfi_map.specs.GraphAtMap.{ProgramAtMap, graph_lines}
-use Rattle.cfi_map.specs.LegalMap.{IsLegalMap, gates_of}
-use Rattle.cfi_unit.specs.UnitWords.{Reaches}
-use Rattle.cfi_rules.specs.Laws.{AreBytes}
-use Rattle.cfi_rules.specs.Placed.{AllFit, placed_code}
-use Rattle.cfi_rules.specs.Rules.{IsWellFormed}
-use Rattle.cfi_rules.specs.Split.{code_words}
+use Rattle.cfi_writer.proofs.Prelude.{GraphVersion, ImageVersion, IsImageSize, Versions, graph_version, image_version, profile_for, CODE_SIZE, Profile, profile_under, profile_with, Form, spelling, GraphParts, IsGraph, MapParts, data_at, init_size, ProgramAtMap, graph_lines, IsLegalMap, gates_of, Reaches, AreBytes, AllFit, placed_code, IsWellFormed, code_words, IsAccepted, INIT_ROOM, chosen, written_code, map_lines, Spaced, Choice, entry_arrival, units, IsCoded, IsDescribed, IsImageWith, IsWritable, IsWrittenAs}
 use Rattle.cfi_rules.proofs.UnitIn.{length-placed_code}
-use Rattle.cfi_writer.specs.Accepted.{IsAccepted}
-use Rattle.cfi_writer.specs.Hardened.{INIT_ROOM, chosen}
-use Rattle.cfi_writer.specs.Laws.{written_code}
-use Rattle.cfi_writer.specs.MapLines.{map_lines}
-use Rattle.cfi_map.specs.Placing.{Spaced}
-use Rattle.cfi_writer.specs.Units.{Choice, entry_arrival, units}
-use Rattle.cfi_writer.specs.Writing.{IsCoded, IsDescribed, IsImageWith, IsWritable, IsWrittenAs}
 use Rattle.cfi_writer.proofs.WholeCode.{written_graph, written_well_formed}
 use Rattle.cfi_writer.proofs.SoundCode.{written_sound}
 use Rattle.cfi_writer.proofs.Standing.{laid}

@@ -3,29 +3,10 @@
 use Rattle.std.proofs.Common.{◌≡◌, ℕ, suc, ◌+◌, ◌*◌, ◌<◌, inl, inr, Bool, true, false, List, [], ◌∷◌, ◌++◌, length, map, get_or, Option, Some, None, refl, sym, ap, ◌∙◌, arith}
 use Rattle.std.specs.Prelude.{slice_get}
 use Rattle.std.proofs.lemmas.Bool.{cases_Bool}
-use Rattle.rv_image.specs.MemoryMap.{START}
-use Rattle.rv_image.specs.declared.version.GraphVersion.{GraphVersion}
-use Rattle.rv_image.specs.declared.version.GraphVersion.TheVariants.{OneLabel, TwoLabels, CalleeSaves}
-use Rattle.obj_input.specs.declared.item_kind.ItemKind.{ItemKind}
+use Rattle.cfi_writer.proofs.Prelude.{START, GraphVersion, OneLabel, TwoLabels, CalleeSaves, ItemKind, Item, count, item_of, no_item, has_leaves, GraphLine, Call, Edge, is_target, enters, in_leaf, aim_of, entered_in, gate, graph_lines, jump_line, jump_line_by, line_for, line_of_kind, place_lines, with_line, word, is_store, labels_of, site_label, whole_at, word_count, line_of, IsAccepted, WrittenLines, written_heads, Choice, entry_arrival, group_at, instr_of, is_later_at, lead, lead_by, lead_of_entry, lead_of_sides, lead_unit, unit_here, unit_places, units, units_of}
 use Rattle.obj_input.specs.declared.item_kind.ItemKind.TheVariants as is
-use Rattle.obj_program.specs.declared.item.Item.{Item}
-use Rattle.obj_program.specs.Program.{count, item_of, no_item}
-use Rattle.cfi_graph.specs.Graph.{has_leaves}
-use Rattle.cfi_graph.specs.declared.line.GraphLine.{GraphLine}
-use Rattle.cfi_graph.specs.declared.line.GraphLine.TheVariants.{Call, Edge}
-use Rattle.cfi_closed.specs.Closed.{is_target}
-use Rattle.cfi_leads.specs.Leads.{enters}
-use Rattle.cfi_leads.specs.Leaves.{in_leaf}
-use Rattle.cfi_map.specs.GraphAtMap.{aim_of, entered_in, gate, graph_lines, jump_line, jump_line_by, line_for, line_of_kind, place_lines, with_line, word}
-use Rattle.cfi_map.specs.Groups.{is_store}
-use Rattle.cfi_map.specs.LabelOf.{labels_of, site_label}
-use Rattle.cfi_map.specs.Placement.{whole_at}
 use Rattle.cfi_unit.specs.declared.unit.Unit as U
-use Rattle.cfi_unit.specs.UnitWords.{word_count}
-use Rattle.cfi_rules.specs.Placed.{line_of, lines_from}
-use Rattle.cfi_writer.specs.Accepted.{IsAccepted}
-use Rattle.cfi_writer.specs.Laws.{WrittenLines, written_heads}
-use Rattle.cfi_writer.specs.Units.{Choice, entry_arrival, group_at, instr_of, is_later_at, lead, lead_by, lead_of_entry, lead_of_sides, lead_unit, unit_here, unit_places, units, units_of}
+use Rattle.cfi_rules.specs.Placed.{lines_from}
 use Rattle.cfi_writer.proofs.Grouping.{later_store}
 use Rattle.cfi_writer.proofs.Runs.{IsLabelled, Run, enters_bytes, labels_there, lead_bytes, lean_lead_if, place_there, places_more, places_skip, words_in}
 use Rattle.cfi_writer.proofs.Standing.{right, sizes, the_run}

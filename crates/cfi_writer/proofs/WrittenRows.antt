@@ -3,31 +3,12 @@
 -- instructions and the sizes of units.
 use Rattle.std.proofs.Common.{◌≡◌, ℕ, true, false, List, [], ◌∷◌, ◌++◌, Some, None, length, take, drop, pos, refl}
 use Rattle.std.specs.Prelude.{Option, slice_get}
-use Rattle.rv_image.specs.declared.version.GraphVersion.TheVariants.{OneLabel, TwoLabels}
-use Rattle.rv_image.specs.MemoryMap.{Profile, UNITS_START, version_1, version_2}
-use Rattle.rv_code.specs.Decode.{decoded}
-use Rattle.rv_code.specs.Encode.{code_of}
-use Rattle.obj_input.specs.declared.item_kind.ItemKind.{ItemKind}
+use Rattle.cfi_writer.proofs.Prelude.{OneLabel, TwoLabels, Profile, UNITS_START, version_1, version_2, decoded, code_of, ItemKind, Item, Patch, Number, instr_at, Program, Call, Class, Edge, Both, Calls, Jumps, Side, ProgramAtMap, class_lines, graph_lines, place_lines, entered_in, empty_classes, label_at, labels_of, site_label, site_number, tagged, AreGates, words_from, words_of, code_from, is_kept, written_code, Choice, followers, units_of}
 use Rattle.obj_input.specs.declared.item_kind.ItemKind.TheVariants as is
-use Rattle.obj_program.specs.declared.item.Item.{Item}
-use Rattle.obj_program.specs.declared.item.Patch.{Patch}
 use Rattle.obj_program.specs.declared.item.Patch.TheVariants as put
-use Rattle.obj_program.specs.declared.item.Value.TheVariants.{Number}
-use Rattle.obj_program.specs.AtMap.{instr_at}
-use Rattle.obj_program.specs.Program.{Program}
 use Rattle.cfi_graph.specs.declared.line.Sort.TheVariants as sorts
-use Rattle.cfi_graph.specs.declared.line.GraphLine.TheVariants.{Call, Class, Edge, Site}
+use Rattle.cfi_graph.specs.declared.line.GraphLine.TheVariants.{Site}
 use Rattle.cfi_graph.specs.declared.line.SiteKind.TheVariants as site
-use Rattle.cfi_graph.specs.declared.line.Sort.TheVariants.{Both, Calls, Jumps}
-use Rattle.cfi_closed.specs.Closed.{Side}
-use Rattle.cfi_map.specs.GraphAtMap.{ProgramAtMap, class_lines, graph_lines, place_lines, entered_in}
-use Rattle.cfi_map.specs.LabelOf.{empty_classes, label_at, labels_of, site_label, site_number, tagged}
-use Rattle.cfi_map.specs.Placement.{AreGates, words_from}
-use Rattle.cfi_unit.specs.UnitWords.{words_of}
-use Rattle.cfi_rules.specs.Placed.{code_from}
-use Rattle.cfi_map.specs.Shorts.{is_kept}
-use Rattle.cfi_writer.specs.Laws.{written_code}
-use Rattle.cfi_writer.specs.Units.{Choice, followers, units_of}
 
 abbrev pub place : ℕ → ItemKind → ℕ → Option ℕ → Item
 place offset kind word target = record { section = 1; offset = offset; kind = kind; word = word; patch = put.Own; target = target; taken = false }

@@ -4,34 +4,12 @@ use Rattle.std.specs.List.{All, filter_map, flat_map}
 use Rattle.std.proofs.lemmas.Bool.{cases_eq}
 use Rattle.std.proofs.lemmas.List.{get_or-map, length-map}
 use Rattle.std.proofs.lemmas.List.Elements.{All-cons, All-filter, All-get_or, All-head, All-nil, All-tail}
-use Rattle.rv_image.specs.MemoryMap.{DATA_START}
-use Rattle.least.specs.Nearest.{nearest}
+use Rattle.gen_hardened.proofs.Prelude.{DATA_START, nearest, Relocation, RelocKind, High, RelativeHigh, RelativeLowI, RelativeLowS, TableHigh, kind_of, is_acting, InputParts, SectionParts, acting_at, is_code, is_code_sort, section_count, section_of, fault_of, DataReloc, Item, Number, instr_at, Program, count, no_item, first_instr, first_reloc, is_astray, out_of_range, reloc_astray, reloc_of, relocs_of, section_relocs, item_with, patch_by, patch_from, end_at, outline, program_of, program_with, use_value, value_of, Function, table_relocs, IsGenerated, use_of}
 use Rattle.least.proofs.Firsts.{none_first}
-use Rattle.obj_input.specs.declared.parts.Relocation.{Relocation}
-use Rattle.obj_input.specs.declared.reloc_kind.RelocKind.{RelocKind}
-use Rattle.obj_input.specs.declared.reloc_kind.RelocKind.TheVariants.{High, RelativeHigh, RelativeLowI, RelativeLowS, TableHigh}
-use Rattle.obj_input.specs.Kinds.{kind_of}
-use Rattle.obj_input.specs.Relocation.{is_acting}
-use Rattle.obj_input.specs.Input.{InputParts, SectionParts, acting_at, is_code, is_code_sort, section_count, section_of}
-use Rattle.obj_check.specs.Fault.{fault_of}
-use Rattle.obj_program.specs.declared.item.DataReloc.{DataReloc}
-use Rattle.obj_program.specs.declared.item.Item.{Item}
 use Rattle.obj_program.specs.declared.item.Patch.TheVariants as put
-use Rattle.obj_program.specs.declared.item.Value.TheVariants.{Number}
-use Rattle.obj_program.specs.AtMap.{instr_at}
-use Rattle.obj_program.specs.Program.{Program, count, no_item}
-use Rattle.obj_program.specs.Range.{first_instr, first_reloc, is_astray, out_of_range, reloc_astray}
-use Rattle.obj_items.specs.InitialData.{reloc_of, relocs_of, section_relocs}
-use Rattle.obj_items.specs.Links.{item_with, patch_by, patch_from}
-use Rattle.obj_items.specs.Outline.{end_at, outline}
-use Rattle.obj_items.specs.ProgramOf.{program_of, program_with}
-use Rattle.obj_items.specs.Values.{use_value, value_of}
 use Rattle.obj_items.proofs.LookUp.{IsOfOutline, all_joined, outline_right}
 use Rattle.obj_items.proofs.NoFault.{right}
 use Rattle.obj_items.proofs.Starts.{linked_at, linked_is, start_read}
-use Rattle.cfi_gen.specs.declared.function.Function.{Function}
-use Rattle.cfi_gen.specs.Demo.{table_relocs}
-use Rattle.gen_hardened.specs.Generated.{IsGenerated, use_of}
 use Rattle.gen_hardened.proofs.DataRoom.{no_code, no_data, table_address, table_sort}
 use Rattle.gen_hardened.proofs.Reached.{Reaches, UseReaches, uses_reach}
 use Rattle.gen_hardened.proofs.Settled.{IsSettled, IsThere, instruction_there}

@@ -3,13 +3,7 @@ use Rattle.std.proofs.Common.{◌≡◌, ◌≢◌, ℕ, zero, suc, ◌+◌, ◌
 use Rattle.std.proofs.lemmas.Bool.{cases_Bool}
 use Rattle.std.proofs.lemmas.List.{map-append}
 use Rattle.std.proofs.lemmas.List.Elements.{filter-append, filter_map-append}
-use Rattle.elf_tables.specs.declared.entry.Reloc.{Reloc}
-use Rattle.obj_input.specs.declared.parts.Relocation.{Relocation}
-use Rattle.obj_input.specs.declared.parts.Definition.{Definition}
-use Rattle.obj_input.specs.Kinds.{is_idle, kind_of}
-use Rattle.obj_input.specs.Input.{acting_among}
-use Rattle.cfi_gen.specs.declared.mark.Mark.{Mark}
-use Rattle.cfi_gen.specs.Lines.{Line, mark_at, relocs_from}
+use Rattle.gen_hardened.proofs.Prelude.{Reloc, Relocation, Definition, is_idle, kind_of, acting_among, Mark, Line, mark_at, relocs_from}
 use Rattle.gen_hardened.proofs.Encoded.{line}
 
 -- a relocation with what its symbol stands for

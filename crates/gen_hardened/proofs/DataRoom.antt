@@ -1,17 +1,7 @@
 -- The data of a generated object are its table, which stands where data begin, and have room.
 use Rattle.std.proofs.Common.{◌≡◌, ◌≢◌, ℕ, zero, suc, ◌+◌, false, List, [], length, inl, inr, refl, ap, ◌∙◌, arith}
 use Rattle.std.proofs.lemmas.Bool.{cases_eq}
-use Rattle.rv_image.specs.MemoryMap.{DATA_START}
-use Rattle.obj_input.specs.declared.parts.Block.{Block}
-use Rattle.obj_input.specs.declared.parts.Sort.TheVariants.{Code, Data}
-use Rattle.obj_input.specs.Input.{InputParts, SectionParts, is_code, is_code_sort, is_data_sort, is_zeros_sort, section_count, section_of}
-use Rattle.obj_input.specs.DataLayout.{blocks_reach, data_end, init_end, reach, section_address, zeros_end}
-use Rattle.obj_items.specs.InitialData.{init_below}
-use Rattle.obj_items.specs.ProgramOf.{program_of}
-use Rattle.cfi_gen.specs.declared.function.Function.{Function}
-use Rattle.cfi_gen.specs.Demo.{table_bytes}
-use Rattle.gen_hardened.specs.Generated.{IsGenerated}
-use Rattle.cfi_harden.specs.Room.{HasDataRoom}
+use Rattle.gen_hardened.proofs.Prelude.{DATA_START, Block, Code, Data, InputParts, SectionParts, is_code, is_code_sort, is_data_sort, is_zeros_sort, section_count, section_of, blocks_reach, data_end, init_end, reach, section_address, zeros_end, init_below, program_of, Function, table_bytes, IsGenerated, HasDataRoom}
 use Rattle.cfi_gen.proofs.Writing.{length-table}
 
 module _ {fs : List Function} {input : InputParts} (g : IsGenerated fs input) where

@@ -1,10 +1,7 @@
 -- The functions that are drawn are as many as asked for, and call none past their end.
 use Rattle.std.proofs.Common.{◌≡◌, ℕ, zero, suc, ◌+◌, ◌/◌, ◌%◌, ◌^◌, ◌<◌, ◌≤◌, ◌==◌, List, [], ◌∷◌, inl, inr, arith, eqb-true}
 use Rattle.std.proofs.lemmas.Bool.{cases_Bool}
-use Rattle.cfi_gen.specs.declared.function.Function.{Function}
-use Rattle.cfi_gen.specs.declared.function.Shape.{Shape}
-use Rattle.cfi_gen.specs.declared.function.Shape.TheVariants.{Call}
-use Rattle.cfi_gen.specs.Drawing.{are_near, drawn, function_at, functions_from, next, shape_of}
+use Rattle.gen_hardened.proofs.Prelude.{Function, Shape, Call, are_near, drawn, function_at, functions_from, next, shape_of}
 
 -- it calls one of `n` functions
 abbrev pub IsNearShape : ℕ → Shape → Type 0

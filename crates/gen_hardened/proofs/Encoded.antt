@@ -1,21 +1,10 @@
 -- The words of code are decoded as the instructions of its lines.
 use Rattle.std.proofs.Common.{◌≡◌, ℕ, zero, suc, ◌+◌, ◌*◌, ◌^◌, ◌<◌, List, [], ◌∷◌, length, get_or, Some, inl, inr, ap, ◌∙◌, arith, lit<}
 use Rattle.std.specs.List.{flat_map}
-use Rattle.rv_instr.specs.InRange.{IsInstr}
-use Rattle.rv_instr.specs.declared.instr.Instr.{Instr}
-use Rattle.rv_instr.specs.declared.instr.Instr.TheVariants.{Upper, Jal, Jalr, Branch, Load, Store, Immediate, Shift, ShiftWord, Register, Fence, Ecall, Ebreak}
-use Rattle.rv_instr.specs.declared.instr.UpperOp.TheVariants.{Lui, Auipc}
-use Rattle.rv_instr.specs.declared.instr.ShiftOp.TheVariants.{Slli, Srli, Srai}
-use Rattle.rv_instr.specs.declared.instr.ShiftWordOp.TheVariants.{Slliw, Srliw, Sraiw}
-use Rattle.rv_instr.specs.declared.instr.RegisterOp.{RegisterOp}
-use Rattle.rv_instr.specs.declared.instr.RegisterOp.TheVariants.{Add}
-use Rattle.rv_code.specs.Decode.{decoded}
-use Rattle.rv_code.specs.Encode.{code_of, register_code}
+use Rattle.gen_hardened.proofs.Prelude.{IsInstr, Instr, Upper, Jal, Jalr, Branch, Load, Store, Immediate, Shift, ShiftWord, Register, Fence, Ecall, Ebreak, Lui, Auipc, Slli, Srli, Srai, Slliw, Srliw, Sraiw, RegisterOp, Add, decoded, code_of, register_code, number_at, Line, code_bytes, plain, word_bytes}
 use Rattle.rv_code.proofs.Rows.{branch_row, immediate_row, load_row, store_row}
 use Rattle.rv_code.proofs.ReadBack.{decoded-code_of}
-use Rattle.elf_bytes.specs.Fields.{number_at}
 use Rattle.elf_writer.proofs.Stands.{StandsAt, stands_at, stands_first, stands_number, stands_second, stands_within}
-use Rattle.cfi_gen.specs.Lines.{Line, code_bytes, plain, word_bytes}
 
 -- a line of code, and what stands past its end
 abbrev pub no_line : Line

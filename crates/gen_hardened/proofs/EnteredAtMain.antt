@@ -4,26 +4,10 @@ use Rattle.std.specs.Prelude.{option_and_then, slice_index_or}
 use Rattle.std.specs.List.{flat_map}
 use Rattle.std.proofs.lemmas.Bool.{cases_Bool, cases_lt}
 use Rattle.rv_word.proofs.Cases.{cases_Option}
-use Rattle.rv_instr.specs.declared.instr.Instr.{Instr}
-use Rattle.rv_instr.specs.declared.instr.Instr.TheVariants.{Jalr}
-use Rattle.least.specs.Nearest.{joined}
-use Rattle.obj_input.specs.declared.item_kind.ItemKind.{ItemKind}
-use Rattle.obj_input.specs.Input.{InputParts, Named, SectionParts, acting_at, is_code, section_count, section_of}
-use Rattle.obj_input.specs.Code.{instr, is_pair, word_count}
-use Rattle.obj_input.specs.Names.{find_spot}
-use Rattle.obj_check.specs.Kind.{kind_at, pair_kind, word_kind}
-use Rattle.obj_program.specs.declared.item.Item.{Item}
-use Rattle.obj_program.specs.Program.{Program, is_end, is_spot, item_of, no_item, place_of}
-use Rattle.obj_items.specs.Links.{item_with, linked}
-use Rattle.obj_items.specs.Outline.{code_items, end_at, outline, section_items, start_at, start_item}
-use Rattle.obj_items.specs.ProgramOf.{program_of}
+use Rattle.gen_hardened.proofs.Prelude.{Instr, Jalr, joined, ItemKind, InputParts, Named, SectionParts, acting_at, is_code, section_count, section_of, instr, is_pair, word_count, find_spot, kind_at, pair_kind, word_kind, Item, Program, is_end, is_spot, item_of, no_item, item_with, linked, code_items, end_at, outline, section_items, start_at, start_item, program_of, entry_place, instruction_at, Function, function_lines, main_lines, program_lines, IsGenerated}
+use Rattle.obj_program.specs.Program.{place_of}
 use Rattle.obj_items.proofs.Starts.{pair_kind_is, single_kind_is}
 use Rattle.obj_items.proofs.Suited.{no_end, pair_suits, single_suits}
-use Rattle.cfi_flow.specs.Entry.{entry_place}
-use Rattle.cfi_flow.specs.Policy.{instruction_at}
-use Rattle.cfi_gen.specs.declared.function.Function.{Function}
-use Rattle.cfi_gen.specs.Code.{function_lines, main_lines, program_lines}
-use Rattle.gen_hardened.specs.Generated.{IsGenerated}
 use Rattle.gen_hardened.proofs.DataRoom.{no_code}
 
 -- what begins lists that are joined: what begins the first that is not empty

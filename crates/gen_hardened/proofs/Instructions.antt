@@ -1,18 +1,8 @@
 -- No fault of instructions stands of a section of code.
 use Rattle.std.proofs.Common.{◌≡◌, ℕ, ◌+◌, ◌<◌, Bool, false, not, if◌then◌else◌, List, length, Some, None, refl}
 use Rattle.std.proofs.lemmas.Bool.{and_right}
-use Rattle.least.specs.First.{first_below}
+use Rattle.gen_hardened.proofs.Prelude.{first_below, Definition, kind_of, SectionParts, is_code, is_auipc, is_inside, word_count, is_undecodable, undecodable_word, is_reserved_at, reserved_word, some_reserved, is_wrong_auipc, wrong_auipc, high, low, jalr, lui, Line, marked, plain}
 use Rattle.least.proofs.Firsts.{none_first}
-use Rattle.obj_input.specs.declared.parts.Definition.{Definition}
-use Rattle.obj_input.specs.Kinds.{kind_of}
-use Rattle.obj_input.specs.Input.{SectionParts, is_code}
-use Rattle.obj_input.specs.Code.{is_auipc, is_inside, word_count}
-use Rattle.obj_check.specs.Undecodable.{is_undecodable, undecodable_word}
-use Rattle.obj_check.specs.Reserved.{is_reserved_at, reserved_word, some_reserved}
-use Rattle.obj_check.specs.BadPair.{is_wrong_auipc, wrong_auipc}
-use Rattle.cfi_gen.specs.Code.{high, low}
-use Rattle.cfi_gen.specs.Assembly.{jalr, lui}
-use Rattle.cfi_gen.specs.Lines.{Line, marked, plain}
 use Rattle.gen_hardened.proofs.Encoded.{line}
 use Rattle.gen_hardened.proofs.Spots.{Spot, first_there, high_there, low_there, plain_there, second_there}
 use Rattle.gen_hardened.proofs.Standing.{IsCode, count_is, instr_is, no_pair, pair, plain_parts, uses_are}

@@ -1,3 +1,4 @@
+pub mod Prelude
 mod Listings
 mod Untabled
 mod Symbols

@@ -2,15 +2,7 @@
 use Rattle.std.proofs.Common.{◌≡◌, ℕ, zero, suc, ◌+◌, ◌*◌, ◌≤◌, ◌<◌, List, [], ◌∷◌, ◌++◌, length, refl, ap, arith, lit<}
 use Rattle.std.specs.List.{flat_map, sum_by}
 use Rattle.std.proofs.lemmas.List.Sums.{sum_by-append, sum_by-cons}
-use Rattle.rv_instr.specs.InRange.{IsInstr}
-use Rattle.rv_code.specs.Decode.{decoded}
-use Rattle.elf_bytes.specs.Fields.{number_at}
-use Rattle.cfi_gen.specs.declared.function.Function.{Function}
-use Rattle.cfi_gen.specs.declared.function.Shape.{Shape}
-use Rattle.cfi_gen.specs.declared.function.Shape.TheVariants.{Leaf, Call, Table, Skip}
-use Rattle.cfi_gen.specs.Assembly.{addi, auipc, bne, jalr, ld, lui, minus, sd}
-use Rattle.cfi_gen.specs.Code.{called, closing_lines, function_lines, high, low, main_lines, opening_lines, program_lines, shape_lines}
-use Rattle.cfi_gen.specs.Lines.{Line, code_bytes, marked, plain}
+use Rattle.gen_hardened.proofs.Prelude.{IsInstr, decoded, number_at, Function, Shape, Leaf, Call, Table, Skip, addi, auipc, bne, jalr, ld, lui, minus, sd, called, closing_lines, function_lines, high, low, main_lines, opening_lines, program_lines, shape_lines, Line, code_bytes, marked, plain}
 use Rattle.gen_hardened.proofs.Encoded.{line, word_decoded}
 use Rattle.gen_hardened.proofs.Weights.{heaviest_word, weight_of, word_weight}
 

@@ -3,8 +3,7 @@ use Rattle.std.proofs.Common.{◌≡◌, ℕ, zero, suc, ◌<◌, ◌≤◌, get
 use Rattle.std.proofs.lemmas.Bool.{cases_lt}
 use Rattle.std.proofs.lemmas.List.{ext_get_or, get_or-map, get_or_append_left, get_or_past, length-append, length-map}
 use Rattle.std.proofs.Math.Seq.{get_or-append_seam}
-use Rattle.least.specs.Nearest.{joined}
-use Rattle.obj_input.specs.Listed.{listed}
+use Rattle.gen_hardened.proofs.Prelude.{joined, listed}
 
 module _ {A : Type 0} (given : ℕ → A) where
   pub length-listed : (n : ℕ) → length (listed given n) ≡ n

@@ -1,29 +1,8 @@
 -- No fault of instructions and relocations stands of a generated object.
 use Rattle.std.proofs.Common.{◌≡◌, ◌≢◌, ℕ, zero, suc, ◌<◌, false, List, [], length, map, filter_map, Option, None, inl, inr, refl, sym, ap, subst, ◌∙◌, arith}
 use Rattle.std.proofs.lemmas.Bool.{cases_eq}
-use Rattle.least.specs.declared.place.Found.{Found}
-use Rattle.least.specs.Nearest.{nearest}
-use Rattle.obj_input.specs.declared.parts.Relocation.{Relocation}
-use Rattle.obj_input.specs.declared.parts.Sort.TheVariants.{Data}
-use Rattle.obj_input.specs.Input.{InputParts, SectionParts, is_code, is_code_sort, section_count, section_of}
-use Rattle.obj_check.specs.declared.fault.ItemFault.{ItemFault}
-use Rattle.obj_check.specs.Finding.{place_of}
-use Rattle.obj_check.specs.Undecodable.{undecodable, undecodable_in}
-use Rattle.obj_check.specs.Reserved.{reserved, reserved_in}
-use Rattle.obj_check.specs.BadTransfer.{bad_transfer, bad_transfer_in}
-use Rattle.obj_check.specs.BadPair.{auipc_in, bad_pair, bad_pair_in, low_at, low_in}
-use Rattle.obj_check.specs.WrongKind.{kind_found, kind_in, wrong_kind}
-use Rattle.obj_check.specs.WrongPlace.{place_found, place_in, wrong_place}
-use Rattle.obj_check.specs.Undefined.{missing_among, missing_in, missing_symbol, undefined}
-use Rattle.obj_check.specs.CodePointer.{pointer_found, pointer_in, wrong_pointer}
-use Rattle.obj_check.specs.Fault.{fault_of}
-use Rattle.cfi_gen.specs.declared.function.Function.{Function}
-use Rattle.cfi_gen.specs.Code.{program_lines}
-use Rattle.cfi_gen.specs.Demo.{table_relocs}
-use Rattle.cfi_gen.specs.Drawing.{functions_from}
-use Rattle.cfi_gen.specs.Lines.{relocs_from}
+use Rattle.gen_hardened.proofs.Prelude.{Found, nearest, Relocation, Data, InputParts, SectionParts, is_code, is_code_sort, section_count, section_of, ItemFault, place_of, undecodable, undecodable_in, reserved, reserved_in, bad_transfer, bad_transfer_in, auipc_in, bad_pair, bad_pair_in, low_at, low_in, kind_found, kind_in, wrong_kind, place_found, place_in, wrong_place, missing_among, missing_in, missing_symbol, undefined, pointer_found, pointer_in, wrong_pointer, fault_of, Function, program_lines, table_relocs, functions_from, relocs_from, IsGenerated, symbol_definition}
 use Rattle.cfi_gen.proofs.Writing.{length-functions}
-use Rattle.gen_hardened.specs.Generated.{IsGenerated, symbol_definition}
 use Rattle.gen_hardened.proofs.Bridge.{use_by}
 use Rattle.gen_hardened.proofs.Drawn.{AreNear, near_functions}
 use Rattle.gen_hardened.proofs.Routines.{program_spots}

@@ -1,9 +1,6 @@
 -- Without a policy there is no wrong line of one.
 use Rattle.std.proofs.Common.{ℕ, None, inl, inr}
-use Rattle.least.specs.First.{first_below}
-use Rattle.obj_program.specs.Program.{Program}
-use Rattle.cfi_flow.specs.Policy.{wrong_from}
-use Rattle.cfi_harden.specs.Prepared.{IsWrongPolicy}
+use Rattle.gen_hardened.proofs.Prelude.{first_below, Program, wrong_from, IsWrongPolicy}
 
 pub no_wrong_line : (program : Program) (n : ℕ) → IsWrongPolicy program None n → ⊥
 unfolding wrong_from first_below

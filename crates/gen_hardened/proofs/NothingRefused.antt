@@ -1,36 +1,8 @@
 -- A generated object without a fault, whose code has room, is not refused.
 use Rattle.std.proofs.Common.{◌≡◌, ℕ, ◌≤◌, Some, None, inl, inr, List, codes, length, refl, sym, ap, subst, ◌∙◌, arith}
 use Rattle.std.proofs.lemmas.List.{length-map}
-use Rattle.rv_image.specs.MemoryMap.{CODE_SIZE}
-use Rattle.rv_image.specs.Form.{graph_version}
-use Rattle.elf_writer.specs.Object.{object_bytes}
-use Rattle.elf_writer.specs.Holds.{Holds}
-use Rattle.rv_image.specs.declared.form.Form.{Form}
-use Rattle.rv_image.specs.declared.form.Form.TheVariants.{Plain}
-use Rattle.obj_input.specs.Input.{InputParts}
-use Rattle.obj_check.specs.Fault.{fault_of}
-use Rattle.obj_program.specs.Program.{Program}
-use Rattle.obj_program.specs.Range.{out_of_range}
-use Rattle.obj_items.specs.FromObject.{input_of}
-use Rattle.obj_items.specs.ProgramOf.{program_of}
-use Rattle.cfi_closed.specs.Closed.{ClosedGraph, Side, sorts_of}
-use Rattle.cfi_flow.specs.Entry.{entry_place}
-use Rattle.cfi_gen.specs.declared.function.Function.{Function}
-use Rattle.cfi_gen.specs.Demo.{demo_parts, parts_with}
-use Rattle.cfi_gen.specs.Drawing.{functions_from}
-use Rattle.gen_hardened.specs.Generated.{IsGenerated}
+use Rattle.gen_hardened.proofs.Prelude.{CODE_SIZE, graph_version, object_bytes, Holds, Form, Plain, InputParts, fault_of, Program, out_of_range, input_of, program_of, ClosedGraph, Side, sorts_of, entry_place, Function, demo_parts, parts_with, functions_from, IsGenerated, Refusal, Object, Items, NoEntry, Policy, CodeTooLarge, DataTooLarge, RelocRange, RefusesGiven, alone, HasDataRoom, IsPreparedOf, PreparedParts, RefusesProgram, program_request, entered_at, ProgramAtMap, words_at, whole_size, DemoIsNeverRefused, IsNeverRefused, entered}
 use Rattle.gen_hardened.proofs.Reading.{generated_is}
-use Rattle.refusals.specs.declared.refusal.Refusal.{Refusal}
-use Rattle.refusals.specs.declared.refusal.Refusal.TheVariants.{Object, Items, NoEntry, Policy, CodeTooLarge, DataTooLarge, RelocRange}
-use Rattle.cfi_harden.specs.Given.{RefusesGiven, alone}
-use Rattle.cfi_harden.specs.Room.{HasDataRoom}
-use Rattle.cfi_harden.specs.Prepared.{IsPreparedOf, PreparedParts}
-use Rattle.cfi_harden.specs.Refused.{RefusesProgram}
-use Rattle.cfi_harden.specs.Request.{program_request}
-use Rattle.cfi_leads.specs.Entered.{entered_at}
-use Rattle.cfi_map.specs.GraphAtMap.{ProgramAtMap, words_at}
-use Rattle.cfi_map.specs.Sizes.{whole_size}
-use Rattle.gen_hardened.specs.Laws.{DemoIsNeverRefused, IsNeverRefused, entered}
 use Rattle.cfi_gen.proofs.Right.{demo_holds}
 use Rattle.cfi_gen.proofs.Writing.{length-functions}
 use Rattle.gen_hardened.proofs.NoFault.{no_fault}

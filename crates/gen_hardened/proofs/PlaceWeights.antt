@@ -4,17 +4,7 @@ use Rattle.std.specs.List.{sum_by}
 use Rattle.std.proofs.lemmas.Bool.{cases_Bool, cases_eq}
 use Rattle.std.proofs.lemmas.List.{append-nil}
 use Rattle.std.proofs.lemmas.List.Sums.{sum_by-append, sum_by-cons}
-use Rattle.least.specs.Nearest.{joined}
-use Rattle.rv_code.specs.Decode.{decoded}
-use Rattle.elf_bytes.specs.Fields.{number_at}
-use Rattle.obj_input.specs.Input.{InputParts, SectionParts, is_code, is_code_sort, section_of}
-use Rattle.obj_input.specs.Code.{instr, starts_at, word_count}
-use Rattle.obj_program.specs.declared.item.Item.{Item}
-use Rattle.obj_items.specs.Outline.{code_items, end_at, outline, section_items, start_item}
-use Rattle.cfi_gen.specs.declared.function.Function.{Function}
-use Rattle.cfi_gen.specs.Code.{program_lines}
-use Rattle.cfi_gen.specs.Lines.{Line, code_bytes}
-use Rattle.gen_hardened.specs.Generated.{IsGenerated, text_section}
+use Rattle.gen_hardened.proofs.Prelude.{joined, decoded, number_at, InputParts, SectionParts, is_code, is_code_sort, section_of, instr, starts_at, word_count, Item, code_items, end_at, outline, section_items, start_item, Function, program_lines, Line, code_bytes, IsGenerated, text_section}
 use Rattle.gen_hardened.proofs.Listings.{joined_none}
 use Rattle.gen_hardened.proofs.Encoded.{line}
 use Rattle.gen_hardened.proofs.Weights.{kind_weight, place_weighs, word_weight}

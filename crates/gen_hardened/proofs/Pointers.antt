@@ -1,18 +1,6 @@
 -- No fault of relocations stands of the table, whose relocations name the functions.
 use Rattle.std.proofs.Common.{◌≡◌, ℕ, pos, zero, suc, ◌+◌, ◌*◌, ◌<◌, ◌≤◌, true, List, [], map, filter_map, Option, None, refl, ap, ◌∙◌, arith, le-ltb}
-use Rattle.obj_input.specs.declared.parts.Relocation.{Relocation}
-use Rattle.obj_input.specs.declared.parts.Definition.{Definition}
-use Rattle.obj_input.specs.declared.parts.Sort.TheVariants.{Data}
-use Rattle.obj_input.specs.Kinds.{kind_of}
-use Rattle.obj_input.specs.Input.{InputParts, SectionParts, section_of}
-use Rattle.obj_input.specs.Code.{is_start}
-use Rattle.obj_check.specs.BadPair.{low_at}
-use Rattle.obj_check.specs.WrongKind.{kind_found}
-use Rattle.obj_check.specs.WrongPlace.{place_found}
-use Rattle.obj_check.specs.CodePointer.{pointer_found, points_right}
-use Rattle.cfi_gen.specs.Code.{function_symbol}
-use Rattle.cfi_gen.specs.Demo.{table_relocs}
-use Rattle.cfi_gen.specs.Lines.{Line}
+use Rattle.gen_hardened.proofs.Prelude.{Relocation, Definition, Data, kind_of, InputParts, SectionParts, section_of, is_start, low_at, kind_found, place_found, pointer_found, points_right, function_symbol, table_relocs, Line}
 use Rattle.gen_hardened.proofs.Bridge.{use_by}
 use Rattle.gen_hardened.proofs.Standing.{IsCode, starts}
 use Rattle.gen_hardened.proofs.Transfers.{AreStarts}

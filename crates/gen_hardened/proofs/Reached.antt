@@ -5,19 +5,7 @@ use Rattle.std.proofs.lemmas.Bool.{and_from, and_parts}
 use Rattle.std.proofs.lemmas.List.{map-append}
 use Rattle.std.proofs.lemmas.List.Elements.{All-append, All-cons, All-nil}
 use Rattle.std.proofs.lemmas.List.Folds.{list_all-append}
-use Rattle.obj_input.specs.declared.parts.Definition.{Definition}
-use Rattle.obj_input.specs.declared.parts.Definition.TheVariants.{Within}
-use Rattle.obj_input.specs.declared.parts.Relocation.{Relocation}
-use Rattle.obj_input.specs.declared.reloc_kind.RelocKind.{RelocKind}
-use Rattle.obj_input.specs.declared.reloc_kind.RelocKind.TheVariants.{High, RelativeHigh, RelativeLowI, RelativeLowS, TableHigh}
-use Rattle.obj_input.specs.Kinds.{kind_of}
-use Rattle.cfi_gen.specs.declared.function.Function.{Function}
-use Rattle.cfi_gen.specs.declared.function.Shape.{Shape}
-use Rattle.cfi_gen.specs.declared.function.Shape.TheVariants.{Leaf, Call, Table, Skip}
-use Rattle.cfi_gen.specs.declared.mark.Mark.{Mark}
-use Rattle.cfi_gen.specs.Code.{closing_lines, function_lines, main_lines, opening_lines, program_lines, shape_lines, table_symbol}
-use Rattle.cfi_gen.specs.Lines.{Line, mark_at, relocs_from}
-use Rattle.gen_hardened.specs.Generated.{symbol_definition, use_of}
+use Rattle.gen_hardened.proofs.Prelude.{Definition, Within, Relocation, RelocKind, High, RelativeHigh, RelativeLowI, RelativeLowS, TableHigh, kind_of, Function, Shape, Leaf, Call, Table, Skip, Mark, closing_lines, function_lines, main_lines, opening_lines, program_lines, shape_lines, table_symbol, Line, mark_at, relocs_from, symbol_definition, use_of}
 use Rattle.gen_hardened.proofs.Small.{AreSmall, IsSmallShape}
 
 -- a high part is that of the table and an offset, and none is of a distance

@@ -2,29 +2,9 @@
 use Rattle.std.proofs.Common.{◌≡◌, ◌≢◌, ◌⊎◌, ℕ, zero, suc, ◌+◌, ◌<◌, ◌≤◌, true, false, List, [], ◌∷◌, length, map, get_or, inl, inr, refl, sym, ap, subst, ◌∙◌, arith}
 use Rattle.std.proofs.lemmas.Bool.{cases_eq, cases_lt}
 use Rattle.std.proofs.lemmas.List.{get_or_past}
-use Rattle.elf_tables.specs.declared.entry.Reloc.{Reloc}
-use Rattle.elf_tables.specs.Header.{e_shnum}
-use Rattle.elf_tables.specs.Section.{content, section_header}
-use Rattle.elf_tables.specs.Kept.{is_kept}
-use Rattle.elf_tables.specs.Symbol.{symbol_count}
-use Rattle.elf_tables.specs.Relocation.{relocation_bytes, relocation_count}
-use Rattle.elf_writer.specs.Right.{no_symbol}
-use Rattle.elf_writer.specs.Holds.{AreRelocations, Holds, IsSection}
-use Rattle.obj_input.specs.declared.parts.Sort.TheVariants.{Code, Data, Dropped}
-use Rattle.obj_input.specs.Input.{SectionParts, no_section, section_count, section_of}
-use Rattle.obj_input.specs.Kinds.{is_table_high, kind_of}
-use Rattle.obj_join.specs.Joined.{own_input}
-use Rattle.obj_join.specs.SaidInput.{input_by}
-use Rattle.obj_join.specs.Stands.{definition}
-use Rattle.obj_link.specs.Sections.{sort_of}
-use Rattle.obj_items.specs.FromObject.{input_of}
+use Rattle.gen_hardened.proofs.Prelude.{Reloc, e_shnum, content, section_header, is_kept, symbol_count, relocation_bytes, relocation_count, no_symbol, AreRelocations, Holds, IsSection, Code, Data, Dropped, SectionParts, no_section, section_count, section_of, is_table_high, kind_of, own_input, input_by, definition, sort_of, input_of, Function, code_bytes, code_size, relocs_from, function_lines, program_lines, data_part, data_relocs, function_symbols, parts_with, table_bytes, table_relocs, text_part, text_relocs, IsGenerated, symbol_definition, symbols_of, table_section, text_section, use_of}
 use Rattle.obj_items.proofs.Behind.{numbers, own_section, section_is as read_section, section_number, table}
 use Rattle.obj_items.proofs.Plain.{none_behind, reloc_at, reloc_count}
-use Rattle.cfi_gen.specs.declared.function.Function.{Function}
-use Rattle.cfi_gen.specs.Lines.{code_bytes, code_size, relocs_from}
-use Rattle.cfi_gen.specs.Code.{function_lines, program_lines}
-use Rattle.cfi_gen.specs.Demo.{data_part, data_relocs, function_symbols, parts_with, table_bytes, table_relocs, text_part, text_relocs}
-use Rattle.gen_hardened.specs.Generated.{IsGenerated, symbol_definition, symbols_of, table_section, text_section, use_of}
 use Rattle.gen_hardened.proofs.Symbols.{IsKeptSection, definition_is, definition_zero, names_are, no_blocks, symbols_in}
 use Rattle.gen_hardened.proofs.Sections.{content_there, dropped_sort, dropped_uses, plain_at, read_use, read_uses, section_is, uses_are}
 use Rattle.gen_hardened.proofs.Untabled.{table_plain, text_plain}

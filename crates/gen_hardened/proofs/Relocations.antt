@@ -1,21 +1,7 @@
 -- No fault of relocations stands of a section of code.
 use Rattle.std.proofs.Common.{◌≡◌, ℕ, ◌+◌, ◌*◌, ◌/◌, ◌<◌, true, false, not, ◌==◌, List, [], length, filter_map, Option, None, is_some, refl, sym, ap, subst, ◌∙◌, arith}
 use Rattle.std.proofs.lemmas.Bool.{and_parts}
-use Rattle.rv_instr.specs.declared.instr.Instr.{Instr}
-use Rattle.obj_input.specs.declared.parts.Relocation.{Relocation}
-use Rattle.obj_input.specs.declared.parts.Definition.{Definition}
-use Rattle.obj_input.specs.declared.parts.Definition.TheVariants.{Within}
-use Rattle.obj_input.specs.Kinds.{kind_of}
-use Rattle.obj_input.specs.Input.{InputParts, SectionParts, is_code, section_of}
-use Rattle.obj_check.specs.Kind.{single_kind}
-use Rattle.obj_check.specs.BadPair.{low_at}
-use Rattle.obj_check.specs.WrongKind.{kind_found}
-use Rattle.obj_check.specs.WrongPlace.{is_i_form, place_found}
-use Rattle.obj_check.specs.CodePointer.{pointer_found}
-use Rattle.cfi_gen.specs.declared.mark.Mark.{Mark}
-use Rattle.cfi_gen.specs.Code.{called, function_symbol, high, low, mark, table_symbol}
-use Rattle.cfi_gen.specs.Assembly.{auipc, jalr, lui}
-use Rattle.cfi_gen.specs.Lines.{Line, mark_at, marked, plain}
+use Rattle.gen_hardened.proofs.Prelude.{Instr, Relocation, Definition, Within, kind_of, InputParts, SectionParts, is_code, section_of, single_kind, low_at, kind_found, is_i_form, place_found, pointer_found, Mark, called, function_symbol, high, low, mark, table_symbol, auipc, jalr, lui, Line, mark_at, marked, plain}
 use Rattle.gen_hardened.proofs.Encoded.{line}
 use Rattle.gen_hardened.proofs.Bridge.{none_found, use_by, uses_by}
 use Rattle.gen_hardened.proofs.Spots.{IsPlain, Spot, first_there, high_there, is_low, is_tail, low_there, plain_there, second_there}

@@ -4,24 +4,8 @@ use Rattle.std.specs.Prelude.{sum}
 use Rattle.std.specs.List.{sum_by}
 use Rattle.std.proofs.lemmas.Bool.{cases_Bool}
 use Rattle.std.proofs.lemmas.List.Sums.{sum_by-cons}
-use Rattle.rv_image.specs.MemoryMap.{CODE_SIZE}
-use Rattle.rv_image.specs.declared.form.Form.TheVariants.{Plain}
-use Rattle.rv_image.specs.declared.version.GraphVersion.TheVariants.{OneLabel}
-use Rattle.obj_input.specs.declared.item_kind.ItemKind.{ItemKind}
+use Rattle.gen_hardened.proofs.Prelude.{CODE_SIZE, Plain, OneLabel, ItemKind, InputParts, Item, is_end, outline, item_with, program_of, ClosedGraph, is_target, Entered, entered_at, lead_size, is_ecall, kind_size, size_of, whole_at, part_sizes, whole_size, Function, IsGenerated}
 use Rattle.obj_input.specs.declared.item_kind.ItemKind.TheVariants as is
-use Rattle.obj_input.specs.Input.{InputParts}
-use Rattle.obj_program.specs.declared.item.Item.{Item}
-use Rattle.obj_program.specs.Program.{is_end}
-use Rattle.obj_items.specs.Outline.{outline}
-use Rattle.obj_items.specs.Links.{item_with}
-use Rattle.obj_items.specs.ProgramOf.{program_of}
-use Rattle.cfi_closed.specs.Closed.{ClosedGraph, is_target}
-use Rattle.cfi_leads.specs.Entered.{Entered, entered_at}
-use Rattle.cfi_leads.specs.Leads.{lead_size}
-use Rattle.cfi_map.specs.Placement.{is_ecall, kind_size, size_of, whole_at}
-use Rattle.cfi_map.specs.Sizes.{part_sizes, whole_size}
-use Rattle.cfi_gen.specs.declared.function.Function.{Function}
-use Rattle.gen_hardened.specs.Generated.{IsGenerated}
 use Rattle.gen_hardened.proofs.Weights.{kind_weight}
 use Rattle.gen_hardened.proofs.PlaceWeights.{item_weight, outline_weighs}
 

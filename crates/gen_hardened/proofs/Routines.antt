@@ -1,14 +1,7 @@
 -- What stands at each line of `main` and of the functions.
 use Rattle.std.proofs.Common.{◌≡◌, ℕ, pos, zero, suc, ◌+◌, ◌*◌, ◌^◌, ◌<◌, List, [], ◌∷◌, ◌++◌, length, refl, sym, ap, subst, ◌∙◌, arith, lit<, append_assoc, length-append}
 use Rattle.std.specs.List.{flat_map}
-use Rattle.least.specs.First.{first_below}
-use Rattle.obj_check.specs.Reserved.{some_reserved}
-use Rattle.cfi_gen.specs.declared.function.Function.{Function}
-use Rattle.cfi_gen.specs.declared.function.Shape.{Shape}
-use Rattle.cfi_gen.specs.declared.function.Shape.TheVariants.{Leaf, Call, Table, Skip}
-use Rattle.cfi_gen.specs.Assembly.{addi, bne, jalr, ld, minus, sd}
-use Rattle.cfi_gen.specs.Code.{closing_lines, function_lines, main_lines, opening_lines, program_lines, shape_lines}
-use Rattle.cfi_gen.specs.Lines.{Line}
+use Rattle.gen_hardened.proofs.Prelude.{first_below, some_reserved, Function, Shape, Leaf, Call, Table, Skip, addi, bne, jalr, ld, minus, sd, closing_lines, function_lines, main_lines, opening_lines, program_lines, shape_lines, Line}
 use Rattle.gen_hardened.proofs.Drawn.{AreNear, IsNear, IsNearShape}
 use Rattle.gen_hardened.proofs.Spots.{IsEntry, Spot, SpotsAt, at_first, at_high, at_low, at_plain, at_second, part_entry, spots_joined}
 

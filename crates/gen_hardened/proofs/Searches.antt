@@ -1,16 +1,6 @@
 -- What is found nowhere in an input's sections.
 use Rattle.std.proofs.Common.{◌≡◌, ℕ, zero, suc, Bool, true, false, if◌then◌else◌, List, [], ◌∷◌, map, length, Option, None, refl}
-use Rattle.elf_tables.specs.declared.entry.Reloc.{Reloc}
-use Rattle.least.specs.declared.place.Place.{Place}
-use Rattle.least.specs.declared.place.Found.{Found}
-use Rattle.least.specs.Least.{least_below}
-use Rattle.least.specs.Nearest.{nearest, nearest_below}
-use Rattle.obj_input.specs.declared.parts.Definition.{Definition}
-use Rattle.obj_input.specs.Relocation.{is_acting}
-use Rattle.obj_input.specs.Input.{InputParts, section_count}
-use Rattle.obj_check.specs.declared.fault.ItemFault.{ItemFault}
-use Rattle.obj_check.specs.Finding.{nearest_in, place_of}
-use Rattle.obj_check.specs.Undefined.{missing_among, missing_at, missing_symbol}
+use Rattle.gen_hardened.proofs.Prelude.{Reloc, Place, Found, least_below, nearest, nearest_below, Definition, is_acting, InputParts, section_count, ItemFault, nearest_in, place_of, missing_among, missing_at, missing_symbol}
 use Rattle.gen_hardened.proofs.Bridge.{use_by}
 
 none_nearest : {A : Type 0} (place : A → Place) (given : ℕ → Option A) (n : ℕ) → ((k : ℕ) → given k ≡ None)

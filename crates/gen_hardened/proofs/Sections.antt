@@ -2,25 +2,10 @@
 use Rattle.std.proofs.Common.{◌≡◌, ℕ, ◌<◌, true, false, None, List, [], length, map, refl, ap, ◌∙◌, arith}
 use Rattle.std.specs.List.{list_all}
 use Rattle.std.proofs.lemmas.Bool.{lt-ltb}
-use Rattle.elf_tables.specs.declared.entry.Reloc.{Reloc}
-use Rattle.elf_tables.specs.Header.{e_shnum}
-use Rattle.elf_tables.specs.Section.{content, section_bytes, section_header}
-use Rattle.elf_tables.specs.Kept.{is_kept}
-use Rattle.elf_tables.specs.Symbol.{symbol_count}
-use Rattle.elf_tables.specs.Relocation.{relocation_bytes, relocation_count, relocation_in}
+use Rattle.gen_hardened.proofs.Prelude.{Reloc, e_shnum, content, section_bytes, section_header, is_kept, symbol_count, relocation_bytes, relocation_count, relocation_in, RelocationsPart, no_reloc, AreRelocations, Dropped, Relocation, SectionParts, listed, is_table_high, kind_of, said_of, sort_of, use_said, use_said_at, uses_said}
 use Rattle.elf_object.specs.Fault.{fault_of}
 use Rattle.elf_object.proofs.Right.{relocations_named}
-use Rattle.elf_writer.specs.Parts.{RelocationsPart}
-use Rattle.elf_writer.specs.Right.{no_reloc}
-use Rattle.elf_writer.specs.Holds.{AreRelocations}
-use Rattle.obj_input.specs.declared.parts.Sort.TheVariants.{Dropped}
-use Rattle.obj_input.specs.declared.parts.Relocation.{Relocation}
-use Rattle.obj_input.specs.Input.{SectionParts}
-use Rattle.obj_input.specs.Listed.{listed}
-use Rattle.obj_input.specs.Kinds.{is_table_high, kind_of}
 use Rattle.obj_join.specs.SaidInput as joined
-use Rattle.obj_link.specs.SaidOf.{said_of}
-use Rattle.obj_link.specs.Sections.{sort_of, use_said, use_said_at, uses_said}
 use Rattle.obj_link.proofs.Named.{map_listed}
 use Rattle.obj_items.proofs.Behind.{numbers}
 use Rattle.gen_hardened.proofs.Listings.{listed_map}

@@ -3,16 +3,8 @@ use Rattle.std.proofs.Common.{◌≡◌, ℕ, pos, ◌+◌, ◌^◌, ◌<◌, tr
 use Rattle.std.specs.Prelude.{is_none, option_and_then}
 use Rattle.std.proofs.lemmas.Bool.{and_right}
 use Rattle.rv_word.proofs.Cases.{cases_Option}
-use Rattle.rv_instr.specs.declared.instr.Instr.{Instr}
-use Rattle.rv_code.specs.Decode.{decoded}
-use Rattle.rv_reloc.specs.Word.{is_high_in_range}
-use Rattle.obj_program.specs.declared.item.Item.{Item}
-use Rattle.obj_program.specs.declared.item.Patch.{Patch}
+use Rattle.gen_hardened.proofs.Prelude.{Instr, decoded, is_high_in_range, Item, Patch, Number, patched_instr, Program, is_end, is_read}
 use Rattle.obj_program.specs.declared.item.Patch.TheVariants as put
-use Rattle.obj_program.specs.declared.item.Value.TheVariants.{Number}
-use Rattle.obj_program.specs.AtMap.{patched_instr}
-use Rattle.obj_program.specs.Program.{Program, is_end}
-use Rattle.obj_program.specs.Sound.{is_read}
 
 -- LUI reaches a number that is some less than 2 GiB
 number_reached : (n : ℕ) → n + 0x800 < 2 ^ 31 → is_high_in_range (pos n) ≡ true

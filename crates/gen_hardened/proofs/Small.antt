@@ -1,10 +1,7 @@
 -- The functions that are drawn reach into the first megabytes of the table alone.
 use Rattle.std.proofs.Common.{ℕ, zero, suc, ◌+◌, ◌%◌, ◌^◌, ◌<◌, ◌≤◌, ◌==◌, List, [], ◌∷◌, inl, inr, arith}
 use Rattle.std.proofs.lemmas.Bool.{cases_Bool}
-use Rattle.cfi_gen.specs.declared.function.Function.{Function}
-use Rattle.cfi_gen.specs.declared.function.Shape.{Shape}
-use Rattle.cfi_gen.specs.declared.function.Shape.TheVariants.{Table}
-use Rattle.cfi_gen.specs.Drawing.{are_near, drawn, function_at, functions_from, next, shape_of}
+use Rattle.gen_hardened.proofs.Prelude.{Function, Shape, Table, are_near, drawn, function_at, functions_from, next, shape_of}
 
 -- it reads the address of a function whose number is small, if of any
 abbrev pub IsSmallShape : Shape → Type 0

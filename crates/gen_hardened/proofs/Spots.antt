@@ -2,19 +2,7 @@
 use Rattle.std.proofs.Common.{◌≡◌, ℕ, pos, ◌+◌, ◌-◌, ◌*◌, ◌<◌, ◌+ℤ◌, Bool, true, false, not, ◌&&◌, ◌==◌, List, ◌++◌, length, Option, Some, None, is_some, inl, inr, sym, ap, subst, ◌∙◌, arith, length-append}
 use Rattle.std.proofs.lemmas.Bool.{cases_lt}
 use Rattle.std.proofs.lemmas.List.{get_or-append-add, get_or_append_left}
-use Rattle.rv_instr.specs.InRange.{IsInstr}
-use Rattle.rv_instr.specs.declared.instr.Instr.{Instr}
-use Rattle.rv_instr.specs.declared.instr.Instr.TheVariants.{Jalr}
-use Rattle.obj_input.specs.Code.{is_auipc}
-use Rattle.obj_check.specs.declared.target.Direct.{Direct}
-use Rattle.obj_check.specs.declared.target.Direct.TheVariants.{ByBranch}
-use Rattle.obj_check.specs.Kind.{single_kind}
-use Rattle.obj_check.specs.Reserved.{some_reserved}
-use Rattle.obj_check.specs.Target.{direct_word}
-use Rattle.obj_check.specs.WrongPlace.{is_i_form}
-use Rattle.cfi_gen.specs.Assembly.{auipc, jalr, lui}
-use Rattle.cfi_gen.specs.Code.{called, high, low}
-use Rattle.cfi_gen.specs.Lines.{Line, marked, plain}
+use Rattle.gen_hardened.proofs.Prelude.{IsInstr, Instr, Jalr, is_auipc, Direct, ByBranch, single_kind, some_reserved, direct_word, is_i_form, auipc, jalr, lui, called, high, low, Line, marked, plain}
 use Rattle.gen_hardened.proofs.Encoded.{line, no_line}
 
 -- the second word of a call

@@ -1,22 +1,7 @@
 -- What the tests read at each line of a section of code.
 use Rattle.std.proofs.Common.{◌≡◌, ℕ, zero, suc, ◌+◌, ◌*◌, ◌/◌, ◌%◌, ◌<◌, true, false, not, List, length, map, Some, None, is_some, nat_lt, refl, sym, ap, subst, ◌∙◌, arith, lit<, lt-ltb}
 use Rattle.std.proofs.lemmas.Bool.{and_parts, not-true}
-use Rattle.rv_instr.specs.InRange.{IsInstr}
-use Rattle.rv_instr.specs.declared.instr.Instr.{Instr}
-use Rattle.rv_instr.specs.declared.instr.Instr.TheVariants.{Upper}
-use Rattle.rv_instr.specs.declared.instr.UpperOp.TheVariants.{Lui, Auipc}
-use Rattle.rv_code.specs.Decode.{decoded}
-use Rattle.elf_bytes.specs.Fields.{number_at}
-use Rattle.obj_input.specs.declared.parts.Definition.{Definition}
-use Rattle.obj_input.specs.declared.parts.Sort.TheVariants.{Code}
-use Rattle.obj_input.specs.Kinds.{kind_of}
-use Rattle.obj_input.specs.Input.{SectionParts, acting_among, acting_at}
-use Rattle.obj_input.specs.Code.{auipc_register, instr, is_auipc, is_inside, is_pair, is_start, word_count}
-use Rattle.obj_check.specs.Kind.{single_kind}
-use Rattle.obj_check.specs.Reserved.{some_reserved}
-use Rattle.cfi_gen.specs.Assembly.{auipc, jalr}
-use Rattle.cfi_gen.specs.Code.{called}
-use Rattle.cfi_gen.specs.Lines.{Line, code_bytes, marked, plain, relocs_from}
+use Rattle.gen_hardened.proofs.Prelude.{IsInstr, Instr, Upper, Lui, Auipc, decoded, number_at, Definition, Code, kind_of, SectionParts, acting_among, acting_at, auipc_register, instr, is_auipc, is_inside, is_pair, is_start, word_count, single_kind, some_reserved, auipc, jalr, called, Line, code_bytes, marked, plain, relocs_from}
 use Rattle.gen_hardened.proofs.Encoded.{line, word_decoded}
 use Rattle.gen_hardened.proofs.Bridge.{acting_marks, acting_there, use_by, uses_by}
 use Rattle.gen_hardened.proofs.Spots.{IsEntry, IsPlain, Spot, first_there, high_there, is_tail, low_there, plain_there, second_there}

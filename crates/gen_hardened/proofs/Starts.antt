@@ -1,14 +1,7 @@
 -- Each function's symbol stands for the line where the function begins.
 use Rattle.std.proofs.Common.{◌≡◌, ℕ, zero, suc, ◌+◌, ◌*◌, ◌<◌, false, List, [], ◌∷◌, ◌++◌, length, get_or, refl, sym, ap, ap₂, ◌∙◌, arith, append_assoc, length-append}
 use Rattle.std.specs.List.{flat_map}
-use Rattle.elf_writer.specs.Parts.{SymbolPart}
-use Rattle.elf_writer.specs.Right.{no_symbol}
-use Rattle.obj_input.specs.declared.parts.Definition.TheVariants.{Within}
-use Rattle.cfi_gen.specs.declared.function.Function.{Function}
-use Rattle.cfi_gen.specs.Code.{function_lines, function_symbol, main_lines, opening_lines, program_lines}
-use Rattle.cfi_gen.specs.Demo.{function_symbols}
-use Rattle.cfi_gen.specs.Lines.{Line, code_size}
-use Rattle.gen_hardened.specs.Generated.{symbol_definition}
+use Rattle.gen_hardened.proofs.Prelude.{SymbolPart, no_symbol, Within, Function, function_lines, function_symbol, main_lines, opening_lines, program_lines, function_symbols, Line, code_size, symbol_definition}
 use Rattle.gen_hardened.proofs.Encoded.{line}
 use Rattle.gen_hardened.proofs.Spots.{IsEntry, is_tail, part_entry}
 

@@ -1,25 +1,10 @@
 -- What the symbols of an object that holds some parts stand for, where each of them stands in a section that is kept.
 use Rattle.std.proofs.Common.{◌≡◌, ◌==◌, ℕ, zero, suc, ◌<◌, true, false, Option, unwrap_or, List, [], ◌∷◌, length, map, get_or, refl, ap, ◌∙◌, add-one, arith}
 use Rattle.std.proofs.lemmas.Bool.{ne_eqb}
-use Rattle.least.specs.Nearest.{joined}
-use Rattle.elf_tables.specs.Symbol.{symbol, symbol_count}
-use Rattle.elf_writer.specs.Parts.{ObjectParts, SymbolPart}
-use Rattle.elf_writer.specs.Right.{no_symbol}
-use Rattle.elf_writer.specs.Holds.{Holds}
-use Rattle.obj_input.specs.declared.parts.Definition.TheVariants.{Zero, Within}
-use Rattle.obj_join.specs.declared.standing.Standing.{Standing}
-use Rattle.obj_join.specs.declared.standing.Standing.TheVariants.{InSection}
-use Rattle.obj_join.specs.Said.{SymbolSaid}
+use Rattle.gen_hardened.proofs.Prelude.{joined, symbol, symbol_count, ObjectParts, SymbolPart, no_symbol, Holds, Zero, Within, Standing, InSection, SymbolSaid, number_if, block_of, blocks_below, has_block, definition, definition_of, standing_for, is_named, named, names_by, said_of, is_kept_section, standing_of, symbol_said, symbol_said_in, named_of}
 use Rattle.obj_join.specs.Symbols as said
-use Rattle.obj_join.specs.Symbols.{number_if}
-use Rattle.obj_join.specs.Blocks.{block_of, blocks_below, has_block}
-use Rattle.obj_join.specs.Stands.{definition, definition_of, standing_for}
-use Rattle.obj_join.specs.SaidInput.{is_named, named, names_by}
-use Rattle.obj_link.specs.SaidOf.{said_of}
-use Rattle.obj_link.specs.Symbols.{is_kept_section, standing_of, symbol_said, symbol_said_in}
 use Rattle.obj_link.proofs.Named.{map_listed}
 use Rattle.obj_items.proofs.Behind.{numbers}
-use Rattle.gen_hardened.specs.Generated.{named_of}
 use Rattle.gen_hardened.proofs.Listings.{joined_listed, joined_none, length-listed, listed_at, listed_map}
 
 -- a section of a file that is kept; neither SHN_ABS nor SHN_COMMON

@@ -1,22 +1,7 @@
 -- Each transfer of a section of code has a kind, and goes to an instruction's start.
 use Rattle.std.proofs.Common.{◌≡◌, ℕ, pos, ◌+◌, ◌*◌, ◌<◌, true, false, not, List, [], length, Option, Some, None, is_none, is_some, refl, ap, ◌∙◌, arith}
 use Rattle.std.proofs.lemmas.Bool.{and_parts, and_right}
-use Rattle.rv_instr.specs.declared.instr.Instr.{Instr}
-use Rattle.rv_instr.specs.declared.instr.Instr.TheVariants.{Branch, Jal}
-use Rattle.obj_input.specs.declared.parts.Definition.{Definition}
-use Rattle.obj_input.specs.declared.parts.Definition.TheVariants.{Within}
-use Rattle.obj_input.specs.Kinds.{kind_of}
-use Rattle.obj_input.specs.Input.{InputParts, acting_at, section_of}
-use Rattle.obj_input.specs.Code.{at_whole, is_inside, is_start}
-use Rattle.obj_check.specs.declared.target.Direct.{Direct}
-use Rattle.obj_check.specs.declared.target.Direct.TheVariants.{ByBranch, ByJal, ByPair}
-use Rattle.obj_check.specs.Kind.{kind_at, single_kind}
-use Rattle.obj_check.specs.Target.{aim_at, aim_of, direct_at, direct_word, goes_right, may_aim}
-use Rattle.obj_check.specs.BadTransfer.{is_wrong_transfer, wrong_transfer}
-use Rattle.obj_check.specs.WrongPlace.{is_i_form}
-use Rattle.cfi_gen.specs.Code.{called, function_symbol, high, low}
-use Rattle.cfi_gen.specs.Assembly.{auipc, lui}
-use Rattle.cfi_gen.specs.Lines.{Line, marked, plain}
+use Rattle.gen_hardened.proofs.Prelude.{Instr, Branch, Jal, Definition, Within, kind_of, InputParts, acting_at, section_of, at_whole, is_inside, is_start, Direct, ByBranch, ByJal, ByPair, kind_at, single_kind, aim_at, aim_of, direct_at, direct_word, goes_right, may_aim, is_wrong_transfer, wrong_transfer, is_i_form, called, function_symbol, high, low, auipc, lui, Line, marked, plain}
 use Rattle.gen_hardened.proofs.Encoded.{line}
 use Rattle.gen_hardened.proofs.Spots.{Goes, IsEntry, Spot, first_there, high_there, low_there, plain_there, second_there}
 use Rattle.gen_hardened.proofs.Standing.{IsCode, inside, instr_is, no_pair, pair, plain_parts, starts, uses_are}

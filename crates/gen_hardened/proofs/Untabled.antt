@@ -3,15 +3,7 @@ use Rattle.std.proofs.Common.{◌≡◌, ℕ, zero, suc, ◌+◌, ◌<◌, get_o
 use Rattle.std.specs.List.{flat_map, list_all}
 use Rattle.std.proofs.lemmas.Bool.{and_parts, not-true}
 use Rattle.std.proofs.lemmas.List.Folds.{list_all-append}
-use Rattle.elf_tables.specs.declared.entry.Reloc.{Reloc}
-use Rattle.obj_input.specs.Kinds.{is_table_high, kind_of}
-use Rattle.cfi_gen.specs.declared.mark.Mark.{Mark}
-use Rattle.cfi_gen.specs.declared.function.Function.{Function}
-use Rattle.cfi_gen.specs.declared.function.Shape.{Shape}
-use Rattle.cfi_gen.specs.declared.function.Shape.TheVariants.{Leaf, Call, Table, Skip}
-use Rattle.cfi_gen.specs.Lines.{Line, mark_at, relocs_from}
-use Rattle.cfi_gen.specs.Code.{closing_lines, function_lines, main_lines, opening_lines, program_lines, shape_lines}
-use Rattle.cfi_gen.specs.Demo.{table_relocs}
+use Rattle.gen_hardened.proofs.Prelude.{Reloc, is_table_high, kind_of, Mark, Function, Shape, Leaf, Call, Table, Skip, Line, mark_at, relocs_from, closing_lines, function_lines, main_lines, opening_lines, program_lines, shape_lines, table_relocs}
 
 abbrev pub is_plain : Reloc → Bool
 is_plain r = not (is_table_high (kind_of r.kind))

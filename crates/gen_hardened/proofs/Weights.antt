@@ -1,14 +1,8 @@
 -- What an instruction weighs: how many bytes its hardened code has at most, the word of a gate counted.
 use Rattle.std.proofs.Common.{ℕ, ◌+◌, ◌*◌, ◌≤◌, ◌==◌, ◌&&◌, Bool, if◌then◌else◌, length, Option, Some, None, unwrap_or, inl, inr, arith}
 use Rattle.std.proofs.lemmas.Bool.{cases_Bool}
-use Rattle.rv_instr.specs.declared.instr.Instr.{Instr}
-use Rattle.rv_instr.specs.declared.instr.Instr.TheVariants.{Upper, Jal, Jalr, Branch, Store, Ecall, Ebreak}
-use Rattle.rv_instr.specs.declared.instr.UpperOp.TheVariants.{Lui, Auipc}
-use Rattle.obj_input.specs.declared.item_kind.ItemKind.{ItemKind}
+use Rattle.gen_hardened.proofs.Prelude.{Instr, Upper, Jal, Jalr, Branch, Store, Ecall, Ebreak, Lui, Auipc, ItemKind, SectionParts, acting_at, are_pair, has_pair_target, instr, is_pair, by_link, kind_at, pair_kind, single_kind, word_kind}
 use Rattle.obj_input.specs.declared.item_kind.ItemKind.TheVariants as is
-use Rattle.obj_input.specs.Input.{SectionParts, acting_at}
-use Rattle.obj_input.specs.Code.{are_pair, has_pair_target, instr, is_pair}
-use Rattle.obj_check.specs.Kind.{by_link, kind_at, pair_kind, single_kind, word_kind}
 
 -- what a place of a kind weighs
 abbrev pub kind_weight : ItemKind → ℕ

@@ -2,15 +2,7 @@
 use Rattle.std.proofs.Common.{◌≡◌, ℕ, ℤ, pos, ◌+ℤ◌, false, zero, suc, ◌+◌, ◌≤◌, get_or, List, length, inl, inr, refl, sym, ap, ◌∙◌, arith}
 use Rattle.std.proofs.lemmas.Bool.{cases_lt}
 use Rattle.std.proofs.lemmas.List.{get_or_past}
-use Rattle.obj_input.specs.declared.parts.Definition.{Definition}
-use Rattle.obj_input.specs.declared.parts.Definition.TheVariants.{Common}
-use Rattle.obj_input.specs.Input.{InputParts, is_code, no_section, section_count, section_of}
-use Rattle.obj_input.specs.Listed.{listed}
-use Rattle.obj_input.specs.DataLayout.{DataLayoutParts, after, aligned, block_address, blocks_reach, data_end, data_layout_of, no_block, section_address}
-use Rattle.obj_program.specs.declared.item.Item.{Item}
-use Rattle.obj_program.specs.declared.item.Value.{Value}
-use Rattle.obj_program.specs.declared.item.Value.TheVariants.{Number}
-use Rattle.obj_items.specs.Values.{section_value, value_of}
+use Rattle.obj_items.proofs.Prelude.{Definition, Common, InputParts, is_code, no_section, section_count, section_of, listed, DataLayoutParts, after, aligned, block_address, blocks_reach, data_end, data_layout_of, no_block, section_address, Item, Value, Number, section_value, value_of}
 use Rattle.obj_items.proofs.Steps.{listed_count, listed_read}
 
 no_address : (input : InputParts) (k : ℕ) → section_of input k ≡ no_section → 0 ≡ section_address input k

@@ -3,16 +3,8 @@ use Rattle.std.proofs.Common.{◌≡◌, ℕ, ◌≤◌, ◌^◌, None, List, []
 use Rattle.std.specs.Prelude.{fold}
 use Rattle.std.specs.List.{All, sum_by}
 use Rattle.std.proofs.lemmas.List.Elements.{All-append, All-head, All-map, All-nil, All-tail}
-use Rattle.elf_tables.specs.Header.{e_shnum}
-use Rattle.elf_object.specs.Fault.{fault_of}
-use Rattle.obj_join.specs.Said.{Said, nothing_said, said_together, section_behind, with_object}
-use Rattle.obj_join.specs.Definer.{resolved}
-use Rattle.obj_join.specs.Found.{is_found}
-use Rattle.obj_join.specs.Joined.{joined_input, shared_input}
-use Rattle.obj_link.specs.SaidOf.{said_by, said_of}
-use Rattle.obj_link.specs.Sections.{sections_said}
+use Rattle.obj_items.proofs.Prelude.{e_shnum, fault_of, Said, nothing_said, said_together, section_behind, with_object, resolved, is_found, joined_input, shared_input, said_by, said_of, sections_said, HasFitCode}
 use Rattle.obj_link.proofs.Together.{counted}
-use Rattle.obj_items.specs.FitCode.{HasFitCode}
 use Rattle.obj_items.proofs.ObjectFits.{object_whole}
 use Rattle.obj_items.proofs.SaidFits.{IsWhole, said_fits}
 

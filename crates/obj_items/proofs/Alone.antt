@@ -1,19 +1,9 @@
 -- What is left of objects of which no name is defined twice, and what one object whose names all differ comes to: what it is by itself.
 use Rattle.std.proofs.Common.{◌≡◌, ℕ, List, [], ◌∷◌, None, option_map, Result, Ok, Err, refl, subst}
 use Rattle.rv_word.proofs.Cases.{unmapped}
-use Rattle.obj_input.specs.Input.{InputParts}
-use Rattle.obj_program.specs.Program.{Program}
+use Rattle.obj_items.proofs.Prelude.{InputParts, Program, duplicate, joined_input, HasOwnNames, said_by, said_of, input_of, End, Fault, NoMemory, Refusal, IsFinished, Tells, input_by, refusal_in, unfinished}
 use Rattle.obj_check.specs.Fault.{fault_of}
-use Rattle.obj_join.specs.Duplicate.{duplicate}
-use Rattle.obj_join.specs.Joined.{joined_input}
-use Rattle.obj_join.specs.Laws.{HasOwnNames}
 use Rattle.obj_join.proofs.OneObject.{one_object}
-use Rattle.obj_link.specs.SaidOf.{said_by, said_of}
-use Rattle.obj_items.specs.FromObject.{input_of}
-use Rattle.rv_word.specs.declared.end.End.{End}
-use Rattle.rv_word.specs.declared.end.End.TheVariants.{Fault, NoMemory}
-use Rattle.refusals.specs.declared.refusal.Refusal.{Refusal}
-use Rattle.obj_items.specs.Finished.{IsFinished, Tells, input_by, refusal_in, unfinished}
 
 -- no name is defined twice
 module _ (objects : List (List ℕ)) (once : duplicate (said_by objects).symbols ≡ None) where

@@ -2,11 +2,8 @@
 use Rattle.std.proofs.Common.{◌≡◌, ℕ, ◌+◌, ◌-◌, ◌<◌, ◌≤◌, List, ◌∷◌, drop, length, get_or, map, sym, ap, ◌∙◌, arith}
 use Rattle.std.proofs.lemmas.Bool.{le-ltb, lt-ltb}
 use Rattle.std.proofs.lemmas.List.{drop_all, drop_more}
-use Rattle.elf_tables.specs.Symbol.{symbol_count}
-use Rattle.obj_join.specs.Joined.{among}
+use Rattle.obj_items.proofs.Prelude.{symbol_count, among, said_of, symbol_said_in}
 use Rattle.obj_join.proofs.Listing.{length-listed}
-use Rattle.obj_link.specs.SaidOf.{said_of}
-use Rattle.obj_link.specs.Symbols.{symbol_said_in}
 
 -- so many objects on
 abbrev pub on : ℕ → ℕ × ℕ → ℕ × ℕ

@@ -1,16 +1,9 @@
 -- The sections of an object's input: those of the file, and behind them the table of addresses.
 use Rattle.std.proofs.Common.{◌≡◌, ℕ, ◌+◌, ◌<◌, get_or, List, ◌++◌, length, map, refl, ap, ◌∙◌, arith}
 use Rattle.std.proofs.lemmas.List.{get_or-map, get_or_append_left, length-append, length-map}
-use Rattle.elf_tables.specs.Header.{e_shnum}
-use Rattle.obj_input.specs.Input.{SectionParts, no_section, section_count, section_of}
-use Rattle.obj_join.specs.Definer.{own}
-use Rattle.obj_join.specs.Joined.{own_input}
+use Rattle.obj_items.proofs.Prelude.{e_shnum, SectionParts, no_section, section_count, section_of, own, own_input, slots, table_of, said_of, section_said_in, sections_said, input_of}
 use Rattle.obj_join.specs.SaidInput as joined
-use Rattle.obj_join.specs.Table.{slots, table_of}
 use Rattle.obj_join.proofs.Listing.{length-listed, listed_at}
-use Rattle.obj_link.specs.SaidOf.{said_of}
-use Rattle.obj_link.specs.Sections.{section_said_in, sections_said}
-use Rattle.obj_items.specs.FromObject.{input_of}
 
 module _ (bytes : List ℕ) where
   -- which symbol each one is

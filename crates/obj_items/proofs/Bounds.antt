@@ -8,24 +8,10 @@ use Rattle.std.proofs.lemmas.Int.{ints}
 use Rattle.std.proofs.lemmas.List.{get_or_past}
 use Rattle.std.proofs.lemmas.List.Elements.{All-get_or, All-nil}
 use Rattle.std.proofs.lemmas.List.Quantifiers.{position-Some}
-use Rattle.rv_image.specs.MemoryMap.{DATA_START}
+use Rattle.obj_items.proofs.Prelude.{DATA_START, Block, Definition, Zero, Absolute, Within, Common, Missing, Sort, Data, Zeros, Dropped, natural, InputParts, SectionParts, is_code, is_data_sort, is_zeros_sort, no_section, section_count, section_of, address_by, after, after_if, aligned, block, block_address, blocks_reach, init_end, no_block, reach, section_address, zeros_end, Item, Number, is_spot, no_item, place_of, is_value, HasSmall, IsBlock, IsInput, IsSection, IsSmallUse, gate_value, place_at, value_of}
 use Rattle.rv_word.proofs.Cases.{cases_Option}
-use Rattle.obj_input.specs.declared.parts.Block.{Block}
-use Rattle.obj_input.specs.declared.parts.Definition.{Definition}
-use Rattle.obj_input.specs.declared.parts.Definition.TheVariants.{Zero, Absolute, Within, Common, Missing}
-use Rattle.obj_input.specs.declared.parts.Sort.{Sort}
-use Rattle.obj_input.specs.declared.parts.Sort.TheVariants.{Data, Zeros, Dropped}
-use Rattle.obj_input.specs.Code.{natural}
-use Rattle.obj_input.specs.Input.{InputParts, SectionParts, is_code, is_data_sort, is_zeros_sort, no_section, section_count, section_of}
-use Rattle.obj_input.specs.DataLayout.{address_by, after, after_if, aligned, block, block_address, blocks_reach, init_end, no_block, reach, section_address, zeros_end}
-use Rattle.obj_input.proofs.Wholes.{past_sections}
-use Rattle.obj_program.specs.declared.item.Item.{Item}
-use Rattle.obj_program.specs.declared.item.Value.TheVariants.{Number}
-use Rattle.obj_program.specs.Program.{is_spot, no_item, place_of}
-use Rattle.obj_program.specs.Sound.{is_value}
-use Rattle.obj_items.specs.Ranges.{HasSmall, IsBlock, IsInput, IsSection, IsSmallUse}
-use Rattle.obj_items.specs.Values.{gate_value, place_at, value_of}
 use Rattle.obj_items.proofs.Addresses.{after_none}
+use Rattle.obj_items.proofs.NoFault.{past_sections}
 
 aligned_bound : (at align : ℕ) → align < 2 ^ 64 → aligned at align < at + 2 ^ 64
 aligned_bound at align small =

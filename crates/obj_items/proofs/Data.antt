@@ -4,14 +4,8 @@ use Rattle.std.specs.List.{flat_map}
 use Rattle.std.proofs.lemmas.List.{append-nil, get_or_append_left, length-append, take_more}
 use Rattle.std.proofs.Math.Seq.{get_or-append_seam}
 use Rattle.std.proofs.lemmas.List.Concat.{flat_map-append}
-use Rattle.obj_input.specs.Input.{InputParts, SectionParts, is_data_sort, no_section, section_of}
-use Rattle.obj_input.specs.DataLayout.{section_address}
-use Rattle.least.specs.Nearest.{joined}
+use Rattle.obj_items.proofs.Prelude.{InputParts, SectionParts, is_data_sort, no_section, section_of, section_address, joined, DataReloc, Item, listed_relocs, init_below, placed, relocs_in}
 use Rattle.obj_join.proofs.Sorting.{joined_same}
-use Rattle.obj_program.specs.declared.item.DataReloc.{DataReloc}
-use Rattle.obj_program.specs.declared.item.Item.{Item}
-use Rattle.obj_items.specs.Bare.{listed_relocs}
-use Rattle.obj_items.specs.InitialData.{init_below, placed, relocs_in}
 use Rattle.obj_items.proofs.Steps.{joined_next}
 
 module _ (input : InputParts) where

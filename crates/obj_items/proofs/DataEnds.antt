@@ -4,15 +4,7 @@ use Rattle.std.specs.Prelude.{max}
 use Rattle.std.proofs.Math.Nat.{mod-eq-sub-div-mul, mod-lt}
 use Rattle.std.proofs.lemmas.Bool.{cases_Bool}
 use Rattle.std.proofs.lemmas.List.{length-append, length-replicate}
-use Rattle.rv_image.specs.MemoryMap.{DATA_START}
-use Rattle.obj_input.specs.declared.parts.Sort.{Sort}
-use Rattle.obj_input.specs.declared.parts.Sort.TheVariants.{Data}
-use Rattle.obj_input.specs.Input.{InputParts, has_bytes, is_data_sort, is_zeros_sort, section_count, section_of}
-use Rattle.obj_input.specs.DataLayout.{address_by, aligned, init_end, reach, section_address}
-use Rattle.obj_items.specs.InitialData.{init_below, placed}
-use Rattle.obj_items.specs.Laws.{InitReachesEnd}
-use Rattle.obj_items.specs.ProgramOf.{program_of}
-use Rattle.obj_items.specs.Ranges.{IsInput}
+use Rattle.obj_items.proofs.Prelude.{DATA_START, Sort, Data, InputParts, has_bytes, is_data_sort, is_zeros_sort, section_count, section_of, address_by, aligned, init_end, reach, section_address, init_below, placed, InitReachesEnd, program_of, IsInput}
 use Rattle.obj_items.proofs.Bounds.{each_section}
 
 -- the next multiple is not below

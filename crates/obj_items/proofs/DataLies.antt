@@ -5,28 +5,7 @@ use Rattle.std.proofs.lemmas.Bool.{cases_Bool, cases_lt, and_parts, and_from, le
 use Rattle.std.proofs.lemmas.List.{length-append, length-map, length-replicate}
 use Rattle.std.proofs.lemmas.List.Elements.{All-nil, All-cons, All-append, All-from_get_or, All-get_or, All-head, All-tail}
 use Rattle.rv_word.proofs.Booleans.{and_rest}
-use Rattle.rv_image.specs.MemoryMap.{DATA_START}
-use Rattle.rv_reloc.specs.Data.{size_of}
-use Rattle.least.specs.Nearest.{joined}
-use Rattle.obj_input.specs.declared.parts.Relocation.{Relocation}
-use Rattle.obj_input.specs.declared.parts.Sort.{Sort}
-use Rattle.obj_input.specs.declared.parts.Sort.TheVariants.{Data}
-use Rattle.obj_input.specs.declared.reloc_kind.RelocKind.{RelocKind}
-use Rattle.obj_input.specs.declared.reloc_kind.RelocKind.TheVariants.{InData}
-use Rattle.obj_input.specs.Kinds.{is_idle, kind_of}
-use Rattle.obj_input.specs.Relocation.{is_acting}
-use Rattle.obj_input.specs.Input.{InputParts, has_bytes, is_code_sort, is_data_sort, is_zeros_sort, section_count, section_of}
-use Rattle.obj_input.specs.DataLayout.{section_address}
-use Rattle.obj_check.specs.WrongPlace.{has_right_addend, stands, stands_in_data, width}
-use Rattle.obj_program.specs.declared.item.DataReloc.{DataReloc}
-use Rattle.obj_program.specs.Program.{count}
-use Rattle.obj_program.specs.Sound.{lies}
-use Rattle.obj_items.specs.InitialData.{init_below, placed, reloc_by, reloc_of, relocs_of, section_relocs}
-use Rattle.obj_items.specs.Links.{item_with}
-use Rattle.obj_items.specs.Outline.{outline}
-use Rattle.obj_items.specs.ProgramOf.{program_with}
-use Rattle.obj_items.specs.Ranges.{IsInput, IsSmallUse}
-use Rattle.obj_items.specs.Values.{use_value}
+use Rattle.obj_items.proofs.Prelude.{DATA_START, size_of, joined, Relocation, Sort, Data, RelocKind, InData, is_idle, kind_of, is_acting, InputParts, has_bytes, is_code_sort, is_data_sort, is_zeros_sort, section_count, section_of, section_address, has_right_addend, stands, stands_in_data, width, DataReloc, count, lies, init_below, placed, reloc_by, reloc_of, relocs_of, section_relocs, item_with, outline, program_with, IsInput, IsSmallUse, use_value}
 use Rattle.obj_items.proofs.Bounds.{each_section, value_right}
 use Rattle.obj_items.proofs.NoFault.{IsRight, IsRightUse, no_use}
 

@@ -5,14 +5,7 @@ use Rattle.std.proofs.lemmas.Bool.Decides.{nat_tests}
 use Rattle.std.proofs.lemmas.List.{append-nil, get_or-map, get_or_append_left, length-append, length-map}
 use Rattle.std.proofs.Math.Seq.{get_or-append_seam}
 use Rattle.std.specs.Prelude.{map}
-use Rattle.least.specs.Nearest.{joined}
-use Rattle.obj_input.specs.Input.{InputParts, SectionParts, is_code, section_count, section_of}
-use Rattle.obj_input.specs.Code.{starts_at, word_count}
-use Rattle.obj_program.specs.declared.item.Item.{Item}
-use Rattle.obj_program.specs.Program.{AreInOrder, is_before, is_end, no_item}
-use Rattle.obj_items.specs.Before.{MayFollow}
-use Rattle.obj_items.specs.Links.{item_with}
-use Rattle.obj_items.specs.Outline.{code_items, end_at, outline, section_items, start_at, start_item}
+use Rattle.obj_items.proofs.Prelude.{joined, InputParts, SectionParts, is_code, section_count, section_of, starts_at, word_count, Item, AreInOrder, is_before, is_end, no_item, MayFollow, item_with, code_items, end_at, outline, section_items, start_at, start_item}
 
 before_more : (x : Item) (k at next : ℕ) → at ≤ next → is_before x k at ≡ true → is_before x k next ≡ true
 before_more x k at next more h = grind (arith, nat_tests)

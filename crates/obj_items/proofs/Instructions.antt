@@ -3,13 +3,7 @@ use Rattle.std.proofs.Common.{◌≡◌, ℕ, zero, suc, ◌<◌, get_or, true, 
 use Rattle.std.specs.List.{All}
 use Rattle.std.proofs.lemmas.Bool.{cases_Bool}
 use Rattle.std.proofs.lemmas.List.Elements.{All-append, All-get_or, All-nil, All-cons}
-use Rattle.least.specs.Nearest.{joined}
-use Rattle.obj_input.specs.Input.{InputParts, is_code, section_count, section_of}
-use Rattle.obj_input.specs.Code.{starts_at, word_count}
-use Rattle.obj_program.specs.declared.item.Item.{Item}
-use Rattle.obj_program.specs.Program.{is_end}
-use Rattle.obj_items.specs.Outline.{code_items, end_at, outline, section_items, start_at, start_item}
-use Rattle.obj_items.specs.Standing.{IsInstruction}
+use Rattle.obj_items.proofs.Prelude.{joined, InputParts, is_code, section_count, section_of, starts_at, word_count, Item, is_end, code_items, end_at, outline, section_items, start_at, start_item, IsInstruction}
 
 abbrev Stands : InputParts → Item → Type 0
 Stands input item = is_end item.kind ≡ false → IsInstruction input item

@@ -4,15 +4,7 @@ use Rattle.std.specs.Prelude.{map}
 use Rattle.std.proofs.lemmas.Bool.{cases_Bool}
 use Rattle.std.proofs.lemmas.List.{append-nil, get_or-append-add, get_or-map, length-append, length-map}
 use Rattle.std.proofs.Math.Seq.{get_or-append_seam}
-use Rattle.least.specs.Nearest.{joined}
-use Rattle.obj_input.specs.Input.{InputParts, is_code, section_count, section_of}
-use Rattle.obj_input.specs.Code.{word_count}
-use Rattle.obj_program.specs.declared.item.Item.{Item}
-use Rattle.obj_program.specs.MapFit.{EndsLast}
-use Rattle.obj_program.specs.Program.{is_end, no_item}
-use Rattle.obj_items.specs.Links.{item_with}
-use Rattle.obj_items.specs.Outline.{end_at, outline, section_items, start_item}
-use Rattle.obj_items.specs.ProgramOf.{program_of}
+use Rattle.obj_items.proofs.Prelude.{joined, InputParts, is_code, section_count, section_of, word_count, Item, EndsLast, is_end, no_item, item_with, end_at, outline, section_items, start_item, program_of}
 
 -- the last place, if there is any, is an end
 abbrev HasEndLast : List Item → Type 0

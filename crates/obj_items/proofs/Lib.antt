@@ -1,3 +1,4 @@
+pub mod Prelude
 mod Steps
 mod Data
 mod Parts

@@ -5,26 +5,9 @@ use Rattle.std.specs.Prelude.{set, option_and_then, unwrap_or}
 use Rattle.std.proofs.lemmas.Bool.{cases_Bool, cases_eq}
 use Rattle.std.proofs.lemmas.List.{length-set, length-map, get_or-set_same, get_or-set_other, get_or-map, get_or_default, ext_get_or}
 use Rattle.std.proofs.lemmas.List.Folds.{position_or_len-set}
-use Rattle.obj_input.specs.declared.parts.Relocation.{Relocation}
-use Rattle.obj_input.specs.declared.parts.Definition.{Definition}
-use Rattle.obj_input.specs.declared.parts.Definition.TheVariants.{Zero, Absolute, Within, Common, Missing}
-use Rattle.obj_input.specs.declared.reloc_kind.RelocKind.{RelocKind}
-use Rattle.obj_input.specs.declared.reloc_kind.RelocKind.TheVariants.{Nothing, Mark, BranchTarget, JalTarget, PairTarget, RelativeHigh, TableHigh, RelativeLowI, RelativeLowS, High, LowI, LowS, InData, Unknown}
-use Rattle.obj_input.specs.Kinds.{kind_of}
-use Rattle.obj_input.specs.Input.{InputParts, acting_at, is_code, section_of}
-use Rattle.obj_input.specs.Code.{natural}
-use Rattle.obj_check.specs.declared.target.Direct.{Direct}
-use Rattle.obj_check.specs.declared.target.Aim.{Aim}
+use Rattle.obj_items.proofs.Prelude.{Relocation, Definition, Zero, Absolute, Within, Common, Missing, RelocKind, Nothing, Mark, BranchTarget, JalTarget, PairTarget, RelativeHigh, TableHigh, RelativeLowI, RelativeLowS, High, LowI, LowS, InData, Unknown, kind_of, InputParts, acting_at, is_code, section_of, natural, Direct, Aim, aim_at, direct_at, Item, AreInOrder, is_end, is_spot, no_item, place_of, aimed_place, item_with, named_place, patch_by, patch_from, AreLinkedTo, gate_value, section_value, value_of, outline, IsInstruction}
 use Rattle.obj_check.specs.declared.target.Aim.TheVariants as aim
-use Rattle.obj_check.specs.Target.{aim_at, direct_at}
-use Rattle.obj_program.specs.declared.item.Item.{Item}
 use Rattle.obj_program.specs.declared.item.Patch.TheVariants as put
-use Rattle.obj_program.specs.Program.{AreInOrder, is_end, is_spot, no_item, place_of}
-use Rattle.obj_items.specs.Links.{aimed_place, item_with, named_place, patch_by, patch_from}
-use Rattle.obj_items.specs.Linking.{AreLinkedTo}
-use Rattle.obj_items.specs.Values.{gate_value, section_value, value_of}
-use Rattle.obj_items.specs.Outline.{outline}
-use Rattle.obj_items.specs.Standing.{IsInstruction}
 use Rattle.obj_items.proofs.InOrder.{outline_in_order, same_offset, same_section}
 use Rattle.obj_items.proofs.Instructions.{place_stands}
 

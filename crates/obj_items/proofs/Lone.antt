@@ -2,22 +2,9 @@
 use Rattle.std.proofs.Common.{◌≡◌, ℕ, ◌<◌, true, false, not, ◌&&◌, nat_lt, if◌then◌else◌, Option, Some, None, List, get_or, length, refl, sym, ap, subst, ◌∙◌, arith}
 use Rattle.std.proofs.lemmas.Bool.{and_parts, or_left, or_right}
 use Rattle.std.proofs.lemmas.List.{get_or-map, length-map}
-use Rattle.rv_code.specs.Decode.{decoded}
-use Rattle.rv_instr.specs.declared.instr.Instr.{Instr}
-use Rattle.obj_input.specs.declared.item_kind.ItemKind.{ItemKind}
+use Rattle.obj_items.proofs.Prelude.{decoded, Instr, ItemKind, InputParts, Item, Patch, is_lone, may_be_together, Program, count, is_end, item_of, no_item, IsSound, aims, is_direct, is_of, is_own, is_read, has_lower, is_upper, may_be_patched, names_reserved, stands_on, suits, AreLinkedTo, item_with, outline, program_of}
 use Rattle.obj_input.specs.declared.item_kind.ItemKind.TheVariants as is
-use Rattle.obj_input.specs.Input.{InputParts}
-use Rattle.obj_program.specs.declared.item.Item.{Item}
-use Rattle.obj_program.specs.declared.item.Patch.{Patch}
 use Rattle.obj_program.specs.declared.item.Patch.TheVariants as put
-use Rattle.obj_program.specs.Packed.{is_lone, may_be_together}
-use Rattle.obj_program.specs.Program.{Program, count, is_end, item_of, no_item}
-use Rattle.obj_program.specs.Sound.{IsSound, aims, is_direct, is_of, is_own, is_read}
-use Rattle.obj_program.specs.Suits.{has_lower, is_upper, may_be_patched, names_reserved, stands_on, suits}
-use Rattle.obj_items.specs.Linking.{AreLinkedTo}
-use Rattle.obj_items.specs.Links.{item_with}
-use Rattle.obj_items.specs.Outline.{outline}
-use Rattle.obj_items.specs.ProgramOf.{program_of}
 use Rattle.obj_items.proofs.Linking.{item_same}
 
 -- a direct transfer is no end, and no relocation gives it an immediate

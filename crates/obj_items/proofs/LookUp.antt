@@ -6,12 +6,7 @@ use Rattle.std.proofs.lemmas.Bool.{cases_Bool, cases_lt, and_parts, and_from, eq
 use Rattle.std.proofs.lemmas.List.Elements.{All-nil, All-cons, All-append, All-get_or}
 use Rattle.std.proofs.lemmas.List.Folds.{list_any-append}
 use Rattle.std.proofs.lemmas.List.Quantifiers.{position-Some}
-use Rattle.least.specs.Nearest.{joined}
-use Rattle.obj_input.specs.Input.{InputParts, SectionParts, is_code, section_count, section_of}
-use Rattle.obj_input.specs.Code.{is_inside, is_start, starts_at, word_count}
-use Rattle.obj_program.specs.declared.item.Item.{Item}
-use Rattle.obj_program.specs.Program.{is_spot, no_item, place_of}
-use Rattle.obj_items.specs.Outline.{end_at, outline, section_items, start_at, start_item}
+use Rattle.obj_items.proofs.Prelude.{joined, InputParts, SectionParts, is_code, section_count, section_of, is_inside, is_start, starts_at, word_count, Item, is_spot, no_item, place_of, end_at, outline, section_items, start_at, start_item}
 use Rattle.obj_items.proofs.NoFault.{code_there}
 
 -- a place of the outline: an instruction's start, or the end of its section

@@ -4,17 +4,7 @@ use Rattle.std.proofs.lemmas.Bool.{cases_Bool, cases_lt, lt-ltb}
 use Rattle.std.proofs.lemmas.List.{append-nil, get_or-append-add, get_or_append_left, get_or-map, length-append, length-map}
 use Rattle.std.proofs.lemmas.List.Elements.{All-get_or}
 use Rattle.std.proofs.Math.Seq.{get_or-append_seam}
-use Rattle.rv_instr.specs.declared.instr.Instr.{Instr}
-use Rattle.least.specs.Nearest.{joined}
-use Rattle.obj_input.specs.Input.{InputParts, SectionParts, is_code, section_count, section_of}
-use Rattle.obj_input.specs.Code.{are_pair, are_same, instr, is_inside, is_pair, jalr_base, starts_at, word_count}
-use Rattle.obj_program.specs.declared.item.Item.{Item}
-use Rattle.obj_program.specs.MapFit.{FitsMap}
-use Rattle.obj_program.specs.Program.{count, item_of, no_item}
-use Rattle.obj_items.specs.FitCode.{HasFitCode}
-use Rattle.obj_items.specs.Links.{item_with}
-use Rattle.obj_items.specs.Outline.{code_items, end_at, outline, section_items, start_at, start_item}
-use Rattle.obj_items.specs.ProgramOf.{program_of}
+use Rattle.obj_items.proofs.Prelude.{Instr, joined, InputParts, SectionParts, is_code, section_count, section_of, are_pair, are_same, instr, is_inside, is_pair, jalr_base, starts_at, word_count, Item, FitsMap, count, item_of, no_item, HasFitCode, item_with, code_items, end_at, outline, section_items, start_at, start_item, program_of}
 use Rattle.obj_items.proofs.InOrder.{same_offset, same_section}
 use Rattle.obj_items.proofs.LookUp.{IsOfOutline, outline_right}
 use Rattle.obj_items.proofs.Starts.{pair_jalr, pair_parts}

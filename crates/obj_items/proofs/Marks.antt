@@ -9,12 +9,8 @@ use Rattle.std.proofs.lemmas.Bool.{cases_eq, cases_lt, or_right, lt-ltb, false_f
 use Rattle.std.proofs.lemmas.List.Quantifiers.{position-Some}
 use Rattle.std.proofs.lemmas.List.Folds.{list_any_more}
 use Rattle.std.proofs.lemmas.List.Sums.{fails_before_first}
-use Rattle.least.specs.First.{first_below}
-use Rattle.obj_input.specs.declared.parts.Relocation.{Relocation}
-use Rattle.obj_program.specs.declared.item.Item.{Item}
-use Rattle.obj_program.specs.Program.{AreInOrder, is_spot, no_item, place_of}
+use Rattle.obj_items.proofs.Prelude.{first_below, Relocation, Item, AreInOrder, is_spot, no_item, place_of, is_the, pointed, takes}
 use Rattle.obj_program.proofs.Ordered.{spot_once}
-use Rattle.obj_items.specs.Links.{is_the, pointed, takes}
 
 module _ (places : List Item) where
   abbrev pub place : ℕ → Item

@@ -3,34 +3,18 @@ use Rattle.std.proofs.Common.{◌≡◌, ◌==◌, ℕ, pos, zero, suc, ◌<◌,
 use Rattle.std.specs.Prelude.{option_map}
 use Rattle.std.specs.List.{All, filter_map}
 use Rattle.std.proofs.lemmas.Bool.{cases_Bool, cases_lt}
+use Rattle.std.proofs.lemmas.List.{get_or_past}
 use Rattle.std.proofs.lemmas.Option.{slice_get-get_or}
 use Rattle.std.proofs.lemmas.List.Elements.{All-nil, All-cons, All-filter, All-from_get_or, All-get_or, All-weaker, filter_passes}
 use Rattle.rv_word.proofs.Cases.{cases_Option, neither, unmapped}
-use Rattle.least.specs.declared.place.Found.{Found}
-use Rattle.least.specs.declared.place.Place.{Place}
-use Rattle.least.specs.First.{first_below}
-use Rattle.least.specs.Nearest.{IsNearest, is_before, nearer, nearest, nearest_below}
+use Rattle.obj_items.proofs.Prelude.{Found, Place, first_below, IsNearest, nearer, nearest, nearest_below, Relocation, Zero, is_acting, InputParts, SectionParts, acting_at, is_code, no_section, section_count, section_of, word_count, ItemFault, nearest_in, is_undecodable, undecodable, undecodable_in, is_reserved_at, reserved, reserved_in, bad_transfer, bad_transfer_in, is_wrong_transfer, auipc_in, bad_pair, bad_pair_in, is_wrong_low, low_at, low_in, wrong_kind, is_wrong_place, place_found, place_in, wrong_place, missing_at, missing_in, missing_in_use, undefined, wrong_pointer, instruction_fault, relocation_fault}
+use Rattle.least.specs.Nearest.{is_before}
 use Rattle.least.proofs.Firsts.{first_none}
 use Rattle.least.proofs.Leasts.{least_none}
 use Rattle.least.proofs.Nearests.{nearest_first}
-use Rattle.obj_input.specs.declared.parts.Relocation.{Relocation}
-use Rattle.obj_input.specs.declared.parts.Definition.TheVariants.{Zero}
-use Rattle.obj_input.specs.Relocation.{is_acting}
-use Rattle.obj_input.specs.Input.{InputParts, SectionParts, acting_at, is_code, section_count, section_of}
-use Rattle.obj_input.specs.Code.{word_count}
-use Rattle.obj_input.proofs.Wholes.{past_sections}
-use Rattle.obj_check.specs.declared.fault.ItemFault.{ItemFault}
 use Rattle.obj_check.specs.declared.fault.ItemFault.TheVariants as fault
-use Rattle.obj_check.specs.Finding.{nearest_in, place_of}
-use Rattle.obj_check.specs.Undecodable.{is_undecodable, undecodable, undecodable_in}
-use Rattle.obj_check.specs.Reserved.{is_reserved_at, reserved, reserved_in}
-use Rattle.obj_check.specs.BadTransfer.{bad_transfer, bad_transfer_in, is_wrong_transfer}
-use Rattle.obj_check.specs.BadPair.{auipc_in, bad_pair, bad_pair_in, is_wrong_low, low_at, low_in}
-use Rattle.obj_check.specs.WrongKind.{wrong_kind}
-use Rattle.obj_check.specs.WrongPlace.{is_wrong_place, place_found, place_in, wrong_place}
-use Rattle.obj_check.specs.Undefined.{missing_at, missing_in, missing_in_use, undefined}
-use Rattle.obj_check.specs.CodePointer.{wrong_pointer}
-use Rattle.obj_check.specs.Fault.{fault_of, instruction_fault, relocation_fault}
+use Rattle.obj_check.specs.Finding.{place_of}
+use Rattle.obj_check.specs.Fault.{fault_of}
 
 -- a relocation of an input without a fault
 pub record IsRightUse (input : InputParts) (k : ℕ) (u : Relocation) : Type 0 where
@@ -44,6 +28,9 @@ pub record IsRight (input : InputParts) : Type 0 where
   pub unreserved : (k i : ℕ) → is_code (section_of input k) ≡ true → i < word_count (section_of input k) → is_reserved_at (section_of input k) i ≡ false
   pub transfers : (k i : ℕ) → is_code (section_of input k) ≡ true → i < word_count (section_of input k) → is_wrong_transfer input k i ≡ false
   pub uses : (k : ℕ) → All (IsRightUse input k) (section_of input k).uses
+
+pub past_sections : (input : InputParts) (k : ℕ) → section_count input ≤ k → section_of input k ≡ no_section
+past_sections input k past = get_or_past input.sections k no_section past
 
 -- a section of code is there
 pub code_there : (input : InputParts) (k : ℕ) → is_code (section_of input k) ≡ true → k < section_count input

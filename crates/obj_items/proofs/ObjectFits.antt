@@ -3,22 +3,10 @@ use Rattle.std.proofs.Common.{◌≡◌, ℕ, ◌<◌, ◌==◌, true, false, No
 use Rattle.std.specs.List.{All}
 use Rattle.std.proofs.lemmas.Bool.{cases_Bool}
 use Rattle.std.proofs.lemmas.List.Elements.{All-from_get_or}
-use Rattle.elf_tables.specs.declared.header.SectionHeader.{SectionHeader}
-use Rattle.elf_tables.specs.Header.{e_shnum}
-use Rattle.elf_tables.specs.Section.{section_header}
-use Rattle.elf_tables.specs.Kept.{is_executable, is_kept}
-use Rattle.elf_object.specs.Fault.{fault_of}
+use Rattle.obj_items.proofs.Prelude.{SectionHeader, e_shnum, section_header, is_executable, is_kept, fault_of, is_code_sort, own, own_input, said_of, kept_sort, section_said_in, sections_said, sort_of, symbols_said, HasFitCode, input_of}
 use Rattle.elf_object.proofs.Right.{kept_right}
-use Rattle.obj_input.specs.Input.{is_code_sort}
-use Rattle.obj_join.specs.Definer.{own}
-use Rattle.obj_join.specs.Joined.{own_input}
 use Rattle.obj_join.proofs.Listing.{length-listed, listed_at}
-use Rattle.obj_link.specs.SaidOf.{said_of}
-use Rattle.obj_link.specs.Sections.{kept_sort, section_said_in, sections_said, sort_of}
-use Rattle.obj_link.specs.Symbols.{symbols_said}
 use Rattle.obj_link.proofs.Whole.{few_sections}
-use Rattle.obj_items.specs.FitCode.{HasFitCode}
-use Rattle.obj_items.specs.FromObject.{input_of}
 use Rattle.obj_items.proofs.SaidFits.{IsWhole, said_fits}
 
 -- code is kept and executable

@@ -1,15 +1,6 @@
 -- A program is its parts.
 use Rattle.std.proofs.Common.{◌≡◌, List, refl, subst, sym}
-use Rattle.obj_input.specs.declared.parts.Func.{Func}
-use Rattle.obj_input.specs.Input.{InputParts, Named}
-use Rattle.obj_input.specs.DataLayout.{data_layout_of}
-use Rattle.obj_program.specs.declared.item.DataReloc.{DataReloc}
-use Rattle.obj_program.specs.Program.{Program}
-use Rattle.obj_items.specs.declared.program.Held.{Held}
-use Rattle.obj_items.specs.Contents.{AreContents}
-use Rattle.obj_items.specs.InitialData.{relocs_of}
-use Rattle.obj_items.specs.Outline.{outline}
-use Rattle.obj_items.specs.ProgramOf.{program_of}
+use Rattle.obj_items.proofs.Prelude.{Func, InputParts, Named, data_layout_of, DataReloc, Program, Held, AreContents, relocs_of, outline, program_of}
 
 pub program_is : (input : InputParts) (held : Held) (relocs : List DataReloc) (funcs : List Func) (names : List Named) → AreContents input held
     → relocs ≡ relocs_of input (outline input) → funcs ≡ input.funcs → names ≡ input.names

@@ -6,26 +6,8 @@ use Rattle.std.proofs.lemmas.Bool.{and_parts, eqb-true, lt-ltb, not-false, or_ca
 use Rattle.std.proofs.lemmas.List.{length-map}
 use Rattle.std.proofs.lemmas.List.Elements.{All-filter, All-head, All-same}
 use Rattle.rv_word.proofs.Booleans.{and_rest}
-use Rattle.obj_input.specs.declared.parts.Relocation.{Relocation}
-use Rattle.obj_input.specs.declared.parts.Definition.{Definition}
-use Rattle.obj_input.specs.declared.parts.Definition.TheVariants.{Within, Missing}
-use Rattle.obj_input.specs.declared.reloc_kind.RelocKind.{RelocKind}
-use Rattle.obj_input.specs.declared.reloc_kind.RelocKind.TheVariants.{RelativeHigh, TableHigh, RelativeLowI, RelativeLowS, High, LowI, LowS}
-use Rattle.obj_input.specs.Kinds.{is_relative_high, is_relative_low, kind_of}
-use Rattle.obj_input.specs.Relocation.{is_acting}
-use Rattle.obj_input.specs.Input.{InputParts, acting_at, is_code, section_of}
-use Rattle.obj_input.specs.Code.{has_high_part, instr, is_auipc, is_start}
-use Rattle.obj_check.specs.BadPair.{has_relative_high, is_auipc_at, names_high}
-use Rattle.obj_check.specs.Undefined.{missing_symbol}
-use Rattle.obj_program.specs.declared.item.Item.{Item}
+use Rattle.obj_items.proofs.Prelude.{Relocation, Definition, Within, Missing, RelocKind, RelativeHigh, TableHigh, RelativeLowI, RelativeLowS, High, LowI, LowS, is_relative_high, is_relative_low, kind_of, is_acting, InputParts, acting_at, is_code, section_of, has_high_part, instr, is_auipc, is_start, has_relative_high, is_auipc_at, names_high, missing_symbol, Item, count, item_of, place_of, is_high_patch, is_patch, is_value, item_with, named_place, patch_by, patch_from, outline, program_with, IsInput, IsSmallUse, use_value}
 use Rattle.obj_program.specs.declared.item.Patch.TheVariants as put
-use Rattle.obj_program.specs.Program.{count, item_of, place_of}
-use Rattle.obj_program.specs.Sound.{is_high_patch, is_patch, is_value}
-use Rattle.obj_items.specs.Links.{item_with, named_place, patch_by, patch_from}
-use Rattle.obj_items.specs.Outline.{outline}
-use Rattle.obj_items.specs.ProgramOf.{program_with}
-use Rattle.obj_items.specs.Ranges.{IsInput, IsSmallUse}
-use Rattle.obj_items.specs.Values.{use_value}
 use Rattle.obj_items.proofs.Bounds.{each_section, value_right}
 use Rattle.obj_items.proofs.LookUp.{start_parts}
 use Rattle.obj_items.proofs.NoFault.{IsRight, IsRightUse}

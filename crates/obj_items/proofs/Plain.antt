@@ -4,19 +4,8 @@ use Rattle.std.specs.Prelude.{filter, fold}
 use Rattle.std.proofs.lemmas.Bool.{cases_Bool, cases_lt}
 use Rattle.std.proofs.lemmas.List.{get_or_past}
 use Rattle.std.proofs.lemmas.List.Elements.{filter-append}
-use Rattle.least.specs.Nearest.{joined}
-use Rattle.elf_tables.specs.declared.entry.Reloc.{Reloc}
-use Rattle.elf_tables.specs.Header.{e_shnum}
-use Rattle.elf_tables.specs.Relocation.{relocation_bytes, relocation_count, relocation_in}
-use Rattle.obj_input.specs.declared.parts.Sort.TheVariants.{Dropped}
-use Rattle.obj_input.specs.Kinds.{is_table_high, kind_of}
-use Rattle.obj_input.specs.Input.{is_code_sort}
-use Rattle.obj_input.specs.Listed.{listed}
-use Rattle.obj_join.specs.Said.{SectionSaid, UseSaid}
-use Rattle.obj_join.specs.Table.{is_table_use, slots, table_of, table_symbols_at, table_symbols_in, with_symbol}
+use Rattle.obj_items.proofs.Prelude.{joined, Reloc, e_shnum, relocation_bytes, relocation_count, relocation_in, Dropped, is_table_high, kind_of, is_code_sort, listed, SectionSaid, UseSaid, is_table_use, slots, table_of, table_symbols_at, table_symbols_in, with_symbol, said_of, section_said_in, sections_said, sort_of, use_said_at}
 use Rattle.obj_join.proofs.Listing.{length-listed, listed_at}
-use Rattle.obj_link.specs.SaidOf.{said_of}
-use Rattle.obj_link.specs.Sections.{section_said_in, sections_said, sort_of, use_said_at}
 use Rattle.obj_items.proofs.Behind.{numbers, table}
 
 -- the relocations of a section by their index

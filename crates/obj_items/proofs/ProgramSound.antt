@@ -4,17 +4,7 @@ use Rattle.std.specs.Prelude.{slice_get}
 use Rattle.std.proofs.lemmas.List.{get_or-map, length-map}
 use Rattle.std.proofs.lemmas.List.Elements.{All-get_or}
 use Rattle.std.proofs.lemmas.Option.{get_or_from_slice_get, slice_get_within}
-use Rattle.obj_input.specs.Input.{InputParts, section_of}
-use Rattle.obj_program.specs.declared.item.DataReloc.{DataReloc}
-use Rattle.obj_program.specs.declared.item.Item.{Item}
-use Rattle.obj_program.specs.Program.{Program, count, item_of, no_item}
-use Rattle.obj_program.specs.Sound.{IsSound, aims, is_patch, is_read, lies}
-use Rattle.obj_items.specs.InitialData.{relocs_of}
-use Rattle.obj_items.specs.Laws.{ProgramsAreSound}
-use Rattle.obj_items.specs.Links.{item_with}
-use Rattle.obj_items.specs.Outline.{end_at, outline}
-use Rattle.obj_items.specs.ProgramOf.{program_of, program_with}
-use Rattle.obj_items.specs.Ranges.{IsInput}
+use Rattle.obj_items.proofs.Prelude.{InputParts, section_of, DataReloc, Item, Program, count, item_of, no_item, IsSound, aims, is_patch, is_read, lies, relocs_of, ProgramsAreSound, item_with, end_at, outline, program_of, program_with, IsInput}
 use Rattle.obj_items.proofs.DataLies.{relocs_lie}
 use Rattle.obj_items.proofs.InOrder.{linked_in_order, outline_in_order}
 use Rattle.obj_items.proofs.LastEnds.{last_ends}

@@ -2,9 +2,7 @@
 use Rattle.std.proofs.Common.{◌≡◌, ℕ, ◌+◌, ◌<◌, true, false, Option, Some, None, List, ◌++◌, inl, inr, refl, sym, ap, ◌∙◌, add-one}
 use Rattle.std.proofs.lemmas.Bool.{cases_lt, and_parts, le-ltb}
 use Rattle.std.proofs.lemmas.List.{append-nil, append_assoc}
-use Rattle.least.specs.Nearest.{joined}
-use Rattle.obj_input.specs.Input.{SectionParts}
-use Rattle.obj_input.specs.Code.{are_pair, are_same, auipc_register, has_pair_target, instr, is_pair, word_count}
+use Rattle.obj_items.proofs.Prelude.{joined, SectionParts, are_pair, are_same, auipc_register, has_pair_target, instr, is_pair, word_count}
 
 module _ {A : Type 0} (parts : ℕ → List A) where
   pub pushed_begins : (before : List A) → before ≡ before ++ joined parts 0

@@ -5,12 +5,8 @@ use Rattle.std.proofs.lemmas.Bool.{cases_eq, cases_lt}
 use Rattle.std.proofs.lemmas.List.{get_or-map, get_or_append_left, get_or_past, length-append, length-map}
 use Rattle.std.proofs.lemmas.List.Elements.{All-get_or}
 use Rattle.std.proofs.Math.Seq.{get_or-append_seam}
-use Rattle.obj_input.specs.declared.parts.Sort.TheVariants.{Dropped}
-use Rattle.obj_input.specs.Input.{SectionParts, is_code, is_code_sort, no_section, section_of}
-use Rattle.obj_join.specs.Said.{Said, SectionSaid}
+use Rattle.obj_items.proofs.Prelude.{Dropped, SectionParts, is_code, is_code_sort, no_section, section_of, Said, SectionSaid, section_said, slots, table_of, table_section, HasFitCode}
 use Rattle.obj_join.specs.SaidInput as joined
-use Rattle.obj_join.specs.Table.{section_said, slots, table_of, table_section}
-use Rattle.obj_items.specs.FitCode.{HasFitCode}
 
 -- a section that is whole words, if it is code
 abbrev pub IsWhole : SectionSaid → Type 0

@@ -6,30 +6,9 @@ use Rattle.std.proofs.lemmas.Bool.{cases_Bool, and_parts, eqb-true, not-false, o
 use Rattle.std.proofs.lemmas.List.Elements.{All-head, All-same}
 use Rattle.rv_word.proofs.Cases.{cases_Option}
 use Rattle.rv_word.proofs.Booleans.{and_rest}
-use Rattle.rv_instr.specs.declared.instr.Instr.{Instr}
-use Rattle.rv_instr.specs.declared.instr.Instr.TheVariants.{Jalr}
-use Rattle.rv_code.specs.Decode.{decoded}
-use Rattle.obj_input.specs.declared.parts.Relocation.{Relocation}
-use Rattle.obj_input.specs.declared.item_kind.ItemKind.{ItemKind}
-use Rattle.obj_input.specs.declared.reloc_kind.RelocKind.{RelocKind}
-use Rattle.obj_input.specs.declared.reloc_kind.RelocKind.TheVariants.{PairTarget, RelativeHigh, TableHigh, RelativeLowI, RelativeLowS, High, LowI, LowS}
-use Rattle.obj_input.specs.Kinds.{is_pair_target, kind_of}
-use Rattle.obj_input.specs.Relocation.{is_acting}
-use Rattle.obj_input.specs.Input.{InputParts, SectionParts, acting_at, is_code, section_of}
-use Rattle.obj_input.specs.Code.{are_pair, auipc_register, has_pair_target, instr, is_inside, is_pair, is_start, starts_at, word, word_count}
-use Rattle.obj_check.specs.Kind.{kind_at, pair_kind, single_kind, word_kind}
-use Rattle.obj_check.specs.Target.{direct_at, goes_right}
-use Rattle.obj_check.specs.Reserved.{some_reserved}
+use Rattle.obj_items.proofs.Prelude.{Instr, Jalr, decoded, Relocation, ItemKind, RelocKind, PairTarget, RelativeHigh, TableHigh, RelativeLowI, RelativeLowS, High, LowI, LowS, is_pair_target, kind_of, is_acting, InputParts, SectionParts, acting_at, is_code, section_of, are_pair, auipc_register, has_pair_target, instr, is_inside, is_pair, is_start, starts_at, word, word_count, kind_at, pair_kind, single_kind, word_kind, direct_at, goes_right, some_reserved, fits_on, has_form, has_right_addend, stands, stands_in_code, Item, Patch, is_end, is_read, names_reserved, stands_on, suits, is_taken, item_with, patch_by, patch_from, target_of, own_word, start_at}
 use Rattle.obj_check.specs.Reserved as rule
-use Rattle.obj_check.specs.WrongPlace.{fits_on, has_form, has_right_addend, stands, stands_in_code}
-use Rattle.obj_program.specs.declared.item.Item.{Item}
-use Rattle.obj_program.specs.declared.item.Patch.{Patch}
 use Rattle.obj_program.specs.declared.item.Patch.TheVariants as put
-use Rattle.obj_program.specs.Program.{is_end}
-use Rattle.obj_program.specs.Sound.{is_read}
-use Rattle.obj_program.specs.Suits.{names_reserved, stands_on, suits}
-use Rattle.obj_items.specs.Links.{is_taken, item_with, patch_by, patch_from, target_of}
-use Rattle.obj_items.specs.Outline.{own_word, start_at}
 use Rattle.obj_items.proofs.NoFault.{IsRight, IsRightUse, acting_right, acting_there}
 use Rattle.obj_items.proofs.LookUp.{start_below}
 use Rattle.obj_items.proofs.Suited.{auipc_stands, lower_stands, no_end, none_reserved, pair_suits, single_suits, store_stands, upper_stands}

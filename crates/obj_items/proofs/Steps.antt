@@ -3,8 +3,7 @@ use Rattle.std.proofs.Common.{◌≡◌, ℕ, zero, suc, ◌+◌, ◌<◌, get_o
 use Rattle.std.proofs.lemmas.Bool.{cases_lt}
 use Rattle.std.proofs.lemmas.List.{append-nil, get_or_append_left, length-append}
 use Rattle.std.proofs.Math.Seq.{get_or-append_seam}
-use Rattle.least.specs.Nearest.{joined}
-use Rattle.obj_input.specs.Listed.{listed}
+use Rattle.obj_items.proofs.Prelude.{joined, listed}
 
 module _ {A : Type 0} (given : ℕ → A) where
   pub listed_begins : [] ≡ listed given 0

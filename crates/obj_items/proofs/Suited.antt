@@ -2,23 +2,11 @@
 use Rattle.std.proofs.Common.{◌≡◌, ℕ, ◌<◌, ◌==◌, Bool, true, false, ◌&&◌, Option, Some, None, inl, inr, refl, sym, ap, subst, arith}
 use Rattle.std.proofs.lemmas.Bool.{cases_Bool, not-true}
 use Rattle.std.proofs.lemmas.Option.{same_Some}
-use Rattle.rv_instr.specs.declared.instr.Instr.{Instr}
-use Rattle.rv_instr.specs.declared.instr.Instr.TheVariants.{Upper, Jal, Jalr, Branch, Load, Store, Immediate, Shift, ShiftWord, Register, Fence, Ecall, Ebreak}
-use Rattle.rv_instr.specs.declared.instr.UpperOp.TheVariants.{Lui, Auipc}
-use Rattle.rv_instr.specs.Operands.{names}
-use Rattle.rv_instr.specs.Reserved.{is_reserved}
-use Rattle.least.specs.First.{first_below}
+use Rattle.obj_items.proofs.Prelude.{Instr, Upper, Jal, Jalr, Branch, Load, Store, Immediate, Shift, ShiftWord, Register, Fence, Ecall, Ebreak, Lui, Auipc, names, is_reserved, first_below, ItemKind, is_auipc, by_link, computed_kind, single_kind, is_i_form, is_upper_form, is_reserved_name, some_reserved, has_lower, is_upper, may_be_patched, names_reserved, suits, is_end}
 use Rattle.least.proofs.Firsts.{first_none}
 use Rattle.std.specs.Prelude.{is_some}
-use Rattle.obj_input.specs.declared.item_kind.ItemKind.{ItemKind}
 use Rattle.obj_input.specs.declared.item_kind.ItemKind.TheVariants as is
-use Rattle.obj_input.specs.Code.{is_auipc}
-use Rattle.obj_check.specs.Kind.{by_link, computed_kind, single_kind}
-use Rattle.obj_check.specs.WrongPlace.{is_i_form, is_upper_form}
 use Rattle.obj_check.specs.WrongPlace as place
-use Rattle.obj_check.specs.Reserved.{is_reserved_name, some_reserved}
-use Rattle.obj_program.specs.Suits.{has_lower, is_upper, may_be_patched, names_reserved, suits}
-use Rattle.obj_program.specs.Program.{is_end}
 
 same_kind : (k kind : ItemKind) (i : Instr) → Some k ≡ Some kind → suits k i ≡ true → suits kind i ≡ true
 same_kind k kind i e h = subst (λ (one : ItemKind). suits one i ≡ true) (same_Some k kind e) h

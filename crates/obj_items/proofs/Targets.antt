@@ -7,33 +7,9 @@ use Rattle.std.proofs.lemmas.List.{get_or-map, length-map}
 use Rattle.std.proofs.lemmas.List.Elements.{All-head, All-tail}
 use Rattle.std.proofs.lemmas.Option.{same_Some}
 use Rattle.rv_word.proofs.Cases.{cases_Option}
-use Rattle.rv_instr.specs.declared.instr.Instr.{Instr}
-use Rattle.rv_instr.specs.declared.instr.Instr.TheVariants.{Upper, Jal, Jalr, Branch, Load, Store, Immediate, Shift, ShiftWord, Register, Fence, Ecall, Ebreak}
-use Rattle.rv_instr.specs.declared.instr.UpperOp.TheVariants.{Lui, Auipc}
-use Rattle.obj_input.specs.declared.parts.Relocation.{Relocation}
-use Rattle.obj_input.specs.declared.parts.Definition.{Definition}
-use Rattle.obj_input.specs.declared.parts.Definition.TheVariants.{Zero, Absolute, Within, Common, Missing}
-use Rattle.obj_input.specs.declared.item_kind.ItemKind.{ItemKind}
+use Rattle.obj_items.proofs.Prelude.{Instr, Upper, Jal, Jalr, Branch, Load, Store, Immediate, Shift, ShiftWord, Register, Fence, Ecall, Ebreak, Lui, Auipc, Relocation, Definition, Zero, Absolute, Within, Common, Missing, ItemKind, kind_of, is_acting, InputParts, SectionParts, acting_at, is_code, section_of, instr, is_pair, is_start, starts_at, Direct, ByBranch, ByJal, ByPair, Aim, At, Astray, by_link, computed_kind, kind_at, pair_kind, single_kind, word_kind, aim_at, aim_of, direct_at, direct_word, goes_right, guide_at, guides, may_aim, own_aim, missing_in_use, Item, Program, count, is_end, item_of, no_item, place_of, aims, is_direct, aimed_place, item_with, target_of, outline, program_with, IsInput}
 use Rattle.obj_input.specs.declared.item_kind.ItemKind.TheVariants as is
-use Rattle.obj_input.specs.Kinds.{kind_of}
-use Rattle.obj_input.specs.Relocation.{is_acting}
-use Rattle.obj_input.specs.Input.{InputParts, SectionParts, acting_at, is_code, section_of}
-use Rattle.obj_input.specs.Code.{instr, is_pair, is_start, starts_at}
-use Rattle.obj_check.specs.declared.target.Direct.{Direct}
-use Rattle.obj_check.specs.declared.target.Direct.TheVariants.{ByBranch, ByJal, ByPair}
-use Rattle.obj_check.specs.declared.target.Aim.{Aim}
-use Rattle.obj_check.specs.declared.target.Aim.TheVariants.{At, Astray}
 use Rattle.obj_check.specs.declared.target.Aim.TheVariants as aim
-use Rattle.obj_check.specs.Kind.{by_link, computed_kind, kind_at, pair_kind, single_kind, word_kind}
-use Rattle.obj_check.specs.Target.{aim_at, aim_of, direct_at, direct_word, goes_right, guide_at, guides, may_aim, own_aim}
-use Rattle.obj_check.specs.Undefined.{missing_in_use}
-use Rattle.obj_program.specs.declared.item.Item.{Item}
-use Rattle.obj_program.specs.Program.{Program, count, is_end, item_of, no_item, place_of}
-use Rattle.obj_program.specs.Sound.{aims, is_direct}
-use Rattle.obj_items.specs.Links.{aimed_place, item_with, target_of}
-use Rattle.obj_items.specs.Outline.{outline}
-use Rattle.obj_items.specs.ProgramOf.{program_with}
-use Rattle.obj_items.specs.Ranges.{IsInput}
 use Rattle.obj_items.proofs.Bounds.{each_section}
 use Rattle.obj_items.proofs.NoFault.{IsRight, IsRightUse, acting_right, acting_there}
 use Rattle.obj_items.proofs.LookUp.{place_there, start_below, start_parts}

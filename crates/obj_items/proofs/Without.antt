@@ -3,23 +3,7 @@ use Rattle.std.proofs.Common.{◌≡◌, ℕ, ℤ, zero, suc, Bool, List, map, i
 use Rattle.std.proofs.lemmas.Bool.{cases_lt}
 use Rattle.std.proofs.lemmas.List.{get_or-map, get_or_past, length-map}
 use Rattle.std.proofs.Math.Path.{fun_ext}
-use Rattle.rv_image.specs.MemoryMap.{DATA_START}
-use Rattle.least.specs.Nearest.{joined}
-use Rattle.obj_input.specs.declared.parts.Relocation.{Relocation}
-use Rattle.obj_input.specs.declared.parts.Sort.{Sort}
-use Rattle.obj_input.specs.declared.parts.Definition.{Definition}
-use Rattle.obj_input.specs.declared.parts.Definition.TheVariants.{Zero, Absolute, Within, Common, Missing}
-use Rattle.obj_input.specs.declared.reloc_kind.RelocKind.{RelocKind}
-use Rattle.obj_input.specs.declared.reloc_kind.RelocKind.TheVariants.{Nothing, Mark, BranchTarget, JalTarget, PairTarget, RelativeHigh, TableHigh, RelativeLowI, RelativeLowS, High, LowI, LowS, InData, Unknown}
-use Rattle.obj_input.specs.Kinds.{kind_of}
-use Rattle.obj_input.specs.Input.{InputParts, is_data_sort, is_zeros_sort, no_section, section_count, section_of}
-use Rattle.obj_input.specs.DataLayout.{block_address, blocks_reach, init_end, reach, section_address, zeros_end}
-use Rattle.obj_program.specs.declared.item.DataReloc.{DataReloc}
-use Rattle.obj_program.specs.declared.item.Item.{Item}
-use Rattle.obj_program.specs.Program.{place_of}
-use Rattle.obj_items.specs.Bare.{bare, bare_section, listed_relocs}
-use Rattle.obj_items.specs.InitialData.{reloc_by, reloc_of, relocs_of, section_relocs}
-use Rattle.obj_items.specs.Values.{section_value, value_of}
+use Rattle.obj_items.proofs.Prelude.{DATA_START, joined, Relocation, Sort, Definition, Zero, Absolute, Within, Common, Missing, RelocKind, Nothing, Mark, BranchTarget, JalTarget, PairTarget, RelativeHigh, TableHigh, RelativeLowI, RelativeLowS, High, LowI, LowS, InData, Unknown, kind_of, InputParts, is_data_sort, is_zeros_sort, no_section, section_count, section_of, block_address, blocks_reach, init_end, reach, section_address, zeros_end, DataReloc, Item, place_of, bare, bare_section, listed_relocs, reloc_by, reloc_of, relocs_of, section_relocs, section_value, value_of}
 use Rattle.obj_items.proofs.Linking.{value_same}
 
 module _ (input : InputParts) where

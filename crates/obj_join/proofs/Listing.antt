@@ -12,6 +12,10 @@ pub listed_more : {A : Type 0} (given : ℕ → A) (n : ℕ) → listed given (n
 unfolding listed
 listed_more given n = rw add-one refl
 
+pub listed_next : {A : Type 0} (given : ℕ → A) (n : ℕ) (so_far next : List A) (x : A) → so_far ≡ listed given n → x ≡ given n
+    → next ≡ so_far ++ x ∷ [] → next ≡ listed given (n + 1)
+listed_next given n so_far next x here is e = rw (listed_more given n, ← here, ← is) e
+
 pub length-listed : {A : Type 0} (given : ℕ → A) (n : ℕ) → length (listed given n) ≡ n
 unfolding listed
 length-listed given zero = refl

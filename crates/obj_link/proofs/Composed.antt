@@ -1,14 +1,7 @@
 -- An input by its parts.
 use Rattle.std.proofs.Common.{◌≡◌, ℕ, zero, suc, ◌+◌, ◌<◌, ◌≤◌, ◌^◌, Bool, List, ◌++◌, length, map, ap, ◌∙◌, arith, length-append}
 use Rattle.std.proofs.lemmas.List.{length-map}
-use Rattle.least.specs.Nearest.{joined}
-use Rattle.obj_input.specs.declared.parts.Block.{Block}
-use Rattle.obj_input.specs.declared.parts.Func.{Func}
-use Rattle.obj_input.specs.Input.{Named, SectionParts}
-use Rattle.obj_join.specs.Said.{Said, SymbolSaid}
-use Rattle.obj_join.specs.Blocks.{block_of, blocks_below}
-use Rattle.obj_join.specs.Table.{slots, table_of}
-use Rattle.obj_join.specs.SaidInput.{func_of, input_by, names_by, section_of}
+use Rattle.obj_link.proofs.Prelude.{joined, Block, Func, Named, SectionParts, Said, SymbolSaid, block_of, blocks_below, slots, table_of, func_of, input_by, names_by, section_of}
 
 pub composed : (resolve : ℕ → ℕ) (found : ℕ → Bool) (said : Said) (symbols : List SymbolSaid) (sections : List SectionParts) (blocks : List Block)
     (names : List Named) (funcs : List Func)

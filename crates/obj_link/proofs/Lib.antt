@@ -1,6 +1,7 @@
+pub mod Prelude
 pub mod Together
 mod Slotted
 pub mod Whole
 mod Sectioned
 mod Composed
-mod Named
+pub mod Named

@@ -3,19 +3,10 @@ use Rattle.std.proofs.Common.{◌≡◌, ℕ, zero, suc, ◌+◌, ◌<◌, ◌==
 use Rattle.std.proofs.lemmas.Bool.{cases_Bool, eqb-false}
 use Rattle.std.proofs.lemmas.List.{drop_all, map-append}
 use Rattle.rv_word.proofs.Cases.{cases_Option}
-use Rattle.elf_names.specs.Marks.{spelled}
-use Rattle.elf_names.specs.Numbers.{AreNumbers}
+use Rattle.obj_link.proofs.Prelude.{spelled, AreNumbers, symbol_count, symbol_name, symbol_names, fault_of, listed, Said, SymbolSaid, symbol_behind, names_of, start_in, said_by, said_of, symbol_said_in, symbols_said}
 use Rattle.elf_names.proofs.Spelled.{spelled_string}
-use Rattle.elf_tables.specs.Symbol.{symbol_count, symbol_name, symbol_names}
-use Rattle.elf_object.specs.Fault.{fault_of}
 use Rattle.elf_object.proofs.Right.{symbols_right}
-use Rattle.obj_input.specs.Listed.{listed}
-use Rattle.obj_join.specs.Said.{Said, SymbolSaid, symbol_behind}
-use Rattle.obj_join.specs.Symbols.{names_of}
 use Rattle.obj_join.proofs.Listing.{listed_same}
-use Rattle.obj_link.specs.Names.{start_in}
-use Rattle.obj_link.specs.SaidOf.{said_by, said_of}
-use Rattle.obj_link.specs.Symbols.{symbol_said_in, symbols_said}
 use Rattle.obj_link.proofs.Together.{next_said, said_none}
 
 pub map_listed : {A B : Type 0} (f : A → B) (given : ℕ → A) (n : ℕ) → map f (listed given n) ≡ listed (λ k. f (given k)) n

@@ -2,12 +2,8 @@
 use Rattle.std.proofs.Common.{◌≡◌, ℕ, ◌+◌, ◌<◌, List, [], ◌∷◌, ◌++◌, get_or, length, map, take, refl, sym, ap, ◌∙◌, append_assoc, append-nil}
 use Rattle.std.proofs.lemmas.List.{map-append}
 use Rattle.std.specs.List.{sum_by}
-use Rattle.elf_tables.specs.Symbol.{symbol_count}
-use Rattle.obj_input.specs.Listed.{listed}
-use Rattle.obj_join.specs.Said.{Said, SectionSaid, section_behind}
+use Rattle.obj_link.proofs.Prelude.{symbol_count, listed, Said, SectionSaid, section_behind, sections_said, said_by, said_of}
 use Rattle.obj_join.proofs.Listing.{listed_more, listed_none}
-use Rattle.obj_link.specs.Sections.{sections_said}
-use Rattle.obj_link.specs.SaidOf.{said_by, said_of}
 use Rattle.obj_link.proofs.Together.{counted_symbols, next_said, said_none}
 
 pub no_sections : {C : Type 0} (f : SectionSaid → C) → [] ≡ map f (said_by []).sections

@@ -6,14 +6,8 @@ use Rattle.std.proofs.lemmas.List.{map-append}
 use Rattle.std.proofs.lemmas.List.Elements.{filter-append}
 use Rattle.std.proofs.lemmas.List.Sums.{fold-append}
 use Rattle.std.proofs.lemmas.Grind.{flat_map-append}
-use Rattle.elf_tables.specs.Symbol.{symbol_count}
-use Rattle.obj_input.specs.Listed.{listed}
-use Rattle.obj_join.specs.Said.{Said, SectionSaid, UseSaid, section_behind}
-use Rattle.obj_join.specs.Table.{is_table_use, table_symbols_of, with_symbol}
-use Rattle.obj_join.specs.Uses.{table_use, table_uses}
+use Rattle.obj_link.proofs.Prelude.{symbol_count, listed, Said, SectionSaid, UseSaid, section_behind, is_table_use, table_symbols_of, with_symbol, table_use, table_uses, sections_said, said_by, said_of}
 use Rattle.obj_join.proofs.Listing.{listed_more, listed_none}
-use Rattle.obj_link.specs.Sections.{sections_said}
-use Rattle.obj_link.specs.SaidOf.{said_by, said_of}
 use Rattle.obj_link.proofs.Together.{counted_symbols, next_said, said_none}
 
 split : (resolve : ℕ → ℕ) (us vs : List UseSaid) → table_uses resolve (us ++ vs) ≡ table_uses resolve us ++ table_uses resolve vs

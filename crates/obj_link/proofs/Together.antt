@@ -4,15 +4,9 @@ use Rattle.std.specs.Prelude.{fold}
 use Rattle.std.specs.List.{sum_by}
 use Rattle.std.proofs.lemmas.List.{length-map, map-append, take_more}
 use Rattle.std.proofs.lemmas.List.Sums.{fold-append, sum_by-append}
-use Rattle.elf_tables.specs.Header.{e_shnum}
-use Rattle.elf_tables.specs.Symbol.{symbol_count}
-use Rattle.obj_input.specs.Listed.{listed}
-use Rattle.obj_join.specs.Said.{Said, SymbolSaid, nothing_said, said_together, section_behind, symbol_behind, with_object}
+use Rattle.obj_link.proofs.Prelude.{e_shnum, symbol_count, listed, Said, SymbolSaid, nothing_said, said_together, section_behind, symbol_behind, with_object, section_said_in, symbol_said_in, symbols_said, said_by, said_of}
 use Rattle.obj_join.proofs.Listing.{length-listed, listed_more, listed_none}
 use Rattle.obj_join.proofs.OneObject.{one_said}
-use Rattle.obj_link.specs.Sections.{section_said_in}
-use Rattle.obj_link.specs.Symbols.{symbol_said_in, symbols_said}
-use Rattle.obj_link.specs.SaidOf.{said_by, said_of}
 
 pub said_none : said_by [] ≡ nothing_said
 unfolding said_by said_together

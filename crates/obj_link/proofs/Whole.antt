@@ -2,20 +2,9 @@
 use Rattle.std.proofs.Common.{◌≡◌, ◌⊎◌, ℕ, ◌<◌, ◌≤◌, ◌^◌, nat_le, ◌==◌, ◌&&◌, ◌||◌, not, true, false, List, [], ◌∷◌, None, arith, length, inl, inr, refl, ap, sym, subst, ◌∙◌}
 use Rattle.std.specs.List.{sum_by}
 use Rattle.std.proofs.lemmas.Bool.{cases_Bool, eqb-true, leb-false, or_parts}
-use Rattle.elf_tables.specs.declared.header.SectionHeader.{SectionHeader}
-use Rattle.elf_tables.specs.declared.entry.Reloc.{Reloc}
-use Rattle.elf_tables.specs.Header.{e_shentsize, e_shnum, e_shoff, e_shstrndx}
-use Rattle.elf_tables.specs.Section.{content, is_in_file, section_header}
-use Rattle.elf_tables.specs.Kept.{is_executable, is_kept}
-use Rattle.elf_tables.specs.Symbol.{symbol_count}
-use Rattle.elf_tables.specs.Relocation.{relocation_bytes, relocation_count, relocation_in}
-use Rattle.elf_object.specs.Fault.{fault_of}
-use Rattle.elf_object.specs.Laws.{IsRightKept}
-use Rattle.elf_object.specs.Table.{has_wrong_header, is_string_table}
+use Rattle.obj_link.proofs.Prelude.{SectionHeader, Reloc, e_shentsize, e_shnum, e_shoff, e_shstrndx, content, is_in_file, section_header, is_executable, is_kept, symbol_count, relocation_bytes, relocation_count, relocation_in, fault_of, IsRightKept, has_wrong_header, is_string_table, has_bytes, kept_sort, sort_of}
 use Rattle.elf_object.proofs.Sound.{sound}
 use Rattle.elf_object.proofs.Right.{kept_right, relocations_named, sections_whole, not_zeros}
-use Rattle.obj_input.specs.Input.{has_bytes}
-use Rattle.obj_link.specs.Sections.{kept_sort, sort_of}
 
 program : (h : SectionHeader) → h.kind ≡ 1 → is_in_file h ≡ true
 program h e = rw e refl

@@ -6,22 +6,7 @@ use Rattle.std.specs.List.Sorted.{IsStrictlyIncreasing}
 use Rattle.std.proofs.Math.Seq.{get_or-append_seam}
 use Rattle.std.proofs.lemmas.Bool.{and_parts, cases_lt, ltb-true}
 use Rattle.std.proofs.lemmas.List.{get_or_append_left}
-use Rattle.rv_word.specs.Memory.{placed, zeros}
-use Rattle.rv_image.specs.Form.{profile_for}
-use Rattle.rv_image.specs.MemoryMap.{CODE_SIZE, CODE_START, DATA_START}
-use Rattle.rv_image.specs.declared.form.Form.{Form}
-use Rattle.rv_instr.specs.Registers.{cleared, set_reg}
-use Rattle.cfi_map_text.specs.declared.map.MapLine.{MapLine}
-use Rattle.cfi_map_text.specs.Map.{IsMap, MapParts, is_gate, map_line_in_range}
-use Rattle.rv_code.specs.Decode.{decoded}
-use Rattle.obj_program.specs.DataAtMap.{data_at}
-use Rattle.obj_program.specs.Program.{Program, count, is_end, item_of}
-use Rattle.cfi_closed.specs.Closed.{ClosedGraph}
-use Rattle.cfi_leads.specs.Entered.{entered_at}
-use Rattle.cfi_map.specs.LegalMap.{IsLegalMap, gates_of}
-use Rattle.cfi_map.specs.Source.{Source, init_here, instr_here, source_start}
-use Rattle.src_machine.specs.Placed.{AreRead}
-use Rattle.cfi_map.specs.GraphAtMap.{ProgramAtMap}
+use Rattle.src_machine.proofs.Prelude.{placed, zeros, profile_for, CODE_SIZE, CODE_START, DATA_START, Form, cleared, set_reg, MapLine, IsMap, MapParts, is_gate, map_line_in_range, decoded, data_at, Program, count, is_end, item_of, ClosedGraph, entered_at, IsLegalMap, gates_of, Source, init_here, instr_here, source_start, AreRead, ProgramAtMap}
 use Rattle.cfi_map.proofs.PartSizes.{gates_rise}
 use Rattle.cfi_map.proofs.Placing.{as_many_gates}
 

@@ -3,29 +3,9 @@ use Rattle.std.proofs.Common.{◌≡◌, ℕ, ◌+◌, ◌-◌, ◌<◌, nat_lt,
 use Rattle.std.specs.Prelude.{◌&&◌, not, if◌then◌else◌, option_and_then, slice_get, unwrap_or, Result, Ok, Err, IfOk, OnErr}
 use Rattle.std.proofs.lemmas.Bool.{and_parts, cases_Bool, cases_eq, ltb-true}
 use Rattle.std.proofs.lemmas.List.Elements.{All-cons, All-head, All-tail}
-use Rattle.rv_word.specs.declared.no_memory.NoMemory.{NoMemory}
-use Rattle.rv_instr.specs.declared.instr.Instr.{Instr}
-use Rattle.rv_instr.specs.declared.instr.Instr.TheVariants.{Branch}
-use Rattle.rv_code.specs.Arithmetic.{branch_taken}
-use Rattle.rv_code.specs.State.{last_exit}
-use Rattle.rv_code.specs.declared.turn.Turn.{Turn}
-use Rattle.rv_code.specs.declared.turn.Turn.TheVariants.{Ran}
-use Rattle.rv_instr.specs.Registers.{Registers, get_reg}
-use Rattle.obj_input.specs.declared.item_kind.ItemKind.{ItemKind}
+use Rattle.src_machine.proofs.Prelude.{NoMemory, Instr, Branch, branch_taken, last_exit, Turn, Ran, Registers, get_reg, ItemKind, EndsLast, Program, count, is_end, item_of, IsSound, aims, is_direct, ProgramAtMap, Reason, SourceTurn, Exit, Source, instr_here, SourceAfter, acts, branches, closes, exits, if_taken, place_after, returns_from, source_step, step_at, step_item, unless, unless_ended, IsInside, IsThere, Leaves, StateParts, source_in, computed, computed_place, if_reached, is_off_graph, is_off_window, is_too_deep, is_unlisted, is_wrong_return, place_with_gate, reason, return_address, class_reaches}
 use Rattle.obj_input.specs.declared.item_kind.ItemKind.TheVariants as is
-use Rattle.obj_program.specs.MapFit.{EndsLast}
-use Rattle.obj_program.specs.Program.{Program, count, is_end, item_of}
-use Rattle.obj_program.specs.Sound.{IsSound, aims, is_direct}
-use Rattle.cfi_map.specs.GraphAtMap.{ProgramAtMap}
-use Rattle.cfi_map.specs.declared.reason.Reason.{Reason}
 use Rattle.cfi_map.specs.declared.reason.Reason.TheVariants as why
-use Rattle.src_machine.specs.declared.turn.SourceTurn.{SourceTurn}
-use Rattle.src_machine.specs.declared.turn.SourceTurn.TheVariants.{Exit}
-use Rattle.cfi_map.specs.Source.{Source, instr_here}
-use Rattle.cfi_map.specs.SourceStep.{SourceAfter, acts, branches, closes, exits, if_taken, place_after, returns_from, source_step, step_at, step_item, unless, unless_ended}
-use Rattle.src_machine.specs.State.{IsInside, IsThere, Leaves, StateParts, source_in}
-use Rattle.cfi_map.specs.Untame.{computed, computed_place, if_reached, is_off_graph, is_off_window, is_too_deep, is_unlisted, is_wrong_return, place_with_gate, reason, return_address}
-use Rattle.cfi_closed.specs.Closed.{class_reaches}
 use Rattle.cfi_map.proofs.ByGate.{place_below}
 
 -- behind an instruction another place follows

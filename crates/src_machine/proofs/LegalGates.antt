@@ -6,18 +6,8 @@ use Rattle.std.specs.List.{range_with_len}
 use Rattle.std.proofs.lemmas.Bool.{and_from, and_parts, cases_Bool, eqb-true, eq-eqb, false_from_ne_true, not-true, not_from_false, or_cases, or_left, or_right}
 use Rattle.std.proofs.lemmas.List.{get_or_past}
 use Rattle.std.proofs.lemmas.List.FromFn.{get_or-map-range_with_len, length-map-range_with_len}
-use Rattle.obj_input.specs.declared.item_kind.ItemKind.{ItemKind}
+use Rattle.src_machine.proofs.Prelude.{ItemKind, Item, no_item, GraphVersion, OneLabel, TwoLabels, CalleeSaves, Entered, lead_size, in_leaf, is_short, is_store, joins_in, AreGates, is_ecall, kind_size, lean_size, size_by, size_of, whole_at, follows, is_past_whole, may_be_short}
 use Rattle.obj_input.specs.declared.item_kind.ItemKind.TheVariants as is
-use Rattle.obj_program.specs.declared.item.Item.{Item}
-use Rattle.obj_program.specs.Program.{no_item}
-use Rattle.rv_image.specs.declared.version.GraphVersion.{GraphVersion}
-use Rattle.rv_image.specs.declared.version.GraphVersion.TheVariants.{OneLabel, TwoLabels, CalleeSaves}
-use Rattle.cfi_leads.specs.Entered.{Entered}
-use Rattle.cfi_leads.specs.Leads.{lead_size}
-use Rattle.cfi_leads.specs.Leaves.{in_leaf}
-use Rattle.cfi_map.specs.Groups.{is_short, is_store, joins_in}
-use Rattle.cfi_map.specs.Placement.{AreGates, is_ecall, kind_size, lean_size, size_by, size_of, whole_at}
-use Rattle.src_machine.specs.MapLine.{follows, is_past_whole, may_be_short}
 
 -- the kind of a place
 abbrev pub kind_in : List Item → ℕ → ItemKind

@@ -3,23 +3,9 @@ use Rattle.std.proofs.Common.{◌≡◌, ◌==◌, ℕ, zero, suc, ◌+◌, ◌-
 use Rattle.std.specs.Prelude.{◌&&◌, not, slice_index}
 use Rattle.std.proofs.lemmas.Bool.{and_from, and_parts, cases_lt, eqb-true, eq-eqb, false_from_ne_true, lt-ltb, ltb-true, le-ltb, lt-leb, ltb-false, not-false, not-true}
 use Rattle.std.proofs.lemmas.List.{ext_get_or, get_or-map, get_or-take, length-map, length-take, length-take-le, take_all}
-use Rattle.least.specs.First.{first_below}
+use Rattle.src_machine.proofs.Prelude.{first_below, profile_for, Form, MapParts, MapLine, Item, Program, count, item_of, no_item, ClosedGraph, Entered, entered_at, lead_size, AreGroups, Bounds, bounds_in, is_store, joins_in, AreLegal, IsLegalMap, gates_of, AreGates, size_of, whole_at, BeginsLegal, IsWrongLine, follows, follows_at, has_whole, is_named, is_past_whole, is_right, is_wrong, line_at, no_line, stands, stores_before}
 use Rattle.least.proofs.Firsts.{first_none, found_parts}
-use Rattle.rv_image.specs.Form.{profile_for}
-use Rattle.rv_image.specs.declared.form.Form.{Form}
-use Rattle.cfi_map_text.specs.Map.{MapParts}
-use Rattle.cfi_map_text.specs.declared.map.MapLine.{MapLine}
-use Rattle.obj_program.specs.declared.item.Item.{Item}
-use Rattle.obj_program.specs.Program.{Program, count, item_of, no_item}
-use Rattle.cfi_closed.specs.Closed.{ClosedGraph}
-use Rattle.cfi_leads.specs.Entered.{Entered, entered_at}
-use Rattle.cfi_leads.specs.Leads.{lead_size}
-use Rattle.cfi_map.specs.Groups.{AreGroups, Bounds, bounds_in, is_store, joins_in}
-use Rattle.cfi_map.specs.LegalMap.{AreLegal, IsLegalMap, gates_of}
-use Rattle.cfi_map.specs.Placement.{AreGates, size_of, whole_at}
-use Rattle.cfi_map.specs.MapFault.{BeginsLegal, IsWrongLine}
 use Rattle.cfi_map.proofs.GroupFacts.{later_if, later_parts}
-use Rattle.src_machine.specs.MapLine.{follows, follows_at, has_whole, is_named, is_past_whole, is_right, is_wrong, line_at, no_line, stands, stores_before}
 use Rattle.cfi_map.proofs.GroupsAgree.{join_moved}
 use Rattle.src_machine.proofs.LegalGates.{are_gates, first_gate, flag_here, flag_past, flags_to, follows_by, joined_by, kind_in, led_by, next_gate, whole_by}
 

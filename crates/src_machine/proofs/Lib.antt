@@ -1,3 +1,4 @@
+pub mod Prelude
 mod Inside
 mod LegalGates
 mod LegalLines

@@ -2,16 +2,9 @@
 use Rattle.std.proofs.Common.{◌≡◌, ℕ, suc, ◌-◌, ◌<◌, ◌≤◌, nat_lt, Bool, false, List, length, None, sym, ap, ◌∙◌, arith}
 use Rattle.std.specs.Prelude.{◌&&◌, not}
 use Rattle.std.proofs.lemmas.Bool.{and_parts, lt-ltb, ltb-true, not-false}
-use Rattle.least.specs.First.{first_below}
+use Rattle.src_machine.proofs.Prelude.{first_below, Form, MapLine, Item, count, item_of, Entered, members_after, members_before, has_whole, is_right, is_wrong, stores_before}
 use Rattle.least.proofs.Firsts.{first_none}
-use Rattle.rv_image.specs.declared.form.Form.{Form}
-use Rattle.cfi_map_text.specs.declared.map.MapLine.{MapLine}
-use Rattle.obj_program.specs.declared.item.Item.{Item}
-use Rattle.obj_program.specs.Program.{count, item_of}
-use Rattle.cfi_leads.specs.Entered.{Entered}
-use Rattle.cfi_map.specs.Groups.{members_after, members_before}
 use Rattle.cfi_map.proofs.Greedy.{before_most, members_step}
-use Rattle.src_machine.specs.MapLine.{has_whole, is_right, is_wrong, stores_before}
 
 none_first : (items : ℕ → Item) (whole : ℕ → Bool) (k : ℕ) → k ≡ 0 → 0 ≡ members_before items whole k
 unfolding members_before

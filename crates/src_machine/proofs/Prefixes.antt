@@ -2,22 +2,9 @@
 use Rattle.std.proofs.Common.{◌≡◌, ℕ, zero, suc, ◌+◌, ◌<◌, ◌≤◌, Bool, true, false, List, [], ◌∷◌, length, map, take, get_or, inl, inr, refl, sym, ap, subst, ◌∙◌, arith}
 use Rattle.std.proofs.lemmas.Bool.{cases_eq, cases_lt}
 use Rattle.std.proofs.lemmas.List.{get_or-take, get_or_past, length-take, take-map}
-use Rattle.rv_image.specs.Form.{profile_for}
-use Rattle.rv_image.specs.declared.form.Form.{Form}
-use Rattle.cfi_map_text.specs.Map.{MapParts}
-use Rattle.cfi_map_text.specs.declared.map.MapLine.{MapLine}
-use Rattle.obj_program.specs.declared.item.Item.{Item}
-use Rattle.obj_program.specs.Program.{Program, item_of, no_item}
-use Rattle.cfi_closed.specs.Closed.{ClosedGraph}
-use Rattle.cfi_leads.specs.Entered.{Entered, entered_at}
-use Rattle.cfi_leads.specs.Leads.{lead_size}
-use Rattle.cfi_map.specs.Groups.{AreGroups, Bounds, bounds_in}
-use Rattle.cfi_map.specs.LegalMap.{AreLegal, IsLegalMap, gates_of}
-use Rattle.cfi_map.specs.MapFault.{BeginsLegal, IsWrongLine}
-use Rattle.cfi_map.specs.Placement.{AreGates, whole_at, size_of}
+use Rattle.src_machine.proofs.Prelude.{profile_for, Form, MapParts, MapLine, Item, Program, item_of, no_item, ClosedGraph, Entered, entered_at, lead_size, AreGroups, Bounds, bounds_in, AreLegal, IsLegalMap, gates_of, BeginsLegal, IsWrongLine, AreGates, whole_at, size_of, BeginsAsLegal, OneIsFirst, WrongIsNotLegal}
 use Rattle.cfi_map.proofs.GroupFacts.{later_parts}
 use Rattle.cfi_map.proofs.GroupsAgree.{groups_alike, store_below}
-use Rattle.src_machine.specs.Laws.{BeginsAsLegal, OneIsFirst, WrongIsNotLegal}
 
 first_gates : (of : Entered) (whole : List Bool) (k at : ℕ) (items : List Item) (gates : List ℕ) (n : ℕ)
     → AreGates of whole k at items gates → AreGates of whole k at (take n items) (take n gates)

@@ -1,14 +1,7 @@
 -- Each command is complete: where its files are delivered, an outcome that is explained is determined by them.
 use Rattle.std.proofs.Common.{◌≡◌, ℕ, List, [], ◌∷◌, ◌++◌, Option, Some, map, refl, ap, subst}
-use Rattle.cfi_harden.specs.Given.{Given, alone, joined}
-use Rattle.tool_common.specs.Held.{AreHeld, IsHeldNamed}
-use Rattle.tool_common.specs.Reads.{Content, GaveAll}
-use Rattle.tool_common.specs.Words.{text_named}
+use Rattle.tool_objects.proofs.Prelude.{Given, alone, joined, AreHeld, IsHeldNamed, Content, GaveAll, text_named, CompareWords, ExplainsCompare, IsCompareOf, asked_at, compare_status, CompareIsComplete, RewriteIsComplete, Objects, one, several, GaveObjects, HoldObjects, names_with, ExplainsRewrite, IsRewriteOf, RewriteWords, rewrite_status}
 use Rattle.tool_common.proofs.Held.{same_bytes, same_named}
-use Rattle.tool_objects.specs.Compare.{CompareWords, ExplainsCompare, IsCompareOf, asked_at, compare_status}
-use Rattle.tool_objects.specs.Complete.{CompareIsComplete, RewriteIsComplete}
-use Rattle.tool_objects.specs.Objects.{Objects, one, several, GaveObjects, HoldObjects, names_with}
-use Rattle.tool_objects.specs.Rewrite.{ExplainsRewrite, IsRewriteOf, RewriteWords, rewrite_status}
 use Rattle.tool_objects.specs.declared.compare.CompareOutcome as C
 use Rattle.tool_objects.specs.declared.compare.CompareOutcome.TheVariants as compares
 use Rattle.tool_objects.specs.declared.rewrite.RewriteOutcome as W

@@ -1,40 +1,9 @@
 -- What a demonstration needs of a hardened program: its program runs at its map, and no run of that differs from the image's.
 use Rattle.std.proofs.Common.{◌≡◌, ◌∙◌, ℕ, List, [], length, None, ap, ap₂, refl, replicate, subst, sym}
-use Rattle.rv_image.specs.declared.version.ImageVersion.{ImageVersion}
-use Rattle.rv_image.specs.Form.{graph_version, image_version}
-use Rattle.rv_image.specs.declared.form.Form.{Form}
-use Rattle.elf_image.specs.Spelling.{spelling}
-use Rattle.rv_image.specs.Image.{Contents, IsImageSize, image_profile}
-use Rattle.rv_image.specs.MemoryMap.{Profile, profile_of}
-use Rattle.rv_code.specs.SameMachine.{IsSameMachine}
-use Rattle.rv_code.specs.State.{After, start_hart, start_shared}
+use Rattle.tool_objects.proofs.Prelude.{ImageVersion, graph_version, image_version, Form, spelling, Contents, IsImageSize, image_profile, Profile, profile_of, IsSameMachine, After, start_hart, start_shared, MapParts, ProgramAtMap, program_at, IsLegalMap, gates_of, IsPlacementOf, Spaced, first_astray, source_start, Program, GraphParts, IsWellFormed, pair_profile, HardenedParts, IsWrittenOf, IsPrepared, IsPreparedOf, PreparedParts, Refuses, ProgramRequest, Request, Refusal, most_steps, NeverDiffersOf, NoRunDiffers, SourceParts, DemoIsNeverRefused, entered, told_answer, Compared, at_map, IsComparedAt, STEP_LIMIT, CanRunAt, IsAnswerAt, IsDifference, IsDrawn, IsImageIn, IsSourceOn, NoneDiffers}
 use Rattle.rv_code.proofs.FormMachine.{form_machine}
 use Rattle.rv_code.proofs.SameSteps.{run_alone_same}
-use Rattle.cfi_map_text.specs.Map.{MapParts}
-use Rattle.cfi_map.specs.GraphAtMap.{ProgramAtMap, program_at}
-use Rattle.cfi_map.specs.LegalMap.{IsLegalMap, gates_of}
-use Rattle.cfi_map.specs.Placing.{IsPlacementOf, Spaced}
-use Rattle.cfi_map.specs.Source.{first_astray, source_start}
-use Rattle.obj_program.specs.Program.{Program}
-use Rattle.cfi_graph.specs.Graph.{GraphParts}
-use Rattle.cfi_rules.specs.Rules.{IsWellFormed, pair_profile}
-use Rattle.cfi_writer.specs.Hardened.{HardenedParts}
-use Rattle.cfi_harden.specs.Hardened.{IsWrittenOf}
-use Rattle.cfi_harden.specs.Prepared.{IsPrepared, IsPreparedOf, PreparedParts}
-use Rattle.cfi_harden.specs.Refused.{Refuses}
-use Rattle.cfi_harden.specs.Request.{ProgramRequest, Request}
-use Rattle.refusals.specs.declared.refusal.Refusal.{Refusal}
-use Rattle.cfi_meaning.specs.Bounds.{most_steps}
 use Rattle.cfi_meaning.specs.Compared as runs
-use Rattle.cfi_meaning.specs.Hardened.{NeverDiffersOf}
-use Rattle.cfi_meaning.specs.NeverDiffers.{NoRunDiffers}
-use Rattle.src_machine.specs.Running.{SourceParts}
-use Rattle.gen_hardened.specs.Laws.{DemoIsNeverRefused, entered}
-use Rattle.cfi_compare.specs.Told.{told_answer}
-use Rattle.cfi_compare.specs.declared.answer.Compared.{Compared}
-use Rattle.tool_objects.specs.Compare.{at_map}
-use Rattle.tool_objects.specs.Demo.{IsComparedAt, STEP_LIMIT}
-use Rattle.tool_objects.specs.Demonstration.{CanRunAt, IsAnswerAt, IsDifference, IsDrawn, IsImageIn, IsSourceOn, NoneDiffers}
 use Rattle.tool_objects.proofs.FormProfile.{pair_formed}
 
 module _ (request : ProgramRequest) (p : PreparedParts) (prepared : IsPreparedOf request p) (h : HardenedParts) (hardened : IsWrittenOf p h) where

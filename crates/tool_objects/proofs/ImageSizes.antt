@@ -1,12 +1,8 @@
 -- The sizes of an image by its length and by that of its code, which its graph tells.
 use Rattle.std.proofs.Common.{◌≡◌, ◌∙◌, ◌+◌, ◌-◌, ◌≤◌, ◌^◌, ℕ, List, length, ap, sym, subst, arith}
 use Rattle.std.specs.Prelude.{count_by}
-use Rattle.elf_image.specs.Header.{data_start}
+use Rattle.tool_objects.proofs.Prelude.{data_start, GraphParts, is_class, is_site, HasSizes, IsSpelledWith, Sizes}
 use Rattle.elf_image.proofs.Only.{read_as}
-use Rattle.cfi_graph.specs.Graph.{GraphParts, is_class, is_site}
-use Rattle.tool_objects.specs.Rewrite.{HasSizes}
-use Rattle.tool_objects.specs.Spelled.{IsSpelledWith}
-use Rattle.tool_objects.specs.declared.rewrite.Sizes.{Sizes}
 
 module _ (bytes : List ℕ) (graph : GraphParts) (is : IsSpelledWith bytes graph) where
   whole : length bytes ≡ data_start graph.code + length is.2

@@ -1,3 +1,4 @@
+pub mod Prelude
 mod FormProfile
 mod Giving
 pub mod Writing

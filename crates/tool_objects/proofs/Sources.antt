@@ -1,46 +1,12 @@
 -- A program at the map that a text spells, and what comes of it and of a file that should be an image.
 use Rattle.std.proofs.Common.{◌≡◌, ◌+◌, ◌≤◌, ℕ, List, MatchResult, Option, Some, None, Result, Ok, Err, inl, inr, sym, ap, subst, ◌∙◌, arith}
-use Rattle.rv_image.specs.Form.{graph_version}
-use Rattle.rv_image.specs.Image.{image_profile}
+use Rattle.tool_objects.proofs.Prelude.{graph_version, image_profile, DATA_END, DATA_START, End, Fault, NoMemory, Form, Reason, line_fault, init_size, Program, fault_of, MapParts, map_of, ProgramAtMap, IsWrongLine, source_start, Given, HasDataRoom, IsPrepared, PreparedParts, Reads, IsEarly, PreparesProgram, Refuses, Request, Text, Place, Refusal, instruction_at, Ends, IsBegun, SourceFault, WrongIsNotLegal, SourceParts, source_of, compared, told_answer, CompareOutcome, IsCompareOf, IsCompareRefused, IsComparison, IsMapOf, IsRoomy, IsRunnable, asked_at, at_map, first_out, map_form, IsAfterImage, IsImageCompared, IsResult, IsRoomyEnd, IsSourceOn}
 use Rattle.rv_word.proofs.Cases.{cases_Option}
-use Rattle.rv_image.specs.MemoryMap.{DATA_END, DATA_START}
-use Rattle.rv_word.specs.declared.end.End.{End}
-use Rattle.rv_word.specs.declared.end.End.TheVariants.{Fault, NoMemory}
-use Rattle.rv_image.specs.declared.form.Form.{Form}
-use Rattle.text_lines.specs.declared.reason.Reason.{Reason}
-use Rattle.text_lines.specs.Answers.{line_fault}
-use Rattle.obj_program.specs.DataAtMap.{init_size}
-use Rattle.obj_program.specs.Program.{Program}
-use Rattle.elf_image.specs.Fault.{fault_of}
-use Rattle.cfi_map_text.specs.Map.{MapParts}
-use Rattle.cfi_map_text.specs.MapText.{map_of}
-use Rattle.cfi_map.specs.GraphAtMap.{ProgramAtMap}
-use Rattle.cfi_map.specs.MapFault.{IsWrongLine}
-use Rattle.cfi_map.specs.Source.{source_start}
-use Rattle.cfi_harden.specs.Given.{Given}
-use Rattle.cfi_harden.specs.Room.{HasDataRoom}
-use Rattle.cfi_harden.specs.Prepared.{IsPrepared, PreparedParts}
-use Rattle.cfi_harden.specs.Preparing.{Reads}
-use Rattle.cfi_harden.specs.Refused.{IsEarly, PreparesProgram, Refuses}
-use Rattle.cfi_harden.specs.Request.{Request}
 use Rattle.cfi_harden.proofs.Giving.{given_early}
 use Rattle.cfi_harden.proofs.Preparing.{prepared_given, refused_given}
-use Rattle.refusals.specs.declared.map_reason.MapReason.TheVariants.{Text, Place}
-use Rattle.refusals.specs.declared.refusal.Refusal.{Refusal}
 use Rattle.refusals.specs.declared.refusal.Refusal.TheVariants as refused
-use Rattle.cfi_flow.specs.Policy.{instruction_at}
-use Rattle.src_machine.specs.Beginning.{Ends, IsBegun}
-use Rattle.src_machine.specs.declared.source_fault.SourceFault.{SourceFault}
-use Rattle.src_machine.specs.Laws.{WrongIsNotLegal}
-use Rattle.src_machine.specs.Running.{SourceParts, source_of}
-use Rattle.cfi_meaning.specs.Compared.{compared}
-use Rattle.cfi_compare.specs.Told.{told_answer}
 use Rattle.cfi_compare.specs.declared.answer.Compared as A
-use Rattle.tool_objects.specs.declared.compare.CompareOutcome.{CompareOutcome}
 use Rattle.tool_objects.specs.declared.compare.CompareOutcome.TheVariants as outcome
-use Rattle.tool_objects.specs.Compare.{IsCompareOf, IsCompareRefused, IsComparison, IsMapOf, IsRoomy, IsRunnable, asked_at, at_map, first_out, map_form}
-use Rattle.tool_objects.specs.Comparing.{IsAfterImage, IsImageCompared, IsResult, IsRoomyEnd}
-use Rattle.tool_objects.specs.Demonstration.{IsSourceOn}
 
 -- a request in the form of a map that a text spells is one at that text
 pub asked_form : (form : Form) (given : Given) (entry : List ℕ) (policy : Option (List ℕ)) (text : List ℕ) → form ≡ map_form text

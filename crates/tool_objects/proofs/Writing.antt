@@ -1,9 +1,7 @@
 -- Files that are written one after the other.
 use Rattle.std.proofs.Common.{◌≢◌, ◌∙◌, ℕ, List, [], ◌∷◌, ◌++◌, Option, Some, None, refl, sym, subst}
 use Rattle.std.specs.Prelude.{⊤}
-use Rattle.tool_io.specs.Contents.{Becomes}
-use Rattle.tool_io.specs.declared.files.Files.{Ghosts}
-use Rattle.tool_common.specs.Writes.{AreApart, AreWhole, IsCut, IsOther, IsTold, IsTorn, OutputParts, Wrote}
+use Rattle.tool_objects.proofs.Prelude.{Becomes, Ghosts, AreApart, AreWhole, IsCut, IsOther, IsTold, IsTorn, OutputParts, Wrote}
 
 other_both : (done more : List OutputParts) (name : List ℕ) → IsOther (done ++ more) name → IsOther done name × IsOther more name
 other_both [] more name other = (tt, other)

@@ -1,16 +1,8 @@
 -- What `rewrite` and `harden` write is read back.
 use Rattle.std.proofs.Common.{◌∙◌, ap, refl, subst}
-use Rattle.rv_image.specs.Form.{image_version}
-use Rattle.cfi_graph.specs.Graph.{GraphParts}
-use Rattle.cfi_map_text.specs.MapText.{map_of}
+use Rattle.tool_objects.proofs.Prelude.{image_version, GraphParts, map_of, ProgramAtMap, IsLegalMap, program_request, OutputParts, form_told, WrittenIsRead}
 use Rattle.cfi_map_text.proofs.MapLaws.{map_of-map_text}
-use Rattle.cfi_map.specs.GraphAtMap.{ProgramAtMap}
-use Rattle.cfi_map.specs.LegalMap.{IsLegalMap}
-use Rattle.cfi_harden.specs.Request.{program_request}
 use Rattle.cfi_harden.proofs.Right.{hardened_is_right}
-use Rattle.tool_common.specs.Writes.{OutputParts}
-use Rattle.tool_objects.specs.Compare.{form_told}
-use Rattle.tool_objects.specs.Laws.{WrittenIsRead}
 use Rattle.tool_objects.proofs.FormProfile.{pair_formed}
 
 pub written_is_read : WrittenIsRead

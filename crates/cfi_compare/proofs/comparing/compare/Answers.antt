@@ -1,16 +1,5 @@
 use Rattle.std.proofs.Common.{ℕ, ◌+◌, ◌*◌, ◌∙◌, ap, length, subst, sym}
-use Rattle.rv_image.specs.Image.{image_profile}
-use Rattle.rv_image.specs.Form.{graph_version}
-use Rattle.rv_image.specs.MemoryMap.{Profile}
-use Rattle.rv_image.specs.declared.version.GraphVersion.{GraphVersion}
-use Rattle.rv_sys.specs.Calls.{Calls}
-use Rattle.rv_machine.specs.Parts.{Parts}
-use Rattle.cfi_map.specs.GraphAtMap.{ProgramAtMap}
-use Rattle.cfi_map.specs.Source.{Source, source_start}
-use Rattle.cfi_meaning.specs.Bounds.{entry_words_by, last_words, most_words_by}
-use Rattle.cfi_runs.specs.WholeRun.{undisturbed}
-use Rattle.src_machine.specs.Running.{source_of}
-use Rattle.cfi_compare.specs.Followed.{IsAnswered}
+use Rattle.cfi_compare.proofs.Prelude.{image_profile, graph_version, Profile, GraphVersion, Calls, Parts, ProgramAtMap, Source, source_start, entry_words_by, last_words, most_words_by, undisturbed, source_of, IsAnswered}
 use Rattle.cfi_compare.proofs.Deciding.{compared_tame, compared_untame, from_same}
 use Rattle.cfi_compare.proofs.comparing.compare.Goals as goal
 

@@ -1,6 +1,5 @@
 use Rattle.std.proofs.Common.{◌≡◌, ◌∙◌, ap}
-use Rattle.rv_sys.specs.Calls.{Calls}
-use Rattle.rv_machine.specs.Parts.{shared_in}
+use Rattle.cfi_compare.proofs.Prelude.{Calls, shared_in}
 use Rattle.cfi_compare.proofs.Deciding.{settles}
 use Rattle.cfi_compare.proofs.comparing.with_processor.Goals as goal
 

@@ -1,10 +1,5 @@
 use Rattle.std.proofs.Common.{◌≡◌, ◌+◌, ◌-◌, ◌∙◌, ap, sym, arith, List, [], append-nil, inl, inr, length}
-use Rattle.rv_image.specs.MemoryMap.{profile_of}
-use Rattle.rv_code.specs.State.{After}
-use Rattle.rv_code.specs.declared.event.Event.{Event}
-use Rattle.rv_machine.specs.Parts.{hart_in, shared_in}
-use Rattle.rv_sys.specs.Calls.{Calls}
-use Rattle.cfi_compare.specs.Followed.{Agree}
+use Rattle.cfi_compare.proofs.Prelude.{profile_of, After, Event, hart_in, shared_in, Calls, Agree}
 use Rattle.cfi_compare.proofs.ImageRuns.{agree_more, agree_within, as_begun, next_left, none_left, none_past, run_adds, run_goes, run_stops, step_adds}
 use Rattle.cfi_compare.proofs.follow.follow.Goals as goal
 use Rattle.cfi_compare.proofs.follow.follow.Goals.{then-index-len-via-then-index-len, then-index-len-via-else-index-len+then-is_stop}

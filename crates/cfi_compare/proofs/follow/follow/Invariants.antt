@@ -1,8 +1,5 @@
 use Rattle.std.proofs.Common.{◌≡◌, ◌-◌, ◌≤◌, List, [], length, replicate}
-use Rattle.rv_image.specs.MemoryMap.{profile_of}
-use Rattle.rv_code.specs.Run.{ByteChange, run_alone}
-use Rattle.rv_machine.specs.Parts.{hart_in, shared_in}
-use Rattle.cfi_compare.specs.Followed.{Agree}
+use Rattle.cfi_compare.proofs.Prelude.{profile_of, ByteChange, run_alone, hart_in, shared_in, Agree}
 use Rattle.cfi_compare.proofs.follow.follow.Given as goal
 
 -- all system calls are alike, and what is left of the run leads to what the whole leads to

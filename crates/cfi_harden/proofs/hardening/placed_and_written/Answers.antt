@@ -1,6 +1,5 @@
 use Rattle.std.proofs.Common.{sym, subst}
-use Rattle.cfi_harden.specs.Prepared.{PreparedParts}
-use Rattle.cfi_writer.specs.Writing.{IsWritable}
+use Rattle.cfi_harden.proofs.Prelude.{PreparedParts, IsWritable}
 use Rattle.cfi_harden.proofs.Ready.{room_behind, writable}
 use Rattle.cfi_harden.proofs.hardening.placed_and_written.Goals as goal
 

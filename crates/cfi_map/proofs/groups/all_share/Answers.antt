@@ -1,6 +1,5 @@
 use Rattle.std.proofs.Common.{arith, sym, ◌∙◌}
-use Rattle.obj_program.specs.Program.{item_of}
-use Rattle.cfi_map.specs.Groups.{may_share}
+use Rattle.cfi_map.proofs.Prelude.{item_of, may_share}
 use Rattle.cfi_map.proofs.GroupFacts.{all_end, all_more, all_stop}
 use Rattle.cfi_map.proofs.groups.all_share.Goals as goal
 

@@ -1,6 +1,5 @@
 use Rattle.std.proofs.Common.{◌≡◌, ◌-◌}
-use Rattle.obj_program.specs.Program.{item_of}
-use Rattle.cfi_map.specs.Groups.{all_from, may_share}
+use Rattle.cfi_map.proofs.Prelude.{item_of, all_from, may_share}
 use Rattle.cfi_map.proofs.groups.all_share.Given as goal
 
 abbrev pub invariant-loop-j : goal.invariant-loop-j

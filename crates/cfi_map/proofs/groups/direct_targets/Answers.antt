@@ -1,7 +1,6 @@
 use Rattle.std.proofs.Common.{arith, ap, rules}
 use Rattle.obj_program.specs.declared.item.Item.{Item}
-use Rattle.cfi_leads.proofs.Called.{marked_begin}
-use Rattle.cfi_map.proofs.DirectTargets.{marked_end, marked_more, target_inside}
+use Rattle.cfi_map.proofs.DirectTargets.{marked_begin, marked_end, marked_more, target_inside}
 use Rattle.cfi_map.proofs.groups.direct_targets.Goals as goal
 
 pub loop-k-init : goal.loop-k-init

@@ -1,9 +1,5 @@
 use Rattle.std.proofs.Common.{ap, arith, subst, sym, ◌∙◌, List, ◌≡◌}
-use Rattle.obj_program.specs.Program.{count}
-use Rattle.cfi_layout.specs.declared.short.Short.{Short}
-use Rattle.cfi_layout.specs.LongSet.{AreShorts}
-use Rattle.cfi_map.specs.Shorts.{shorts_below}
-use Rattle.cfi_map.specs.Sizes.{grouped_parts}
+use Rattle.cfi_map.proofs.Prelude.{count, Short, AreShorts, shorts_below, grouped_parts}
 use Rattle.cfi_map.proofs.ShortList.{shorts_begin, shorts_more}
 use Rattle.cfi_map.proofs.Shortened.{branches_fit, few_places}
 use Rattle.cfi_map.proofs.shorts.shorts.Goals as goal

@@ -1,6 +1,5 @@
 use Rattle.std.proofs.Common.{◌≡◌, ◌+◌, ◌++◌, ◌∷◌, [], ℕ, Bool, List, length, length-append, ap, arith, ◌∙◌}
-use Rattle.obj_program.specs.Program.{count}
-use Rattle.cfi_map.specs.Shortening.{joined}
+use Rattle.cfi_map.proofs.Prelude.{count, joined}
 use Rattle.cfi_map.proofs.Placements.{flag_more, flags_all, joined_within}
 use Rattle.cfi_map.proofs.spacing.whole_parts.Goals as goal
 

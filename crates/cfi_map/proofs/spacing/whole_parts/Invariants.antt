@@ -1,6 +1,5 @@
 use Rattle.std.proofs.Common.{◌≡◌, ℕ, ◌<◌, length}
-use Rattle.cfi_map.specs.Placement.{whole_at}
-use Rattle.cfi_map.specs.Shortening.{joined}
+use Rattle.cfi_map.proofs.Prelude.{whole_at, joined}
 use Rattle.cfi_map.proofs.spacing.whole_parts.Given as goal
 
 abbrev pub invariant-loop-k : goal.invariant-loop-k

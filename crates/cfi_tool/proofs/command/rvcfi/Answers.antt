@@ -1,11 +1,5 @@
 use Rattle.std.proofs.Common.{◌≡◌, ◌⊎◌, ℕ, arith, inl, inr, rules, subst, sym}
-use Rattle.tool_words.specs.Reading.{spelled}
-use Rattle.tool_objects.specs.Compare.{IsTold}
-use Rattle.tool_objects.specs.Demo.{IsDemonstrated}
-use Rattle.tool_images.specs.Run.{IsRan}
-use Rattle.cfi_tool.specs.Outcomes.{outcome_outputs, outcome_text}
-use Rattle.cfi_tool.specs.Request.{compare, demo, rewrite, run, taken}
-use Rattle.cfi_tool.specs.Complete.{IsComplete}
+use Rattle.cfi_tool.proofs.Prelude.{spelled, IsTold, IsDemonstrated, IsRan, outcome_outputs, outcome_text, compare, demo, rewrite, run, taken, IsComplete}
 use Rattle.cfi_tool.proofs.Complete.{complete_is}
 use Rattle.cfi_tool.proofs.InOrder.{read_some, read_told}
 use Rattle.cfi_tool.proofs.Headline.{IsDone, demo_ends, explained_request, ran_is, rewritten_is, shown_is, told_is}

@@ -1,8 +1,5 @@
 use Rattle.std.proofs.Common.{◌≤◌, ◌<◌, ◌∙◌, ◌+◌, ◌-◌, ◌*◌, ◌/◌, ℕ, arith, subst, sym}
-use Rattle.rv_image.specs.MemoryMap.{Profile}
-use Rattle.cfi_graph.specs.Graph.{IsGraph}
-use Rattle.cfi_verify.specs.Pass.{HasPassed, HoldsAt, NoneStands}
-use Rattle.cfi_starts.specs.Starts.{profile_in}
+use Rattle.cfi_verify.proofs.Prelude.{Profile, IsGraph, HasPassed, HoldsAt, NoneStands, profile_in}
 use Rattle.cfi_starts.proofs.Laid.{laid_with}
 use Rattle.cfi_verify.proofs.OnePass.{line_there, none_between, standing, word_passed}
 use Rattle.cfi_verify.proofs.all_hold.after_line.Goals as goal

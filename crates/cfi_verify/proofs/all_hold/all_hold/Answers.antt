@@ -1,9 +1,6 @@
 use Rattle.std.proofs.Common.{◌≡◌, ◌*◌, ◌∙◌, ap, inl, inr, sym, true}
 use Rattle.std.proofs.lemmas.Bool.{cases_Bool}
-use Rattle.rv_image.specs.MemoryMap.{Profile}
-use Rattle.cfi_graph.specs.Graph.{has_leaves}
-use Rattle.cfi_verify.specs.Pass.{ends_in_stop}
-use Rattle.cfi_starts.specs.Starts.{profile_in}
+use Rattle.cfi_verify.proofs.Prelude.{Profile, has_leaves, ends_in_stop, profile_in}
 use Rattle.cfi_starts.proofs.Laid.{laid_with}
 use Rattle.cfi_verify.proofs.OnePass.{full_kinds, pass_holds}
 use Rattle.cfi_verify.proofs.all_hold.all_hold.Goals as goal

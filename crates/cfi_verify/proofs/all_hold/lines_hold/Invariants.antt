@@ -1,5 +1,4 @@
-use Rattle.cfi_verify.specs.Pass.{HasPassed}
-use Rattle.cfi_starts.specs.Starts.{profile_in}
+use Rattle.cfi_verify.proofs.Prelude.{HasPassed, profile_in}
 use Rattle.cfi_verify.proofs.all_hold.lines_hold.Given as goal
 
 abbrev pub invariant-loop-k : goal.invariant-loop-k

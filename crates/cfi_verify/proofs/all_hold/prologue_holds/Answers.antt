@@ -1,5 +1,4 @@
-use Rattle.cfi_verify.specs.Pass.{HoldsEarly}
-use Rattle.cfi_starts.specs.Starts.{profile_in}
+use Rattle.cfi_verify.proofs.Prelude.{HoldsEarly, profile_in}
 use Rattle.cfi_verify.proofs.RuleOrder.{rules_more}
 use Rattle.cfi_verify.proofs.all_hold.prologue_holds.Goals as goal
 

@@ -1,8 +1,5 @@
 use Rattle.std.proofs.Common.{◌<◌}
-use Rattle.cfi_verify.specs.Pass.{HoldsEarly}
-use Rattle.cfi_rules.specs.Rules.{order}
-use Rattle.cfi_starts.specs.Starts.{profile_in}
-use Rattle.cfi_rules.specs.declared.reject.Rule.{Rule}
+use Rattle.cfi_verify.proofs.Prelude.{HoldsEarly, order, profile_in, Rule}
 use Rattle.cfi_verify.proofs.all_hold.prologue_holds.Given as goal
 
 abbrev pub invariant-loop-rule : goal.invariant-loop-rule

@@ -1,8 +1,6 @@
 use Rattle.std.proofs.Common.{inl, inr, ◌≡◌, ◌+◌, ◌*◌, ℕ, arith, subst}
 use Rattle.std.proofs.lemmas.Bool.{cases_lt}
-use Rattle.rv_image.specs.MemoryMap.{Profile}
-use Rattle.cfi_verify.specs.Pass.{HoldsAt}
-use Rattle.cfi_starts.specs.Starts.{profile_in}
+use Rattle.cfi_verify.proofs.Prelude.{Profile, HoldsAt, profile_in}
 use Rattle.cfi_starts.proofs.Laid.{laid_with}
 use Rattle.cfi_verify.proofs.OnePass.{quiet_holds}
 use Rattle.cfi_verify.proofs.all_hold.unlisted_hold.Goals as goal

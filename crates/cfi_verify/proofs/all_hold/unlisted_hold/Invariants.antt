@@ -1,6 +1,5 @@
 use Rattle.std.proofs.Common.{◌≤◌, ◌<◌, ◌-◌, ℕ, ◌+◌, ◌*◌}
-use Rattle.cfi_verify.specs.Pass.{HoldsAt}
-use Rattle.cfi_starts.specs.Starts.{profile_in}
+use Rattle.cfi_verify.proofs.Prelude.{HoldsAt, profile_in}
 use Rattle.cfi_verify.proofs.all_hold.unlisted_hold.Given as goal
 
 abbrev pub invariant-loop-index : goal.invariant-loop-index

@@ -1,8 +1,6 @@
 use Rattle.std.proofs.Common.{◌∙◌, ◌-◌, ◌/◌, ◌<◌, ◌^◌, ap, sym, take}
 use Rattle.std.proofs.lemmas.List.Elements.{All-drop}
-use Rattle.rv_image.specs.MemoryMap.{CODE_START}
-use Rattle.cfi_unit.specs.Recognise.{recognised}
-use Rattle.cfi_rules.specs.Split.{code_words}
+use Rattle.cfi_verify.proofs.Prelude.{CODE_START, recognised, code_words}
 use Rattle.cfi_rules.proofs.Bytes.{are_words}
 use Rattle.cfi_verify.proofs.Within.{unit_found, unit_missing, within}
 use Rattle.cfi_verify.proofs.code.unit_of.Goals as goal

@@ -1,8 +1,6 @@
 use Rattle.std.proofs.Common.{◌≡◌, ◌∙◌, ◌+◌, ◌*◌, ◌≤◌, max, ap, refl, sym, length, arith}
-use Rattle.rv_image.specs.MemoryMap.{Profile}
+use Rattle.cfi_verify.proofs.Prelude.{Profile, prologue_count, profile_in}
 use Rattle.least.proofs.Firsts.{found_parts, first_none}
-use Rattle.cfi_scan.specs.Pieces.{prologue_count}
-use Rattle.cfi_starts.specs.Starts.{profile_in}
 use Rattle.cfi_starts.proofs.Laid.{laid_with}
 use Rattle.cfi_verify.proofs.Spots.{none_before, none_anywhere}
 use Rattle.cfi_verify.proofs.Told.{fails_told}

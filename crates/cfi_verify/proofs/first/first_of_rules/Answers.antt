@@ -1,5 +1,4 @@
-use Rattle.cfi_rules.specs.Rules.{Holds}
-use Rattle.cfi_starts.specs.Starts.{profile_in}
+use Rattle.cfi_verify.proofs.Prelude.{Holds, profile_in}
 use Rattle.cfi_verify.proofs.RuleOrder.{rules_more}
 use Rattle.cfi_verify.proofs.first.first_of_rules.Goals as goal
 

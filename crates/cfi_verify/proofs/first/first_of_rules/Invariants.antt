@@ -1,8 +1,5 @@
 use Rattle.std.proofs.Common.{◌<◌, ℕ, List}
-use Rattle.cfi_verify.specs.Scan.{Tells, numbers_in}
-use Rattle.cfi_rules.specs.Rules.{Holds, order}
-use Rattle.cfi_starts.specs.Starts.{profile_in}
-use Rattle.cfi_rules.specs.declared.reject.Rule.{Rule}
+use Rattle.cfi_verify.proofs.Prelude.{Tells, numbers_in, Holds, order, profile_in, Rule}
 use Rattle.cfi_verify.proofs.first.first_of_rules.Given as goal
 
 abbrev pub invariant-loop-rule : goal.invariant-loop-rule

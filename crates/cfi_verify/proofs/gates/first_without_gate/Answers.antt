@@ -1,9 +1,5 @@
 use Rattle.std.proofs.Common.{ap, arith, ◌≤◌, length}
-use Rattle.cfi_starts.specs.Entries.{signs_at}
-use Rattle.cfi_graph.specs.Graph.{GraphParts}
-use Rattle.cfi_rules.specs.Lines.{leaves_in}
-use Rattle.cfi_rules.specs.Rules.{lacks_gate}
-use Rattle.cfi_starts.specs.Starts.{profile_in}
+use Rattle.cfi_verify.proofs.Prelude.{signs_at, GraphParts, leaves_in, lacks_gate, profile_in}
 use Rattle.cfi_verify.proofs.LeastOf.{least_line, least_all, take_found}
 use Rattle.cfi_verify.proofs.gates.first_without_gate.Goals as goal
 

@@ -1,10 +1,6 @@
 use Rattle.std.proofs.Common.{take}
 use Rattle.std.specs.List.{list_any}
-use Rattle.cfi_starts.specs.Entries.{signs_at}
-use Rattle.least.specs.Least.{IsLeast}
-use Rattle.cfi_rules.specs.Lines.{leaves_in}
-use Rattle.cfi_rules.specs.Rules.{lacks_gate}
-use Rattle.cfi_starts.specs.Starts.{profile_in}
+use Rattle.cfi_verify.proofs.Prelude.{signs_at, IsLeast, leaves_in, lacks_gate, profile_in}
 use Rattle.cfi_verify.proofs.gates.first_without_gate.Given as goal
 
 abbrev pub invariant-loop-k : goal.invariant-loop-k

@@ -1,9 +1,6 @@
 use Rattle.std.proofs.Common.{ℕ, Bool, ap, not, sym, ◌∙◌}
 use Rattle.std.proofs.lemmas.List.{take_more}
-use Rattle.cfi_starts.specs.Entries.{signs_at}
-use Rattle.cfi_rules.specs.Lines.{leaves_in}
-use Rattle.cfi_rules.specs.Rules.{is_borne}
-use Rattle.cfi_starts.specs.Starts.{profile_in}
+use Rattle.cfi_verify.proofs.Prelude.{signs_at, leaves_in, is_borne, profile_in}
 use Rattle.cfi_verify.proofs.LeastOf.{least_target, same_target}
 use Rattle.cfi_verify.proofs.gates.without_gate.Goals as goal
 use Rattle.cfi_verify.proofs.gates.without_gate.Goals.{then-not-is_borne, else-not-is_borne}

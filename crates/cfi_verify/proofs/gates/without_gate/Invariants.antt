@@ -1,9 +1,5 @@
 use Rattle.std.proofs.Common.{◌&&◌, not, take}
-use Rattle.least.specs.Least.{IsLeast}
-use Rattle.cfi_starts.specs.Entries.{signs_at}
-use Rattle.cfi_rules.specs.Lines.{is_among, leaves_in}
-use Rattle.cfi_rules.specs.Rules.{is_borne}
-use Rattle.cfi_starts.specs.Starts.{profile_in}
+use Rattle.cfi_verify.proofs.Prelude.{IsLeast, signs_at, is_among, leaves_in, is_borne, profile_in}
 use Rattle.cfi_verify.proofs.gates.without_gate.Given as goal
 
 abbrev pub invariant-loop-target : goal.invariant-loop-target

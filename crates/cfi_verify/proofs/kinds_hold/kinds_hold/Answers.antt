@@ -1,6 +1,5 @@
 use Rattle.std.proofs.Common.{subst}
-use Rattle.cfi_starts.specs.Starts.{profile_in}
-use Rattle.cfi_verify.specs.Pass.{IsShut}
+use Rattle.cfi_verify.proofs.Prelude.{profile_in, IsShut}
 use Rattle.cfi_starts.proofs.Laid.{laid_with}
 use Rattle.cfi_verify.proofs.KindPass.{kind_holds}
 use Rattle.cfi_verify.proofs.kinds_hold.kinds_hold.Goals as goal

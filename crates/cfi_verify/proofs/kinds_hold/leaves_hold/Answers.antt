@@ -1,11 +1,8 @@
 use Rattle.std.proofs.Common.{◌≡◌, arith, false, subst}
 use Rattle.std.specs.List.{list_any}
 use Rattle.std.proofs.lemmas.Option.{slice_get_within}
-use Rattle.cfi_graph.specs.Graph.{GraphParts}
-use Rattle.cfi_starts.specs.Entries.{lacks_end_at}
-use Rattle.cfi_starts.specs.Starts.{profile_in}
+use Rattle.cfi_verify.proofs.Prelude.{GraphParts, lacks_end_at, profile_in, AreShut}
 use Rattle.cfi_starts.proofs.LeafLines.{none_of}
-use Rattle.cfi_verify.specs.Pass.{AreShut}
 use Rattle.cfi_verify.proofs.kinds_hold.leaves_hold.Goals as goal
 
 pub returns-clause-whole : goal.returns-clause-whole

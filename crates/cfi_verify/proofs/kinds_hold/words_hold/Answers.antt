@@ -1,10 +1,8 @@
 use Rattle.std.proofs.Common.{inl, inr, ◌≡◌, ℕ, arith, subst}
 use Rattle.std.proofs.lemmas.Bool.{cases_order}
-use Rattle.rv_image.specs.MemoryMap.{Profile}
-use Rattle.cfi_starts.specs.Starts.{profile_in}
+use Rattle.cfi_verify.proofs.Prelude.{Profile, profile_in, WordHolds}
 use Rattle.cfi_starts.proofs.Laid.{laid_with}
 use Rattle.cfi_starts.proofs.LeafLines.{none_past, past_later}
-use Rattle.cfi_verify.specs.Pass.{WordHolds}
 use Rattle.cfi_verify.proofs.KindPass.{calm_holds}
 use Rattle.cfi_verify.proofs.kinds_hold.words_hold.Goals as goal
 

@@ -1,7 +1,5 @@
 use Rattle.std.proofs.Common.{◌<◌, ◌≤◌, ◌-◌, ◌+◌, ◌*◌, ℕ}
-use Rattle.cfi_starts.specs.Leaves.{ArePast}
-use Rattle.cfi_starts.specs.Starts.{profile_in}
-use Rattle.cfi_verify.specs.Pass.{WordHolds}
+use Rattle.cfi_verify.proofs.Prelude.{ArePast, profile_in, WordHolds}
 use Rattle.cfi_verify.proofs.kinds_hold.words_hold.Given as goal
 
 abbrev pub invariant-loop-index : goal.invariant-loop-index

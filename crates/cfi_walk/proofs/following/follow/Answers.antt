@@ -1,7 +1,6 @@
 use Rattle.std.proofs.Common.{◌≡◌, Some, refl}
-use Rattle.cfi_rules.specs.Rules.{pair_profile}
+use Rattle.cfi_walk.proofs.Prelude.{pair_profile, code_words, place_at}
 use Rattle.rv_image.proofs.Profiles.{is_pair_profile, laid_out}
-use Rattle.cfi_rules.specs.Split.{code_words, place_at}
 use Rattle.cfi_walk.proofs.Reach.{code_low}
 use Rattle.cfi_walk.proofs.following.follow.Goals as goal
 

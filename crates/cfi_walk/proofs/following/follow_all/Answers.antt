@@ -1,9 +1,6 @@
 use Rattle.std.proofs.Common.{subst}
-use Rattle.cfi_rules.specs.Rules.{pair_profile}
+use Rattle.cfi_walk.proofs.Prelude.{pair_profile, code_words, WalkState, StopAt}
 use Rattle.rv_image.proofs.Profiles.{is_pair_profile}
-use Rattle.cfi_rules.specs.Split.{code_words}
-use Rattle.cfi_rules.specs.Walks.{WalkState}
-use Rattle.cfi_walk.specs.Trail.{StopAt}
 use Rattle.cfi_walk.proofs.Led.{begins, ends, led_steps, never_stops, passes, refused, run_never_stops}
 use Rattle.cfi_walk.proofs.following.follow_all.Goals as goal
 

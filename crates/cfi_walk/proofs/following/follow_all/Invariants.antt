@@ -1,6 +1,5 @@
 use Rattle.std.proofs.Common.{drop}
-use Rattle.cfi_rules.specs.Rules.{pair_profile}
-use Rattle.cfi_rules.specs.Split.{code_words}
+use Rattle.cfi_walk.proofs.Prelude.{pair_profile, code_words}
 use Rattle.cfi_walk.proofs.Led.{Onward}
 use Rattle.cfi_walk.proofs.following.follow_all.Given as goal
 

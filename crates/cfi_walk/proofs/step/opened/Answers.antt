@@ -1,6 +1,5 @@
 use Rattle.std.proofs.Common.{◌≡◌, ◌∙◌, ap, refl, sym}
-use Rattle.rv_image.specs.declared.version.GraphVersion.TheVariants.{CalleeSaves, OneLabel, TwoLabels}
-use Rattle.cfi_graph.specs.Graph.{GraphParts}
+use Rattle.cfi_walk.proofs.Prelude.{CalleeSaves, OneLabel, TwoLabels, GraphParts}
 use Rattle.cfi_walk.proofs.Openings.{callees_save, callers_save}
 use Rattle.cfi_walk.proofs.step.opened.Goals as goal
 

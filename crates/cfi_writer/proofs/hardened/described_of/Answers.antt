@@ -1,9 +1,5 @@
 use Rattle.std.proofs.Common.{◌≡◌, subst, sym}
-use Rattle.rv_image.specs.Form.{profile_for}
-use Rattle.cfi_map_text.specs.Map.{IsMap}
-use Rattle.cfi_writer.specs.MapLines.{map_lines}
-use Rattle.cfi_writer.specs.Units.{Choice}
-use Rattle.cfi_writer.specs.Writing.{IsDescribed}
+use Rattle.cfi_writer.proofs.Prelude.{profile_for, IsMap, map_lines, Choice, IsDescribed}
 use Rattle.cfi_writer.proofs.hardened.described_of.Goals as goal
 
 pub described-requires-clause-form : goal.described-requires-clause-form

@@ -1,9 +1,6 @@
 use Rattle.std.proofs.Common.{◌∙◌, ◌^◌, ◌<◌, ℕ, List, ap, length, subst, sym}
 use Rattle.std.specs.Prelude.{slice_index}
-use Rattle.rv_image.specs.declared.version.ImageVersion.{ImageVersion}
-use Rattle.rv_image.specs.Form.{image_version}
-use Rattle.rv_image.specs.Image.{IsImageSize}
-use Rattle.elf_image.specs.Spelling.{spelling}
+use Rattle.cfi_writer.proofs.Prelude.{ImageVersion, image_version, IsImageSize, spelling}
 use Rattle.cfi_writer.proofs.WholeImage.{are_bytes}
 use Rattle.cfi_writer.proofs.hardened.image_of.Goals as goal
 

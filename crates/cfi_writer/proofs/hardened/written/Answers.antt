@@ -1,9 +1,6 @@
 use Rattle.std.proofs.Common.{◌≡◌, true, List, ℕ, length, subst, sym}
 use Rattle.std.specs.Prelude.{is_some}
-use Rattle.rv_image.specs.Image.{IsImageSize}
-use Rattle.obj_program.specs.DataAtMap.{data_at, init_size}
-use Rattle.cfi_map.specs.GraphAtMap.{ProgramAtMap}
-use Rattle.cfi_writer.specs.Writing.{IsImageWith}
+use Rattle.cfi_writer.proofs.Prelude.{IsImageSize, data_at, init_size, ProgramAtMap, IsImageWith}
 use Rattle.cfi_writer.proofs.WholeImage.{program_size, written_with}
 use Rattle.cfi_writer.proofs.hardened.written.Goals as goal
 

@@ -2,9 +2,7 @@ use Rattle.std.proofs.Common.{◌-◌, ◌<◌, ℕ, List, get_or, length, drop,
 use Rattle.std.specs.Prelude.{if◌then◌else◌, slice_index}
 use Rattle.std.specs.List.{All}
 use Rattle.std.proofs.Math.ListN.{length-replicate}
-use Rattle.cfi_closed.specs.declared.side.Site.{Site}
-use Rattle.cfi_closed.specs.Closed.{IsSideInside, Side, has_site}
-use Rattle.cfi_map.specs.LabelOf.{site_number}
+use Rattle.cfi_writer.proofs.Prelude.{Site, IsSideInside, Side, has_site, site_number}
 use Rattle.cfi_writer.proofs.SiteNumbers.{all_noted, sides_begin, sides_more}
 use Rattle.cfi_writer.proofs.Starts.{count_is, side_before, start_at, start_few, starts_rise}
 use Rattle.cfi_writer.proofs.labels.site_labels.Goals as goal

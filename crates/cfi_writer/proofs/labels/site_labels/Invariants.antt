@@ -1,7 +1,6 @@
 use Rattle.std.proofs.Common.{◌≡◌, ℕ, length, drop}
 use Rattle.std.specs.Prelude.{slice_index}
-use Rattle.cfi_map.specs.LabelOf.{site_label}
-use Rattle.cfi_writer.specs.Chosen.{labels_before}
+use Rattle.cfi_writer.proofs.Prelude.{site_label, labels_before}
 use Rattle.cfi_writer.proofs.labels.site_labels.Given as goal
 
 abbrev pub invariant-loop-j : goal.invariant-loop-j

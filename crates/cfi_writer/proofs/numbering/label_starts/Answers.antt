@@ -1,7 +1,6 @@
 use Rattle.std.proofs.Common.{◌≡◌, ◌+◌, ◌<◌, ℕ, List, Some, length, length-append, arith, ap, subst, sym, ◌∙◌}
 use Rattle.std.specs.Prelude.{slice_get}
-use Rattle.cfi_closed.specs.Closed.{Side}
-use Rattle.cfi_map.specs.LabelOf.{empty_classes}
+use Rattle.cfi_writer.proofs.Prelude.{Side, empty_classes}
 use Rattle.cfi_writer.proofs.Starts.{before_first, before_next, counted_at, next_start, side_there}
 use Rattle.cfi_writer.proofs.numbering.label_starts.Goals.{After-empty_classes}
 use Rattle.cfi_writer.proofs.numbering.label_starts.Goals as goal

@@ -1,8 +1,7 @@
 use Rattle.std.proofs.Common.{◌<◌, ◌≤◌, ◌∙◌, ap, length, map, arith}
 use Rattle.std.proofs.lemmas.List.{length-map, take_all}
 use Rattle.rv_word.proofs.Lists.{map_more}
-use Rattle.obj_input.specs.Input.{no_section}
-use Rattle.obj_items.specs.Bare.{bare_section}
+use Rattle.obj_items.proofs.Prelude.{no_section, bare_section}
 use Rattle.obj_items.proofs.bare.bare_sections.Goals as goal
 
 pub loop-k-preserved : goal.loop-k-preserved

@@ -1,6 +1,5 @@
 use Rattle.std.proofs.Common.{◌≡◌, map}
-use Rattle.obj_join.specs.Joined.{among}
-use Rattle.obj_link.specs.SaidOf.{said_of}
+use Rattle.obj_items.proofs.Prelude.{among, said_of}
 use Rattle.obj_items.proofs.Among.{among_from}
 use Rattle.obj_items.proofs.finish.among.Given as goal
 

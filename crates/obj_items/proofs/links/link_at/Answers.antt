@@ -1,7 +1,6 @@
 use Rattle.std.proofs.Common.{◌∙◌, refl}
 use Rattle.std.proofs.lemmas.List.{get_or_default}
-use Rattle.obj_program.specs.Program.{no_item}
-use Rattle.obj_items.specs.Outline.{outline}
+use Rattle.obj_items.proofs.Prelude.{no_item, outline}
 use Rattle.obj_items.proofs.Linking.{linked_stands, one_linked}
 use Rattle.obj_items.proofs.Lone.{lone_linked}
 use Rattle.obj_items.proofs.links.link_at.Goals as goal

@@ -1,6 +1,5 @@
 use Rattle.std.proofs.Common.{length, List, ap, arith}
-use Rattle.obj_program.specs.declared.item.Item.{Item}
-use Rattle.obj_items.specs.Outline.{outline}
+use Rattle.obj_items.proofs.Prelude.{Item, outline}
 use Rattle.obj_items.proofs.Linking.{all_linked, begins_linked}
 use Rattle.obj_items.proofs.links.linked_places.Goals as goal
 

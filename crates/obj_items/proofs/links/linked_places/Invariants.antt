@@ -1,5 +1,4 @@
-use Rattle.obj_items.specs.Outline.{outline}
-use Rattle.obj_items.specs.Linking.{AreLinkedTo}
+use Rattle.obj_items.proofs.Prelude.{outline, AreLinkedTo}
 use Rattle.obj_items.proofs.links.linked_places.Given as goal
 
 abbrev pub invariant-loop-j : goal.invariant-loop-j

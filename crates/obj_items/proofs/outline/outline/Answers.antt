@@ -1,6 +1,5 @@
 use Rattle.std.proofs.Common.{List, subst, sym}
-use Rattle.obj_program.specs.declared.item.Item.{Item}
-use Rattle.obj_program.specs.Program.{AreInOrder}
+use Rattle.obj_items.proofs.Prelude.{Item, AreInOrder}
 use Rattle.obj_items.proofs.InOrder.{outline_in_order}
 use Rattle.obj_items.proofs.outline.outline.Goals as goal
 

@@ -1,6 +1,5 @@
 use Rattle.std.proofs.Common.{◌≡◌}
-use Rattle.least.specs.Nearest.{joined}
-use Rattle.obj_items.specs.Outline.{section_items}
+use Rattle.obj_items.proofs.Prelude.{joined, section_items}
 use Rattle.obj_items.proofs.outline.outline_of.Given as goal
 
 abbrev pub invariant-loop-k : goal.invariant-loop-k

@@ -1,6 +1,5 @@
 use Rattle.std.proofs.Common.{◌≡◌, ◌++◌}
-use Rattle.least.specs.Nearest.{joined}
-use Rattle.obj_items.specs.Outline.{start_item}
+use Rattle.obj_items.proofs.Prelude.{joined, start_item}
 use Rattle.obj_items.proofs.outline.with_starts.Given as goal
 
 abbrev pub invariant-loop-index : goal.invariant-loop-index

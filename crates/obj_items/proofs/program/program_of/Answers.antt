@@ -1,6 +1,5 @@
 use Rattle.std.proofs.Common.{◌∙◌}
-use Rattle.obj_program.specs.MapFit.{FitsMaps}
-use Rattle.obj_program.specs.Sound.{IsSound}
+use Rattle.obj_items.proofs.Prelude.{FitsMaps, IsSound}
 use Rattle.obj_items.proofs.Parts.{parts_hold, program_is}
 use Rattle.obj_items.proofs.program.program_of.Goals as goal
 

@@ -1,6 +1,5 @@
 use Rattle.std.proofs.Common.{ℕ, ◌<◌}
-use Rattle.obj_input.specs.Input.{section_of}
-use Rattle.obj_items.specs.Ranges.{IsSection}
+use Rattle.obj_items.proofs.Prelude.{section_of, IsSection}
 use Rattle.obj_items.proofs.ranges.sections_fit.Given as goal
 
 abbrev pub invariant-loop-k : goal.invariant-loop-k

@@ -1,6 +1,5 @@
 use Rattle.std.proofs.Common.{◌≡◌, length}
-use Rattle.least.specs.Nearest.{joined}
-use Rattle.obj_items.specs.Bare.{listed_relocs}
+use Rattle.obj_items.proofs.Prelude.{joined, listed_relocs}
 use Rattle.obj_items.proofs.relocs.all_relocs.Given as goal
 
 abbrev pub invariant-loop-section : goal.invariant-loop-section

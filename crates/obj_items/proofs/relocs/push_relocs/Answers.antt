@@ -1,8 +1,7 @@
 use Rattle.std.proofs.Common.{◌++◌, ◌∙◌, List, ap}
 use Rattle.std.specs.List.{flat_map}
 use Rattle.std.proofs.lemmas.List.{get_or_default, take_all}
-use Rattle.obj_input.specs.declared.parts.Relocation.{Relocation}
-use Rattle.obj_items.specs.InitialData.{reloc_of}
+use Rattle.obj_items.proofs.Prelude.{Relocation, reloc_of}
 use Rattle.obj_items.proofs.Data.{flat_map_more}
 use Rattle.obj_items.proofs.relocs.push_relocs.Goals as goal
 

@@ -1,10 +1,7 @@
 use Rattle.std.proofs.Common.{◌∙◌, List, ap, length}
-use Rattle.least.specs.Nearest.{joined}
-use Rattle.obj_input.specs.Input.{InputParts, SectionParts}
+use Rattle.obj_items.proofs.Prelude.{joined, InputParts, SectionParts, listed_relocs, outline}
 use Rattle.obj_items.proofs.Without.{same_relocs}
 use Rattle.obj_items.specs.Bare as without
-use Rattle.obj_items.specs.Bare.{listed_relocs}
-use Rattle.obj_items.specs.Outline.{outline}
 use Rattle.obj_items.proofs.relocs.relocs.Goals as goal
 
 pub returns : goal.returns

@@ -1,10 +1,7 @@
 use Rattle.std.proofs.Common.{◌||◌, ◌∙◌, List, ap, false, get_or}
 use Rattle.std.specs.List.{list_any}
 use Rattle.std.proofs.lemmas.List.{get_or_default, take_all}
-use Rattle.obj_input.specs.declared.parts.Relocation.{Relocation}
-use Rattle.obj_input.specs.Input.{SectionParts}
-use Rattle.obj_program.specs.Program.{no_item}
-use Rattle.obj_items.specs.Links.{takes}
+use Rattle.obj_items.proofs.Prelude.{Relocation, SectionParts, no_item, takes}
 use Rattle.obj_items.proofs.Marks.{any_next}
 use Rattle.obj_items.proofs.taken.mark_section.Goals as goal
 

@@ -1,7 +1,6 @@
 use Rattle.std.proofs.Common.{◌≡◌, ◌<◌, ℕ, ◌||◌, false, length, get_or, take}
 use Rattle.std.specs.List.{list_any}
-use Rattle.obj_program.specs.Program.{no_item}
-use Rattle.obj_items.specs.Links.{takes}
+use Rattle.obj_items.proofs.Prelude.{no_item, takes}
 use Rattle.obj_items.proofs.taken.mark_section.Given as goal
 
 abbrev pub invariant-loop-u : goal.invariant-loop-u

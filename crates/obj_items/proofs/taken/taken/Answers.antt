@@ -1,9 +1,7 @@
 use Rattle.std.proofs.Common.{◌∙◌, ap, arith, Bool, false, List, get_or, length}
 use Rattle.std.proofs.lemmas.List.{get_or-replicate, length-replicate}
 use Rattle.std.specs.Prelude.{is_some}
-use Rattle.least.specs.First.{first_below}
-use Rattle.obj_program.specs.Program.{no_item}
-use Rattle.obj_items.specs.Links.{is_taken, some_takes}
+use Rattle.obj_items.proofs.Prelude.{first_below, no_item, is_taken, some_takes}
 use Rattle.obj_items.proofs.Marks.{sections_begin, sections_next}
 use Rattle.obj_items.proofs.taken.taken.Goals as goal
 

@@ -1,8 +1,6 @@
 use Rattle.std.proofs.Common.{◌≡◌, ◌<◌, ℕ, false, length, get_or}
 use Rattle.std.specs.Prelude.{is_some}
-use Rattle.least.specs.First.{first_below}
-use Rattle.obj_program.specs.Program.{no_item}
-use Rattle.obj_items.specs.Links.{some_takes}
+use Rattle.obj_items.proofs.Prelude.{first_below, no_item, some_takes}
 use Rattle.obj_items.proofs.taken.taken.Given as goal
 
 abbrev pub invariant-loop-j : goal.invariant-loop-j

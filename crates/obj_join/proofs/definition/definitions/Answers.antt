@@ -1,6 +1,6 @@
-use Rattle.obj_input.proofs.Reach.{listed_next}
 use Rattle.obj_join.specs.Stands.{definition}
 use Rattle.obj_join.specs.Numbers.{by}
+use Rattle.obj_join.proofs.Listing.{listed_next}
 use Rattle.obj_join.proofs.definition.definitions.Goals as goal
 
 pub loop-number-preserved : goal.loop-number-preserved

@@ -1,8 +1,7 @@
 use Rattle.std.proofs.Common.{◌∙◌, ◌*◌, pos, sym, ap}
 use Rattle.obj_input.specs.declared.parts.Definition.{Definition}
-use Rattle.obj_input.proofs.Reach.{listed_next}
 use Rattle.obj_join.specs.Numbers.{filling_of}
-use Rattle.obj_join.proofs.Listing.{listed_none}
+use Rattle.obj_join.proofs.Listing.{listed_next, listed_none}
 use Rattle.obj_join.proofs.slots.fillings.Goals as goal
 
 pub loop-slot-init : goal.loop-slot-init

@@ -1,6 +1,5 @@
 use Rattle.std.proofs.Common.{◌≤◌, ◌^◌, ◌∙◌, subst, sym, ℕ}
-use Rattle.obj_join.specs.Numbers.{by}
-use Rattle.obj_link.specs.SaidOf.{said_by}
+use Rattle.obj_link.proofs.Prelude.{by, said_by}
 use Rattle.obj_link.proofs.Composed.{few_sections}
 use Rattle.obj_link.proofs.Together.{counted}
 use Rattle.obj_link.proofs.input.all_sections.Goals as goal

@@ -1,7 +1,6 @@
 use Rattle.std.proofs.Common.{◌≤◌, ◌^◌, ◌∙◌, List, ℕ, ap, subst, sym}
 use Rattle.std.specs.List.{sum_by}
-use Rattle.elf_tables.specs.Header.{e_shnum}
-use Rattle.obj_link.specs.SaidOf.{said_by}
+use Rattle.obj_link.proofs.Prelude.{e_shnum, said_by}
 use Rattle.obj_link.proofs.Together.{said_alone}
 use Rattle.obj_link.proofs.Whole.{few_alone}
 use Rattle.obj_link.proofs.input.alone.Goals as goal

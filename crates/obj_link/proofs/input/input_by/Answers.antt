@@ -1,14 +1,6 @@
 use Rattle.std.proofs.Common.{ap, sym, ◌∙◌, List, ℕ, length}
-use Rattle.obj_input.specs.Listed.{listed}
-use Rattle.obj_join.specs.Said.{SymbolSaid}
-use Rattle.obj_join.specs.Stands.{definition}
-use Rattle.obj_join.specs.SaidInput.{input_by, names_by}
-use Rattle.obj_join.specs.Definer.{resolved}
-use Rattle.obj_join.specs.Found.{is_found}
-use Rattle.obj_join.specs.Joined.{shared_input}
-use Rattle.obj_join.specs.Numbers.{by}
+use Rattle.obj_link.proofs.Prelude.{listed, SymbolSaid, definition, input_by, names_by, resolved, is_found, shared_input, by, said_by}
 use Rattle.obj_join.proofs.Resolves.{by_resolved}
-use Rattle.obj_link.specs.SaidOf.{said_by}
 use Rattle.obj_link.proofs.input.input_by.Goals as goal
 
 pub returns : goal.returns

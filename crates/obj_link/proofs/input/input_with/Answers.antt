@@ -1,6 +1,5 @@
 use Rattle.std.proofs.Common.{◌∙◌}
-use Rattle.obj_join.specs.Numbers.{by}
-use Rattle.obj_link.specs.SaidOf.{said_by}
+use Rattle.obj_link.proofs.Prelude.{by, said_by}
 use Rattle.obj_link.proofs.Composed.{composed}
 use Rattle.obj_link.proofs.input.input_with.Goals as goal
 

@@ -1,11 +1,6 @@
 use Rattle.std.proofs.Common.{ap, ◌∙◌, List, ℕ, true}
-use Rattle.obj_join.specs.Said.{SymbolSaid}
-use Rattle.obj_join.specs.SaidInput.{input_by}
-use Rattle.obj_join.specs.Definer.{own}
-use Rattle.obj_join.specs.Joined.{own_input}
-use Rattle.obj_join.specs.Numbers.{by}
+use Rattle.obj_link.proofs.Prelude.{SymbolSaid, input_by, own, own_input, by, said_by}
 use Rattle.obj_join.proofs.Resolves.{by_own}
-use Rattle.obj_link.specs.SaidOf.{said_by}
 use Rattle.obj_link.proofs.input.own_input_by.Goals as goal
 
 pub returns : goal.returns

@@ -1,7 +1,5 @@
 use Rattle.std.proofs.Common.{subst, sym}
-use Rattle.elf_names.specs.Numbers.{AreApart, AreNumbers}
-use Rattle.obj_join.specs.Symbols.{names_of}
-use Rattle.obj_link.specs.SaidOf.{said_by}
+use Rattle.obj_link.proofs.Prelude.{AreApart, AreNumbers, names_of, said_by}
 use Rattle.obj_link.proofs.names.name_numbers.Goals as goal
 
 pub returns : goal.returns

@@ -1,7 +1,5 @@
 use Rattle.std.proofs.Common.{take}
-use Rattle.elf_names.specs.Numbers.{AreNumbers}
-use Rattle.obj_join.specs.Symbols.{names_of}
-use Rattle.obj_link.specs.SaidOf.{said_by}
+use Rattle.obj_link.proofs.Prelude.{AreNumbers, names_of, said_by}
 use Rattle.obj_link.proofs.names.numbers_of.Given as goal
 
 abbrev pub invariant-loop-object : goal.invariant-loop-object

@@ -1,6 +1,5 @@
 use Rattle.std.proofs.Common.{◌++◌, ◌∙◌, drop, map, subst}
-use Rattle.elf_names.specs.Marks.{spelled}
-use Rattle.elf_names.specs.Numbers.{AreNumbers}
+use Rattle.obj_link.proofs.Prelude.{spelled, AreNumbers}
 use Rattle.obj_link.proofs.Named.{names_spelled}
 use Rattle.obj_link.proofs.names.push_names.Goals as goal
 

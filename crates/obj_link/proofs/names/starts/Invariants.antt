@@ -1,6 +1,5 @@
 use Rattle.std.proofs.Common.{◌≡◌}
-use Rattle.obj_input.specs.Listed.{listed}
-use Rattle.obj_link.specs.Names.{start_in}
+use Rattle.obj_link.proofs.Prelude.{listed, start_in}
 use Rattle.obj_link.proofs.names.starts.Given as goal
 
 abbrev pub invariant-loop-number : goal.invariant-loop-number

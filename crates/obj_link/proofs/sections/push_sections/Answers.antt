@@ -1,8 +1,4 @@
-use Rattle.obj_join.specs.Said.{section_behind}
-use Rattle.obj_join.specs.SaidInput.{section_of}
-use Rattle.obj_join.specs.Numbers.{by}
-use Rattle.obj_link.specs.Sections.{section_said_in}
-use Rattle.obj_link.specs.SaidOf.{said_by}
+use Rattle.obj_link.proofs.Prelude.{section_behind, section_of, by, section_said_in, said_by}
 use Rattle.obj_link.proofs.Sectioned.{made_grown, made_grown_none}
 use Rattle.obj_link.proofs.sections.push_sections.Goals as goal
 

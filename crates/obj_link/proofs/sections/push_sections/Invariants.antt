@@ -1,10 +1,5 @@
 use Rattle.std.proofs.Common.{◌≡◌, ◌++◌, map}
-use Rattle.obj_input.specs.Listed.{listed}
-use Rattle.obj_join.specs.Said.{section_behind}
-use Rattle.obj_join.specs.SaidInput.{section_of}
-use Rattle.obj_join.specs.Numbers.{by}
-use Rattle.obj_link.specs.Sections.{section_said_in}
-use Rattle.obj_link.specs.SaidOf.{said_by}
+use Rattle.obj_link.proofs.Prelude.{listed, section_behind, section_of, by, section_said_in, said_by}
 use Rattle.obj_link.proofs.sections.push_sections.Given as goal
 
 abbrev pub invariant-loop-k : goal.invariant-loop-k

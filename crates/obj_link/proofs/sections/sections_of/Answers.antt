@@ -2,10 +2,7 @@ use Rattle.std.proofs.Common.{◌≡◌, ◌+◌, ◌<◌, ◌≤◌, get_or, Li
 use Rattle.std.specs.List.{sum_by}
 use Rattle.std.proofs.lemmas.List.{take_all}
 use Rattle.std.proofs.lemmas.List.Sums.{sum_by_more_le}
-use Rattle.elf_tables.specs.Symbol.{symbol_count}
-use Rattle.obj_join.specs.SaidInput.{section_of}
-use Rattle.obj_join.specs.Numbers.{by}
-use Rattle.obj_link.specs.SaidOf.{said_by}
+use Rattle.obj_link.proofs.Prelude.{symbol_count, section_of, by, said_by}
 use Rattle.obj_link.proofs.Together.{counted_symbols, next_sum}
 use Rattle.obj_link.proofs.Sectioned.{next_sections, no_sections}
 use Rattle.obj_link.proofs.sections.sections_of.Goals as goal

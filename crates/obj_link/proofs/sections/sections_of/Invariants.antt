@@ -1,9 +1,6 @@
 use Rattle.std.proofs.Common.{◌≡◌, map, take}
 use Rattle.std.specs.List.{sum_by}
-use Rattle.elf_tables.specs.Symbol.{symbol_count}
-use Rattle.obj_join.specs.SaidInput.{section_of}
-use Rattle.obj_join.specs.Numbers.{by}
-use Rattle.obj_link.specs.SaidOf.{said_by}
+use Rattle.obj_link.proofs.Prelude.{symbol_count, section_of, by, said_by}
 use Rattle.obj_link.proofs.sections.sections_of.Given as goal
 
 abbrev pub invariant-loop-object : goal.invariant-loop-object

@@ -1,9 +1,6 @@
 use Rattle.std.proofs.Common.{ap, ◌∙◌, List, ℕ}
 use Rattle.std.specs.Prelude.{fold}
-use Rattle.obj_join.specs.Said.{section_behind}
-use Rattle.obj_join.specs.Table.{with_symbol}
-use Rattle.obj_join.specs.Numbers.{by}
-use Rattle.obj_link.specs.Sections.{section_said_in}
+use Rattle.obj_link.proofs.Prelude.{section_behind, with_symbol, by, section_said_in}
 use Rattle.obj_link.proofs.Slotted.{noted_more, noted_none}
 use Rattle.obj_link.proofs.slots.push_slots.Goals as goal
 

@@ -1,11 +1,8 @@
 use Rattle.std.proofs.Common.{◌≡◌, get_or, List, ℕ, take, ap, refl, sym, ◌∙◌, arith}
 use Rattle.std.proofs.lemmas.List.{take_all}
 use Rattle.std.proofs.lemmas.List.Sums.{sum_by-take-le, sum_by_more_le}
-use Rattle.elf_tables.specs.Symbol.{symbol_count}
-use Rattle.obj_join.specs.Table.{slots}
-use Rattle.obj_join.specs.Numbers.{by}
+use Rattle.obj_link.proofs.Prelude.{symbol_count, slots, by, said_by}
 use Rattle.obj_join.proofs.Sectioned.{in_order}
-use Rattle.obj_link.specs.SaidOf.{said_by}
 use Rattle.obj_link.proofs.Together.{counted_symbols, next_sum}
 use Rattle.obj_link.proofs.Slotted.{next_slots, no_slots}
 use Rattle.obj_link.proofs.slots.slots_of.Goals as goal

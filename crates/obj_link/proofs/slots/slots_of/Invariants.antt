@@ -1,10 +1,7 @@
 use Rattle.std.proofs.Common.{◌≡◌, [], take}
 use Rattle.std.specs.Prelude.{flat_map, fold}
 use Rattle.std.specs.List.{sum_by}
-use Rattle.elf_tables.specs.Symbol.{symbol_count}
-use Rattle.obj_join.specs.Table.{table_symbols_of, with_symbol}
-use Rattle.obj_join.specs.Numbers.{by}
-use Rattle.obj_link.specs.SaidOf.{said_by}
+use Rattle.obj_link.proofs.Prelude.{symbol_count, table_symbols_of, with_symbol, by, said_by}
 use Rattle.obj_link.proofs.slots.slots_of.Given as goal
 
 abbrev pub invariant-loop-object : goal.invariant-loop-object

@@ -1,12 +1,5 @@
 use Rattle.std.proofs.Common.{ap, ◌∙◌, ◌++◌, ◌∷◌, [], List, ℕ, map}
-use Rattle.obj_input.specs.Listed.{listed}
-use Rattle.elf_tables.specs.declared.entry.Reloc.{Reloc}
-use Rattle.elf_tables.specs.Relocation.{relocation_in}
-use Rattle.obj_join.specs.declared.table.TableUse.{TableUse}
-use Rattle.obj_join.specs.Said.{use_behind}
-use Rattle.obj_join.specs.Numbers.{by}
-use Rattle.obj_join.specs.Uses.{table_uses}
-use Rattle.obj_link.specs.Sections.{use_said, use_said_at}
+use Rattle.obj_link.proofs.Prelude.{listed, Reloc, relocation_in, TableUse, use_behind, by, table_uses, use_said, use_said_at}
 use Rattle.obj_link.proofs.Slotted.{uses_more, uses_none}
 use Rattle.obj_link.proofs.slots.table_uses.Goals as goal
 

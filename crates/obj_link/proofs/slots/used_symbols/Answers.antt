@@ -1,13 +1,6 @@
 use Rattle.std.proofs.Common.{ap, ◌∙◌, ◌/◌, List}
-use Rattle.least.specs.Nearest.{joined}
-use Rattle.elf_tables.specs.declared.header.SectionHeader.{SectionHeader}
-use Rattle.obj_join.specs.declared.table.TableUse.{TableUse}
-use Rattle.obj_join.specs.Said.{section_behind}
-use Rattle.obj_join.specs.Table.{table_symbols_at}
-use Rattle.obj_join.specs.Numbers.{by}
-use Rattle.obj_join.specs.Uses.{symbols_at}
+use Rattle.obj_link.proofs.Prelude.{joined, SectionHeader, TableUse, section_behind, table_symbols_at, by, symbols_at, section_said_in}
 use Rattle.obj_join.proofs.Sectioned.{narrowed}
-use Rattle.obj_link.specs.Sections.{section_said_in}
 use Rattle.obj_link.proofs.slots.used_symbols.Goals as goal
 
 pub returns : goal.returns

@@ -1,5 +1,4 @@
-use Rattle.obj_join.specs.Said.{symbol_behind}
-use Rattle.obj_link.specs.Symbols.{symbol_said_in}
+use Rattle.obj_link.proofs.Prelude.{symbol_behind, symbol_said_in}
 use Rattle.obj_link.proofs.Together.{grown, grown_none}
 use Rattle.obj_link.proofs.symbols.push_symbols.Goals as goal
 

@@ -1,7 +1,5 @@
 use Rattle.std.proofs.Common.{◌≡◌, ◌++◌, map}
-use Rattle.obj_input.specs.Listed.{listed}
-use Rattle.obj_join.specs.Said.{symbol_behind}
-use Rattle.obj_link.specs.Symbols.{symbol_said_in}
+use Rattle.obj_link.proofs.Prelude.{listed, symbol_behind, symbol_said_in}
 use Rattle.obj_link.proofs.symbols.push_symbols.Given as goal
 
 abbrev pub invariant-loop-number : goal.invariant-loop-number

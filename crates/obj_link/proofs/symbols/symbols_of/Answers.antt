@@ -1,6 +1,5 @@
 use Rattle.std.proofs.Common.{ap, refl, sym, ◌∙◌}
-use Rattle.elf_tables.specs.Header.{e_shnum}
-use Rattle.obj_join.specs.Said.{Said}
+use Rattle.obj_link.proofs.Prelude.{e_shnum, Said}
 use Rattle.obj_link.proofs.Together.{next_sum, next_symbols, said_none}
 use Rattle.obj_link.proofs.symbols.symbols_of.Goals as goal
 

@@ -1,7 +1,6 @@
 use Rattle.std.proofs.Common.{◌≡◌, take}
 use Rattle.std.specs.List.{sum_by}
-use Rattle.elf_tables.specs.Header.{e_shnum}
-use Rattle.obj_link.specs.SaidOf.{said_by}
+use Rattle.obj_link.proofs.Prelude.{e_shnum, said_by}
 use Rattle.obj_link.proofs.symbols.symbols_of.Given as goal
 
 abbrev pub invariant-loop-object : goal.invariant-loop-object

@@ -1,14 +1,8 @@
 use Rattle.std.proofs.Common.{◌≡◌, ◌∙◌, ap, sym, subst, IfOk, Some}
 use Rattle.std.proofs.lemmas.Result.{IfOk-weaker}
-use Rattle.rv_image.specs.Form.{image_version, profile_for}
-use Rattle.rv_image.specs.MemoryMap.{Profile, profile_of}
-use Rattle.rv_image.specs.declared.version.ImageVersion.{ImageVersion}
-use Rattle.rv_code.specs.SameMachine.{IsSameMachine}
+use Rattle.src_machine.proofs.Prelude.{image_version, profile_for, Profile, profile_of, ImageVersion, IsSameMachine, words_at, Source, StateParts, source_in}
 use Rattle.rv_code.proofs.FormMachine.{form_machine}
-use Rattle.cfi_map.specs.GraphAtMap.{words_at}
-use Rattle.cfi_map.specs.Source.{Source}
 use Rattle.cfi_map.proofs.Values.{data_there}
-use Rattle.src_machine.specs.State.{StateParts, source_in}
 use Rattle.src_machine.proofs.Beginnings.{started}
 use Rattle.src_machine.proofs.begin.start.Goals as goal
 

@@ -1,6 +1,5 @@
 use Rattle.std.specs.Prelude.{◌≡◌, ◌-◌, None}
-use Rattle.least.specs.First.{first_below}
-use Rattle.src_machine.specs.MapLine.{is_wrong, stores_before}
+use Rattle.src_machine.proofs.Prelude.{first_below, is_wrong, stores_before}
 use Rattle.src_machine.proofs.legal.first_wrong.Given as goal
 
 abbrev pub invariant-loop-j : goal.invariant-loop-j

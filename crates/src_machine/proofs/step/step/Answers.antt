@@ -1,6 +1,4 @@
-use Rattle.obj_program.specs.Program.{count}
-use Rattle.cfi_map.specs.SourceStep.{step_at}
-use Rattle.src_machine.specs.State.{source_in}
+use Rattle.src_machine.proofs.Prelude.{count, step_at, source_in}
 use Rattle.src_machine.proofs.Inside.{either_inside, place_there}
 use Rattle.src_machine.proofs.step.step.Goals as goal
 

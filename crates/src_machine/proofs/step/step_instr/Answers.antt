@@ -1,6 +1,5 @@
 use Rattle.std.proofs.Common.{sym, ◌∙◌, ap}
-use Rattle.obj_program.specs.declared.item.Item.{Item}
-use Rattle.obj_program.specs.Program.{is_end}
+use Rattle.src_machine.proofs.Prelude.{Item, is_end}
 use Rattle.src_machine.proofs.Inside.{next_there}
 use Rattle.src_machine.proofs.step.step_instr.Goals as goal
 

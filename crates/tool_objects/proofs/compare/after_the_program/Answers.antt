@@ -1,9 +1,6 @@
 use Rattle.std.proofs.Common.{ap, subst, sym}
 use Rattle.std.specs.Prelude.{option_copied}
-use Rattle.rv_image.specs.declared.form.Form.TheVariants.{Plain}
-use Rattle.cfi_harden.specs.Request.{Request}
-use Rattle.tool_objects.specs.Compare.{IsRoomy, asked_at, form_told}
-use Rattle.tool_objects.specs.Comparing.{IsRoomyEnd}
+use Rattle.tool_objects.proofs.Prelude.{Plain, Request, IsRoomy, asked_at, form_told, IsRoomyEnd}
 use Rattle.tool_objects.proofs.Sources.{asked_form, wrong_text}
 use Rattle.tool_objects.proofs.compare.after_the_program.Goals as goal
 

@@ -1,10 +1,6 @@
 use Rattle.std.proofs.Common.{subst}
 use Rattle.std.proofs.lemmas.Result.{IfOk-weaker}
-use Rattle.rv_word.specs.declared.end.End.{End}
-use Rattle.src_machine.specs.Beginning.{Ends}
-use Rattle.src_machine.specs.declared.source_fault.SourceFault.{SourceFault}
-use Rattle.tool_objects.specs.Compare.{IsCompareOf}
-use Rattle.tool_objects.specs.Comparing.{IsImageCompared}
+use Rattle.tool_objects.proofs.Prelude.{End, Ends, SourceFault, IsCompareOf, IsImageCompared}
 use Rattle.tool_objects.proofs.Sources.{compared_with, source_is}
 use Rattle.tool_objects.proofs.compare.compare_at.Goals as goal
 

@@ -1,6 +1,5 @@
 use Rattle.std.specs.Prelude.{option_copied}
-use Rattle.tool_objects.specs.Compare.{asked_at}
-use Rattle.tool_objects.specs.GivenBytes.{given_by}
+use Rattle.tool_objects.proofs.Prelude.{asked_at, given_by}
 use Rattle.tool_objects.proofs.Sources.{not_given}
 use Rattle.tool_objects.proofs.compare.compare_bytes.Goals as goal
 

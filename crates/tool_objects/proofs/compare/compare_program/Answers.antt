@@ -1,9 +1,6 @@
 use Rattle.std.proofs.Common.{◌∙◌, ap, subst, sym}
 use Rattle.std.specs.Prelude.{option_copied}
-use Rattle.rv_image.specs.Form.{graph_version}
-use Rattle.cfi_harden.specs.Request.{Request}
-use Rattle.tool_objects.specs.Compare.{IsRoomy, asked_at, form_told}
-use Rattle.tool_objects.specs.Comparing.{IsRoomyEnd}
+use Rattle.tool_objects.proofs.Prelude.{graph_version, Request, IsRoomy, asked_at, form_told, IsRoomyEnd}
 use Rattle.tool_objects.proofs.Sources.{asked_form, closed_for}
 use Rattle.tool_objects.proofs.compare.compare_program.Goals as goal
 

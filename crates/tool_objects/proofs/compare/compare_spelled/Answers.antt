@@ -1,8 +1,5 @@
 use Rattle.std.proofs.Common.{Err, subst}
-use Rattle.rv_word.specs.declared.end.End.{End}
-use Rattle.text_lines.specs.Answers.{Answers}
-use Rattle.text_lines.specs.declared.fault.LineFault.{LineFault}
-use Rattle.cfi_map_text.specs.MapText.{map_of}
+use Rattle.tool_objects.proofs.Prelude.{End, Answers, LineFault, map_of}
 use Rattle.tool_objects.proofs.compare.compare_spelled.Goals as goal
 
 pub returns-in-Ok : goal.returns-in-Ok

@@ -1,7 +1,5 @@
 use Rattle.std.proofs.Common.{subst}
-use Rattle.rv_word.specs.declared.end.End.TheVariants.{Fault}
-use Rattle.src_machine.specs.Beginning.{Ends}
-use Rattle.src_machine.specs.declared.source_fault.SourceFault.{SourceFault}
+use Rattle.tool_objects.proofs.Prelude.{Fault, Ends, SourceFault}
 use Rattle.tool_objects.proofs.Sources.{wrong_place}
 use Rattle.tool_objects.proofs.compare.not_at_the_map.Goals as goal
 

@@ -1,7 +1,5 @@
 use Rattle.std.proofs.Common.{subst}
-use Rattle.rv_word.specs.declared.end.End.{End}
-use Rattle.refusals.specs.declared.refusal.Refusal.{Refusal}
-use Rattle.tool_objects.specs.Comparing.{IsRoomyEnd}
+use Rattle.tool_objects.proofs.Prelude.{End, Refusal, IsRoomyEnd}
 use Rattle.tool_objects.proofs.compare.not_run.Goals as goal
 
 pub returns-in-Fault : goal.returns-in-Fault

@@ -1,8 +1,5 @@
 use Rattle.std.proofs.Common.{List, ℕ, subst}
-use Rattle.cfi_writer.specs.Hardened.{HardenedParts}
-use Rattle.gen_hardened.specs.Laws.{entered}
-use Rattle.tool_objects.specs.Demo.{IsComparedAt}
-use Rattle.tool_objects.specs.Demonstration.{IsAnswerAt}
+use Rattle.tool_objects.proofs.Prelude.{HardenedParts, entered, IsComparedAt, IsAnswerAt}
 use Rattle.tool_objects.proofs.Demonstrated.{compared_at, never_told}
 use Rattle.tool_objects.proofs.demo.after_exit.Goals as goal
 

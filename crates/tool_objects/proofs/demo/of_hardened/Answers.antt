@@ -1,14 +1,5 @@
 use Rattle.std.proofs.Common.{◌∙◌, List, [], ℕ, ap, rules, subst, sym}
-use Rattle.rv_image.specs.Form.{image_version}
-use Rattle.rv_image.specs.Image.{Contents}
-use Rattle.cfi_rules.specs.Rules.{IsWellFormed, pair_profile}
-use Rattle.cfi_writer.specs.Hardened.{HardenedParts}
-use Rattle.cfi_harden.specs.Request.{program_request}
-use Rattle.gen_hardened.specs.Laws.{entered}
-use Rattle.cfi_launch.specs.SafeRun.{IsSafeRun, undisturbed_script}
-use Rattle.tool_objects.specs.Demo.{STEP_LIMIT}
-use Rattle.tool_objects.specs.Demonstration.{IsImageIn}
-use Rattle.tool_objects.specs.Rewrite.{IsMade}
+use Rattle.tool_objects.proofs.Prelude.{image_version, Contents, IsWellFormed, pair_profile, HardenedParts, program_request, entered, IsSafeRun, undisturbed_script, STEP_LIMIT, IsImageIn, IsMade}
 use Rattle.tool_objects.proofs.Demonstrated.{can_run, form_of_map, is_well_formed, none_differs}
 use Rattle.tool_objects.proofs.demo.of_hardened.Goals as goal
 

@@ -1,11 +1,6 @@
 use Rattle.std.proofs.Common.{◌≡◌, []}
 use Rattle.std.proofs.lemmas.Result.{IfOk-weaker}
-use Rattle.rv_image.specs.Image.{image_profile}
-use Rattle.cfi_meaning.specs.Compared.{compared}
-use Rattle.cfi_compare.specs.Told.{told_answer}
-use Rattle.cfi_compare.specs.declared.answer.Compared.{Compared}
-use Rattle.tool_objects.specs.Demo.{STEP_LIMIT}
-use Rattle.tool_objects.specs.Demonstration.{IsAnswerAt}
+use Rattle.tool_objects.proofs.Prelude.{image_profile, compared, told_answer, Compared, STEP_LIMIT, IsAnswerAt}
 use Rattle.tool_objects.proofs.Demonstrated.{answer_at}
 use Rattle.tool_objects.proofs.demonstration.compare_at.Goals as goal
 

@@ -1,11 +1,6 @@
 use Rattle.std.proofs.Common.{Err, subst}
-use Rattle.rv_word.specs.declared.end.End.{End}
-use Rattle.rv_word.specs.declared.end.End.TheVariants.{Fault}
-use Rattle.cfi_harden.specs.Refused.{HardensProgram}
-use Rattle.cfi_harden.specs.Request.{program_request}
-use Rattle.refusals.specs.declared.refusal.Refusal.{Refusal}
+use Rattle.tool_objects.proofs.Prelude.{End, Fault, HardensProgram, program_request, Refusal, entered}
 use Rattle.cfi_harden.proofs.Preparing.{hardens_given}
-use Rattle.gen_hardened.specs.Laws.{entered}
 use Rattle.tool_objects.proofs.Demonstrated.{unrefused}
 use Rattle.tool_objects.proofs.demonstration.made.Goals as goal
 

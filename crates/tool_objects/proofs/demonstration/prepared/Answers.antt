@@ -1,9 +1,6 @@
 use Rattle.std.proofs.Common.{Err, subst}
-use Rattle.rv_word.specs.declared.end.End.{End}
-use Rattle.cfi_harden.specs.Refused.{PreparesProgram}
-use Rattle.refusals.specs.declared.refusal.Refusal.{Refusal}
+use Rattle.tool_objects.proofs.Prelude.{End, PreparesProgram, Refusal, entered}
 use Rattle.cfi_harden.proofs.Preparing.{prepared_given, refused_given}
-use Rattle.gen_hardened.specs.Laws.{entered}
 use Rattle.tool_objects.proofs.Demonstrated.{unrefused}
 use Rattle.tool_objects.proofs.demonstration.prepared.Goals as goal
 

@@ -1,8 +1,5 @@
 use Rattle.std.proofs.Common.{Err, inl, subst}
-use Rattle.rv_word.specs.declared.end.End.{End}
-use Rattle.cfi_harden.specs.Given.{alone}
-use Rattle.cfi_harden.specs.Preparing.{Reads}
-use Rattle.refusals.specs.declared.refusal.Refusal.{Refusal}
+use Rattle.tool_objects.proofs.Prelude.{End, alone, Reads, Refusal}
 use Rattle.tool_objects.proofs.Demonstrated.{unrefused}
 use Rattle.tool_objects.proofs.demonstration.program.Goals as goal
 

@@ -1,9 +1,6 @@
 use Rattle.std.proofs.Common.{◌≡◌, true, rules, [], ◌∷◌, refl}
-use Rattle.tool_io.specs.Names.{AreRead}
-use Rattle.tool_common.specs.Reads.{file_names}
+use Rattle.tool_objects.proofs.Prelude.{AreRead, file_names, names_with, rewrite_asked}
 use Rattle.tool_common.proofs.InOrder.{none_yet, read_less}
-use Rattle.tool_objects.specs.Objects.{names_with}
-use Rattle.tool_objects.specs.Rewrite.{rewrite_asked}
 use Rattle.tool_objects.proofs.rewrite.rewrite_files.Goals as goal
 
 pub returns-clause-explained : goal.returns-clause-explained

@@ -1,8 +1,7 @@
 use Rattle.std.proofs.Common.{Ok, Err}
 use Rattle.std.specs.Prelude.{option_copied}
-use Rattle.rv_word.specs.declared.end.End.TheVariants.{Fault}
+use Rattle.tool_objects.proofs.Prelude.{Fault, request_of, rewrite_asked}
 use Rattle.cfi_rewrite.proofs.OfHardened.{hardens_read, keeps_read}
-use Rattle.tool_objects.specs.Rewrite.{request_of, rewrite_asked}
 use Rattle.tool_objects.proofs.rewrite.rewrite_items.Goals as goal
 
 pub returns-in_ok-spelled_out-in-Ok : goal.returns-in_ok-spelled_out-in-Ok

@@ -1,8 +1,5 @@
 use Rattle.std.proofs.Common.{◌≡◌, MatchResult, Some, subst}
-use Rattle.cfi_flow.specs.Policy.{instruction_at}
-use Rattle.cfi_harden.specs.Prepared.{PreparedParts}
-use Rattle.src_machine.specs.Beginning.{Ends}
-use Rattle.tool_objects.specs.Demonstration.{IsSourceOn}
+use Rattle.tool_objects.proofs.Prelude.{instruction_at, PreparedParts, Ends, IsSourceOn}
 use Rattle.tool_objects.proofs.Sources.{begins}
 use Rattle.tool_objects.proofs.source.source_on.Goals as goal
 

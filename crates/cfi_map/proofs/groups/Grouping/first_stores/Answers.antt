@@ -1,7 +1,6 @@
 use Rattle.std.proofs.Common.{ap, arith}
 use Rattle.std.specs.Prelude.{not}
-use Rattle.obj_program.specs.Program.{item_of}
-use Rattle.cfi_map.specs.Placement.{whole_at}
+use Rattle.cfi_map.proofs.Prelude.{item_of, whole_at}
 use Rattle.cfi_map.proofs.Greedy.{before_most, firsts_begin, firsts_end, firsts_more}
 use Rattle.cfi_map.proofs.groups.Grouping.first_stores.Goals as goal
 

@@ -1,8 +1,6 @@
 use Rattle.std.proofs.Common.{◌≡◌, length, subst}
 use Rattle.rv_image.proofs.Profiles.{is_form_profile}
-use Rattle.rv_image.specs.MemoryMap.{IsProfile}
-use Rattle.obj_program.specs.Program.{count}
-use Rattle.cfi_map.specs.GraphAtMap.{ProgramAtMap, words_at}
+use Rattle.cfi_map.proofs.Prelude.{IsProfile, count, ProgramAtMap, words_at}
 use Rattle.cfi_map.proofs.Placing.{words_kept}
 use Rattle.cfi_map.proofs.mapped.Mapped.count.Goals as goal
 

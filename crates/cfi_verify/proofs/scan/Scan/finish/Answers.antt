@@ -1,11 +1,5 @@
 use Rattle.std.proofs.Common.{◌≡◌, ◌∙◌, ap, subst, sym}
-use Rattle.rv_image.specs.MemoryMap.{Profile, profile_with}
-use Rattle.cfi_graph.specs.Graph.{GraphParts, has_leaves}
-use Rattle.cfi_verify.specs.Scan.{Scanned, Tells, numbers_in}
-use Rattle.cfi_rules.specs.Rules.{Holds, IsFirst}
-use Rattle.cfi_starts.specs.Starts.{StartParts}
-use Rattle.cfi_rules.specs.Split.{code_words}
-use Rattle.cfi_rules.specs.declared.reject.Rule.{Rule}
+use Rattle.cfi_verify.proofs.Prelude.{Profile, profile_with, GraphParts, has_leaves, Scanned, Tells, numbers_in, Holds, IsFirst, StartParts, code_words, Rule}
 use Rattle.cfi_verify.proofs.Ended.{asked, ended, is_of, told_of}
 use Rattle.cfi_starts.proofs.Laid.{saves_with}
 use Rattle.cfi_verify.proofs.scan.Scan.finish.Goals as goal

@@ -1,8 +1,5 @@
 use Rattle.std.proofs.Common.{◌∙◌, ap}
-use Rattle.rv_image.specs.declared.version.Versions.{Versions}
-use Rattle.rv_image.specs.MemoryMap.{profile_with}
-use Rattle.cfi_rules.specs.Rules.{pair_profile}
-use Rattle.cfi_verify.specs.Scan.{Pair}
+use Rattle.cfi_verify.proofs.Prelude.{Versions, profile_with, pair_profile, Pair}
 use Rattle.cfi_verify.proofs.verifier.Checked.closing.Goals as goal
 
 pub returns : goal.returns

@@ -1,9 +1,5 @@
 use Rattle.std.proofs.Common.{◌∙◌, ap, sym}
-use Rattle.rv_image.specs.declared.version.Versions.{Versions}
-use Rattle.rv_image.specs.MemoryMap.{profile_with}
-use Rattle.cfi_rules.specs.Rules.{pair_profile}
-use Rattle.cfi_verify.specs.Scan.{Pair}
-use Rattle.cfi_rules.specs.Split.{code_words, entry_of}
+use Rattle.cfi_verify.proofs.Prelude.{Versions, profile_with, pair_profile, Pair, code_words, entry_of}
 use Rattle.cfi_starts.proofs.Laid.{laid_under}
 use Rattle.cfi_verify.proofs.Told.{entry_told}
 use Rattle.cfi_verify.proofs.verifier.Checked.entry.Goals as goal

@@ -1,8 +1,6 @@
 use Rattle.std.proofs.Common.{ap, subst}
 use Rattle.rv_image.proofs.Profiles.{is_pair_profile}
-use Rattle.cfi_graph.specs.Graph.{IsGraph}
-use Rattle.cfi_rules.specs.Laws.{AreBytes}
-use Rattle.cfi_verify.specs.Scan.{Pair}
+use Rattle.cfi_verify.proofs.Prelude.{IsGraph, AreBytes, Pair}
 use Rattle.cfi_verify.proofs.verifier.Checked.is_confined.Goals as goal
 
 pub returns : goal.returns

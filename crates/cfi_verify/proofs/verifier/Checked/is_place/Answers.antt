@@ -1,11 +1,6 @@
 use Rattle.std.proofs.Common.{◌∙◌, ap, arith, sym}
 use Rattle.std.specs.Prelude.{is_some}
-use Rattle.rv_image.specs.declared.version.Versions.{Versions}
-use Rattle.rv_image.specs.MemoryMap.{profile_with}
-use Rattle.cfi_starts.specs.Entries.{starts_at}
-use Rattle.cfi_rules.specs.Rules.{pair_profile}
-use Rattle.cfi_verify.specs.Scan.{Pair}
-use Rattle.cfi_rules.specs.Split.{code_words, place_at}
+use Rattle.cfi_verify.proofs.Prelude.{Versions, profile_with, starts_at, pair_profile, Pair, code_words, place_at}
 use Rattle.cfi_starts.proofs.Laid.{laid_under}
 use Rattle.cfi_verify.proofs.IsPlace.{place_below}
 use Rattle.cfi_verify.proofs.Told.{place_told, start_told}

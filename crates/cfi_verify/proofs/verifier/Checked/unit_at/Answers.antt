@@ -1,11 +1,5 @@
 use Rattle.std.proofs.Common.{◌-◌, ◌/◌, ◌∙◌, ap, arith, drop, sym}
-use Rattle.rv_image.specs.declared.version.Versions.{Versions}
-use Rattle.rv_image.specs.MemoryMap.{CODE_START, profile_with}
-use Rattle.cfi_unit.specs.Recognise.{recognised}
-use Rattle.cfi_starts.specs.Entries.{starts_at}
-use Rattle.cfi_rules.specs.Rules.{pair_profile}
-use Rattle.cfi_verify.specs.Scan.{Pair}
-use Rattle.cfi_rules.specs.Split.{code_words, unit_at}
+use Rattle.cfi_verify.proofs.Prelude.{Versions, CODE_START, profile_with, recognised, starts_at, pair_profile, Pair, code_words, unit_at}
 use Rattle.cfi_rules.proofs.Bytes.{length-code_words}
 use Rattle.cfi_starts.proofs.Laid.{laid_under}
 use Rattle.cfi_verify.proofs.InUnits.{start_within}

@@ -1,7 +1,5 @@
 use Rattle.std.proofs.Common.{◌∙◌, ap, sym}
-use Rattle.obj_program.specs.declared.item.Item.{Item}
-use Rattle.cfi_map.specs.Groups.{is_store}
-use Rattle.cfi_writer.specs.Units.{group_at}
+use Rattle.cfi_writer.proofs.Prelude.{Item, is_store, group_at}
 use Rattle.cfi_writer.proofs.PlaceUnits.{full_unit, store_unit}
 use Rattle.cfi_writer.proofs.chosen.Chosen.full_unit.Goals as goal
 

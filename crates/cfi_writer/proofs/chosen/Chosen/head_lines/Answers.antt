@@ -1,9 +1,6 @@
 use Rattle.std.proofs.Common.{◌≡◌, ◌<◌, ◌≤◌, ◌++◌, List, ℕ, Some, length, map, ap, subst, sym, ◌∙◌, append_assoc}
 use Rattle.std.specs.Prelude.{slice_get}
-use Rattle.cfi_graph.specs.declared.line.GraphLine.{GraphLine}
-use Rattle.cfi_closed.specs.Closed.{ClosedGraph, Side}
-use Rattle.cfi_map.specs.GraphAtMap.{call_lines, class_lines, head_lines, leaf_lines_by}
-use Rattle.cfi_map.specs.LabelOf.{all_classes, tag, tagged}
+use Rattle.cfi_writer.proofs.Prelude.{GraphLine, ClosedGraph, Side, call_lines, class_lines, head_lines, leaf_lines_by, all_classes, tag, tagged}
 use Rattle.cfi_writer.proofs.LineList.{all_side_lines, first_side_lines, members_there, next_side}
 use Rattle.cfi_writer.proofs.Starts.{side_there}
 use Rattle.cfi_writer.proofs.chosen.Chosen.head_lines.Goals.{After-label_count}

@@ -1,6 +1,5 @@
 use Rattle.std.proofs.Common.{◌<◌, ◌^◌, arith, subst}
-use Rattle.cfi_map.specs.GraphAtMap.{gate}
-use Rattle.cfi_writer.specs.Units.{Choice}
+use Rattle.cfi_writer.proofs.Prelude.{gate, Choice}
 use Rattle.cfi_writer.proofs.chosen.Chosen.jump_at.Goals as goal
 
 pub overflow_add-result : goal.overflow_add-result

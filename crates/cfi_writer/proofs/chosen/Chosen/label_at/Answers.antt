@@ -1,6 +1,5 @@
 use Rattle.std.proofs.Common.{List, ℕ, Some, ap, sym, ◌∙◌}
-use Rattle.cfi_closed.specs.Closed.{ClosedGraph}
-use Rattle.cfi_map.specs.LabelOf.{label_at}
+use Rattle.cfi_writer.proofs.Prelude.{ClosedGraph, label_at}
 use Rattle.cfi_writer.proofs.SideLabels.{to_side}
 use Rattle.cfi_writer.proofs.Starts.{side_there}
 use Rattle.cfi_writer.proofs.chosen.Chosen.label_at.Goals as goal

@@ -1,6 +1,5 @@
 use Rattle.std.proofs.Common.{◌≤◌, ◌≡◌, ℕ, List, length, drop, arith, ap, subst, sym, ◌∙◌}
-use Rattle.cfi_map.specs.LabelOf.{class_count}
-use Rattle.cfi_writer.specs.Chosen.{labels_before}
+use Rattle.cfi_writer.proofs.Prelude.{class_count, labels_before}
 use Rattle.cfi_writer.proofs.Starts.{enough_behind, start_at, start_few}
 use Rattle.cfi_writer.proofs.chosen.Chosen.labels_from.Goals.{After-labels_from}
 use Rattle.cfi_writer.proofs.chosen.Chosen.labels_from.Goals as goal

@@ -1,7 +1,5 @@
 use Rattle.std.proofs.Common.{◌<◌, subst, sym, ◌∙◌}
-use Rattle.obj_program.specs.MapFit.{EndsLast}
-use Rattle.obj_program.specs.Program.{count}
-use Rattle.cfi_leads.specs.Entered.{Entered}
+use Rattle.cfi_writer.proofs.Prelude.{EndsLast, count, Entered}
 use Rattle.cfi_writer.proofs.LineList.{leaf_ends}
 use Rattle.cfi_writer.proofs.chosen.Chosen.leaf_line.Goals as goal
 

@@ -1,10 +1,5 @@
 use Rattle.std.proofs.Common.{◌∙◌, ap, sym}
-use Rattle.obj_program.specs.declared.item.Item.{Item}
-use Rattle.cfi_closed.specs.Closed.{ClosedGraph}
-use Rattle.cfi_leads.specs.Entered.{Entered}
-use Rattle.cfi_leads.specs.Leaves.{in_leaf}
-use Rattle.cfi_map.specs.Groups.{is_store}
-use Rattle.cfi_writer.specs.Units.{group_at}
+use Rattle.cfi_writer.proofs.Prelude.{Item, ClosedGraph, Entered, in_leaf, is_store, group_at}
 use Rattle.cfi_writer.proofs.PlaceUnits.{lean_unit, store_unit}
 use Rattle.cfi_writer.proofs.chosen.Chosen.lean_unit.Goals as goal
 use Rattle.cfi_writer.proofs.LeanUnits.{lean_version}

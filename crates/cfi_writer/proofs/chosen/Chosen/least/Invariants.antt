@@ -1,6 +1,5 @@
 use Rattle.std.proofs.Common.{◌≡◌, ℕ}
-use Rattle.cfi_runs.specs.Distances.{level, lowest}
-use Rattle.cfi_writer.specs.Units.{offset_at}
+use Rattle.cfi_writer.proofs.Prelude.{level, lowest, offset_at}
 use Rattle.cfi_writer.proofs.chosen.Chosen.least.Given as goal
 
 abbrev pub invariant-loop-i : goal.invariant-loop-i

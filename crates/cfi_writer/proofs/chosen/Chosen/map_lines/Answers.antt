@@ -1,6 +1,5 @@
 use Rattle.std.proofs.Common.{◌<◌, ◌≤◌, ◌++◌, ◌∷◌, [], ℕ, ap, subst, ◌∙◌}
-use Rattle.obj_program.specs.declared.item.Item.{Item}
-use Rattle.cfi_writer.specs.MapLines.{map_line}
+use Rattle.cfi_writer.proofs.Prelude.{Item, map_line}
 use Rattle.cfi_writer.proofs.PlaceLines.{all_places, next_places}
 use Rattle.cfi_writer.proofs.chosen.Chosen.map_lines.Goals as goal
 

@@ -1,6 +1,5 @@
 use Rattle.std.proofs.Common.{◌≡◌, ℕ, subst, arith}
-use Rattle.cfi_runs.specs.GroupStores.{members_from}
-use Rattle.cfi_writer.specs.Units.{member_at}
+use Rattle.cfi_writer.proofs.Prelude.{members_from, member_at}
 use Rattle.cfi_writer.proofs.GroupLoops.{all_members, few_members, inside_group, length_members, next_member}
 use Rattle.cfi_writer.proofs.chosen.Chosen.members.Goals as goal
 

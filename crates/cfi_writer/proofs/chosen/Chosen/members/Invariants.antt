@@ -1,6 +1,5 @@
 use Rattle.std.proofs.Common.{◌≡◌}
-use Rattle.cfi_runs.specs.GroupStores.{members_from}
-use Rattle.cfi_writer.specs.Units.{member_at}
+use Rattle.cfi_writer.proofs.Prelude.{members_from, member_at}
 use Rattle.cfi_writer.proofs.chosen.Chosen.members.Given as goal
 
 abbrev pub invariant-loop-i : goal.invariant-loop-i

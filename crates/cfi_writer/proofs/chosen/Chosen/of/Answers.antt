@@ -1,10 +1,5 @@
 use Rattle.std.proofs.Common.{◌≡◌, ℕ, ◌<◌, ◌^◌, Bool, List, ap, subst, sym, ◌∙◌}
-use Rattle.cfi_closed.specs.Closed.{ClosedGraph}
-use Rattle.cfi_map.specs.GraphAtMap.{ProgramAtMap}
-use Rattle.cfi_map.specs.LabelOf.{site_label}
-use Rattle.cfi_writer.specs.Chosen.{AreStarts, IsChosen}
-use Rattle.cfi_writer.specs.Hardened.{chosen}
-use Rattle.cfi_writer.specs.Units.{Choice}
+use Rattle.cfi_writer.proofs.Prelude.{ClosedGraph, ProgramAtMap, site_label, AreStarts, IsChosen, chosen, Choice}
 use Rattle.cfi_writer.proofs.Leading.{asked_small}
 use Rattle.cfi_writer.proofs.chosen.Chosen.of.Goals as goal
 

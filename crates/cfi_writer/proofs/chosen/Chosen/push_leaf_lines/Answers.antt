@@ -1,7 +1,5 @@
 use Rattle.std.proofs.Common.{◌<◌, ◌≤◌, ◌++◌, [], Option, arith, ap, ◌∙◌}
-use Rattle.obj_program.specs.Program.{count}
-use Rattle.cfi_graph.specs.declared.line.GraphLine.{GraphLine}
-use Rattle.cfi_map.specs.GraphAtMap.{leaf_lines_from, with_line}
+use Rattle.cfi_writer.proofs.Prelude.{count, GraphLine, leaf_lines_from, with_line}
 use Rattle.cfi_writer.proofs.LineList.{all_leaves, next_leaf}
 use Rattle.cfi_writer.proofs.chosen.Chosen.push_leaf_lines.Goals as goal
 

@@ -1,6 +1,5 @@
 use Rattle.std.proofs.Common.{◌++◌}
-use Rattle.obj_program.specs.Program.{count}
-use Rattle.cfi_map.specs.GraphAtMap.{leaf_lines_from}
+use Rattle.cfi_writer.proofs.Prelude.{count, leaf_lines_from}
 use Rattle.cfi_writer.proofs.LineList.{AreLeafLines}
 use Rattle.cfi_writer.proofs.chosen.Chosen.push_leaf_lines.Given as goal
 

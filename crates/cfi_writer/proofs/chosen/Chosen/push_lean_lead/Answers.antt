@@ -1,7 +1,5 @@
 use Rattle.std.proofs.Common.{arith, ap, ◌∙◌}
-use Rattle.cfi_closed.specs.Closed.{ClosedGraph, is_target}
-use Rattle.cfi_leads.specs.Entered.{Entered}
-use Rattle.cfi_leads.specs.Leads.{enters}
+use Rattle.cfi_writer.proofs.Prelude.{ClosedGraph, is_target, Entered, enters}
 use Rattle.cfi_writer.proofs.UnitList.{lean_lead, two_sides}
 use Rattle.cfi_writer.proofs.chosen.Chosen.push_lean_lead.Goals as goal
 

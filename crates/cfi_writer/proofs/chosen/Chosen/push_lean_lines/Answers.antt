@@ -1,7 +1,5 @@
 use Rattle.std.proofs.Common.{◌<◌, ◌≤◌, ◌++◌, [], Option, arith, ap, ◌∙◌}
-use Rattle.obj_program.specs.Program.{count}
-use Rattle.cfi_graph.specs.declared.line.GraphLine.{GraphLine}
-use Rattle.cfi_map.specs.GraphAtMap.{place_lines, with_line}
+use Rattle.cfi_writer.proofs.Prelude.{count, GraphLine, place_lines, with_line}
 use Rattle.cfi_writer.proofs.LineList.{all_lines, next_lines}
 use Rattle.cfi_writer.proofs.chosen.Chosen.push_lean_lines.Goals as goal
 

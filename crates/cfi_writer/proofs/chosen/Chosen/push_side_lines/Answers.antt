@@ -1,8 +1,6 @@
 use Rattle.std.proofs.Common.{◌<◌, ◌≤◌, ◌++◌, ◌∷◌, [], ℕ, length, refl, subst, ap, ◌∙◌}
 use Rattle.std.specs.Prelude.{slice_index}
-use Rattle.cfi_graph.specs.declared.line.GraphLine.TheVariants.{Class}
-use Rattle.cfi_graph.specs.declared.line.Sort.{Sort}
-use Rattle.cfi_map.specs.LabelOf.{all_classes}
+use Rattle.cfi_writer.proofs.Prelude.{Class, Sort, all_classes}
 use Rattle.cfi_writer.proofs.LineList.{all_class_lines, next_class}
 use Rattle.cfi_writer.proofs.chosen.Chosen.push_side_lines.Goals as goal
 

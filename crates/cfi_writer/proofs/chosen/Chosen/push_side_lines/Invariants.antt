@@ -1,6 +1,5 @@
 use Rattle.std.proofs.Common.{◌++◌, map}
-use Rattle.cfi_map.specs.GraphAtMap.{class_lines}
-use Rattle.cfi_map.specs.LabelOf.{all_classes, tag}
+use Rattle.cfi_writer.proofs.Prelude.{class_lines, all_classes, tag}
 use Rattle.cfi_writer.proofs.LineList.{AreClassLines}
 use Rattle.cfi_writer.proofs.chosen.Chosen.push_side_lines.Given as goal
 

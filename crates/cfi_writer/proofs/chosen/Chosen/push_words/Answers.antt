@@ -1,7 +1,6 @@
 use Rattle.std.proofs.Common.{◌++◌, ◌∷◌, [], length, ap, arith, ◌∙◌}
 use Rattle.cfi_unit.specs.declared.unit.Unit as U
-use Rattle.cfi_closed.specs.Closed.{ClosedGraph}
-use Rattle.cfi_map.specs.LabelOf.{labels_of}
+use Rattle.cfi_writer.proofs.Prelude.{ClosedGraph, labels_of}
 use Rattle.cfi_writer.proofs.SideLabels.{length-labels_of}
 use Rattle.cfi_writer.proofs.UnitList.{all_words, next_word}
 use Rattle.cfi_writer.proofs.chosen.Chosen.push_words.Goals as goal

@@ -1,6 +1,5 @@
 use Rattle.std.proofs.Common.{◌≡◌, ◌++◌, map, take}
-use Rattle.cfi_map.specs.LabelOf.{labels_of}
-use Rattle.cfi_writer.specs.Units.{lead_unit}
+use Rattle.cfi_writer.proofs.Prelude.{labels_of, lead_unit}
 use Rattle.cfi_writer.proofs.chosen.Chosen.push_words.Given as goal
 
 abbrev pub invariant-loop-j : goal.invariant-loop-j

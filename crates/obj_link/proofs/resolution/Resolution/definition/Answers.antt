@@ -1,10 +1,6 @@
 use Rattle.std.proofs.Common.{◌≡◌, ◌+◌, length, ap, ◌∙◌, arith, ℕ, List}
-use Rattle.obj_input.specs.declared.parts.Definition.{Definition}
-use Rattle.obj_join.specs.Stands.{definition}
-use Rattle.obj_join.specs.Numbers.{by}
+use Rattle.obj_link.proofs.Prelude.{Definition, definition, by, ResolutionParts, said_by}
 use Rattle.obj_join.proofs.Listing.{length-listed}
-use Rattle.obj_link.specs.Resolution.{ResolutionParts}
-use Rattle.obj_link.specs.SaidOf.{said_by}
 use Rattle.obj_link.proofs.resolution.Resolution.definition.Goals as goal
 
 pub definition_at-requires : goal.definition_at-requires

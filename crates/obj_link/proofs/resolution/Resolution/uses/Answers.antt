@@ -1,11 +1,5 @@
 use Rattle.std.proofs.Common.{ap, ◌∙◌, arith, ℕ, List}
-use Rattle.elf_tables.specs.declared.entry.Reloc.{Reloc}
-use Rattle.elf_tables.specs.Relocation.{relocation_in}
-use Rattle.obj_join.specs.Said.{use_behind}
-use Rattle.obj_join.specs.SaidInput.{use_of}
-use Rattle.obj_join.specs.Numbers.{by}
-use Rattle.obj_link.specs.Sections.{use_said, use_said_at}
-use Rattle.obj_link.specs.SaidOf.{said_by}
+use Rattle.obj_link.proofs.Prelude.{Reloc, relocation_in, use_behind, use_of, by, use_said, use_said_at, said_by}
 use Rattle.obj_link.proofs.Sectioned.{made_more, made_none}
 use Rattle.obj_link.proofs.Whole.{symbol_there}
 use Rattle.obj_link.proofs.resolution.Resolution.uses.Goals as goal

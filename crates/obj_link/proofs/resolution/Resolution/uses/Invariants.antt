@@ -1,10 +1,5 @@
 use Rattle.std.proofs.Common.{◌≡◌, map}
-use Rattle.obj_input.specs.Listed.{listed}
-use Rattle.obj_join.specs.Said.{use_behind}
-use Rattle.obj_join.specs.SaidInput.{use_of}
-use Rattle.obj_join.specs.Numbers.{by}
-use Rattle.obj_link.specs.Sections.{use_said_at}
-use Rattle.obj_link.specs.SaidOf.{said_by}
+use Rattle.obj_link.proofs.Prelude.{listed, use_behind, use_of, by, use_said_at, said_by}
 use Rattle.obj_link.proofs.resolution.Resolution.uses.Given as goal
 
 abbrev pub invariant-loop-j : goal.invariant-loop-j
