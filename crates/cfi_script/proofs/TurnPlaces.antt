@@ -41,6 +41,7 @@ module _ (turns : Turns) (index before : ℕ) (after : ComesAfter turns index be
   -- the turn, with the number of steps before the next one, or as many as a number of 64 bits tells
   pub with_end : (end : ℕ) → index < length turns → end ≤ before + turn.1 → (end + 1 < 2 ^ 64 → end ≡ before + turn.1) → IsTurnAt turns index before end
   with_end end there short exact = record {
+    within = omega arith;
     after = after;
     own = λ step from below. here step from there (omega (arith, from, below, short));
     next = λ _ fits. subst (λ (n : ℕ). ComesAfter turns (index + 1) n) (sym (exact fits)) (next_turn there);

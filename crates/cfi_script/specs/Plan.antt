@@ -14,11 +14,10 @@ abbrev pub IsQuietPlan : ℕ → ℕ → Plan → Type 0
 IsQuietPlan from next plan =
     (step : ℕ) → from ≤ step → step < next → (count : ℕ) (harts : Harts) (shared : Shared) → plan.changes step count harts shared ≡ []
 
--- the hart that takes the step after `from` steps takes each one after fewer than `next` steps too, whatever the states
-abbrev pub IsOneHart : ℕ → ℕ → Plan → Type 0
-IsOneHart from next plan =
-    (step : ℕ) → from ≤ step → step < next → (count : ℕ) (harts before : Harts) (shared first : Shared)
-    → plan.hart step count harts shared ≡ plan.hart from count before first
+-- of so many harts, this one takes each step after more than `from` steps, but fewer than `next`, whatever the states
+abbrev pub IsOneHart : ℕ → ℕ → ℕ → ℕ → Plan → Type 0
+IsOneHart from next count hart plan =
+    (step : ℕ) → from < step → step < next → (harts : Harts) (shared : Shared) → plan.hart step count harts shared ≡ hart
 
 -- a step that is planned: the hart that takes it, and the changes before it
 abbrev pub Planned : Type 0

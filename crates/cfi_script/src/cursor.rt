@@ -1,6 +1,6 @@
-ghost use Rattle.std.specs.Prelude.{◌≡◌, ◌≤◌, ◌<◌, ℕ, get_or};
+ghost use Rattle.std.specs.Prelude.{◌≡◌, ◌≤◌, ◌<◌, ◌+◌, ◌-◌, ◌^◌, get_or, length, min, nat_lt, if◌then◌else◌};
 ghost use Rattle.cfi_script.specs.Turns.{hart_in_turn};
-ghost use Rattle.cfi_script.specs.TurnPlace.{ComesAfter, IsTurnAt};
+ghost use Rattle.cfi_script.specs.TurnPlace.{ComesAfter, IsTurnAt, IsTurnOf};
 
 /// Where a script is among its turns: the index of a turn, how many steps come before it, and how many before the next one,
 /// or the greatest number.
@@ -13,9 +13,12 @@ pub(crate) struct Cursor {
 
 /// At the turn with an index, which comes after so many steps.
 fn turn_at(turns: &[(u8, u64)], index: usize, before: u64) -> Cursor
-    requires { ComesAfter turns.now index before }
+    requires within { index ≤ length turns.now }
+    requires after { ComesAfter turns.now index before }
     ensures turn { IsTurnAt turns.now result.index result.before result.end }
     ensures index { result.index ≡ index }
+    ensures before { result.before ≡ before }
+    ensures end { result.end ≡ if nat_lt index (length turns.now) then min (before + (get_or turns.now index (0, 0)).1) (2 ^ 64 - 1) else 2 ^ 64 - 1 }
 {
     if index < turns.len() {
         Cursor {
@@ -39,21 +42,22 @@ pub(crate) fn at_first(turns: &[(u8, u64)]) -> Cursor
     turn_at(turns, 0, 0)
 }
 
-/// Goes on to the turn of the step after `step` steps, past the last turn where that is none's, and gives its hart. Where the
-/// next turn begins with that step, nothing is searched.
+/// Goes on to the turn of the step after `step` steps, past the last turn where that is none's: gives its hart, and the number
+/// of steps before the next turn. Where the next turn begins with that step, nothing is searched.
 #[inline(always)]
-pub(crate) fn turn_to(turns: &[(u8, u64)], cursor: &mut Cursor, step: u64) -> u8
+pub(crate) fn turn_to(turns: &[(u8, u64)], cursor: &mut Cursor, step: u64) -> (u8, u64)
     requires { IsTurnAt turns.now cursor.old.index cursor.old.before cursor.old.end }
     ensures turn { IsTurnAt turns.now cursor.new.index cursor.new.before cursor.new.end }
-    ensures hart { result ≡ hart_in_turn turns.now step }
+    ensures hart { IsTurnOf turns.now step result }
 {
-    if step == cursor.end && step < u64::MAX && cursor.index < turns.len() {
+    if step == cursor.end && step < u64::MAX {
         let next = cursor.index + 1;
         if next < turns.len() && turns[next].1 > 0 {
+            let end = step.saturating_add(turns[next].1);
             cursor.index = next;
             cursor.before = step;
-            cursor.end = step.saturating_add(turns[next].1);
-            return turns[next].0;
+            cursor.end = end;
+            return (turns[next].0, end);
         }
     }
     search(turns, cursor, step)
@@ -61,14 +65,14 @@ pub(crate) fn turn_to(turns: &[(u8, u64)], cursor: &mut Cursor, step: u64) -> u8
 
 /// The same by a search.
 #[inline(never)]
-fn search(turns: &[(u8, u64)], cursor: &mut Cursor, step: u64) -> u8
+fn search(turns: &[(u8, u64)], cursor: &mut Cursor, step: u64) -> (u8, u64)
     requires { IsTurnAt turns.now cursor.old.index cursor.old.before cursor.old.end }
     ensures turn { IsTurnAt turns.now cursor.new.index cursor.new.before cursor.new.end }
-    ensures hart { result ≡ hart_in_turn turns.now step }
+    ensures hart { IsTurnOf turns.now step result }
 {
     let found = searched(turns, *cursor, step);
     *cursor = found;
-    hart_at(turns, found.index)
+    (hart_at(turns, found.index), found.end)
 }
 
 /// The turn of the step after `step` steps; past the last turn where that is none's. From a step before the cursor it goes
@@ -76,6 +80,8 @@ fn search(turns: &[(u8, u64)], cursor: &mut Cursor, step: u64) -> u8
 fn searched(turns: &[(u8, u64)], cursor: Cursor, step: u64) -> Cursor
     requires { IsTurnAt turns.now cursor.index cursor.before cursor.end }
     ensures turn { IsTurnAt turns.now result.index result.before result.end }
+    ensures reached { result.before ≤ step }
+    ensures more { step + 1 < 2 ^ 64 → step < result.end }
     ensures there { hart_in_turn turns.now step ≡ (get_or turns.now result.index (0, 0)).0 }
 {
     let mut index = 0;
@@ -100,13 +106,4 @@ fn hart_at(turns: &[(u8, u64)], index: usize) -> u8
     } else {
         0
     }
-}
-
-/// The number of steps before the turn after the cursor's; the greatest number past the last turn.
-pub(crate) fn end_of_turn(turns: &[(u8, u64)], cursor: Cursor) -> u64
-    requires { IsTurnAt turns.now cursor.index cursor.before cursor.end }
-    ensures { (step : ℕ) → cursor.before ≤ step → step < result → hart_in_turn turns.now step ≡ (get_or turns.now cursor.index (0, 0)).0 }
-{
-    let _ = turns;
-    cursor.end
 }

@@ -1,4 +1,4 @@
-ghost use Rattle.std.specs.Prelude.{◌≡◌, ◌<◌, ◌++◌, length, OnOk, OnErr};
+ghost use Rattle.std.specs.Prelude.{◌≡◌, ◌<◌, ◌+◌, ◌^◌, ◌++◌, length, OnOk, OnErr};
 ghost use Rattle.rv_machine.specs.Harts.{harts_in, harts_share};
 ghost use Rattle.cfi_script.specs.Plan.{IsOneHart, IsQuietPlan, Plan};
 
@@ -27,12 +27,17 @@ pub trait Meddler {
         step
     }
 
-    /// The number of steps up to which it is known without a look at the state that the hart of the step
-    /// after `step` steps takes them all. `step` itself is always right, as above.
-    fn one_hart_until(&self, step: u64) -> u64
-        ensures { IsOneHart step result (plan self.now) }
+    /// The hart that takes the next step, as `hart` answers it, and a number of steps, more than `step`, up to which it is
+    /// known without a look at the state that it takes them all. `step + 1` is always right, as above.
+    fn turn(&mut self, step: u64, seen: &Machine) -> (u8, u64)
+        requires { step + 1 < 2 ^ 64 }
+        ensures answered { result.0 ≡ (plan self.old).hart step (length seen.now.resting) (harts_in seen.now) (harts_share seen.now) }
+        ensures below { result.0 < length seen.now.resting }
+        ensures until { IsOneHart step result.1 (length seen.now.resting) result.0 (plan self.old) }
+        ensures more { step < result.1 }
+        ensures kept { self.new ≡ self.old }
     {
-        step
+        (self.hart(step, seen), step + 1)
     }
 
     /// Appends the changes that come before the next step, `step` being the number of steps taken. A

@@ -1,9 +1,9 @@
 ghost use Rattle.std.specs.Prelude.{◌≡◌, ◌++◌, ◌==◌, ◌≤◌, ◌<◌, List, [], get_or, length, map, true, OnOk, OnErr, IfOk};
 ghost use Rattle.std.specs.List.{All, filter};
-ghost use Rattle.cfi_script.specs.Script.{IsScript, script_plan};
+ghost use Rattle.cfi_script.specs.Script.{IsScript, hart_below, script_plan};
 ghost use Rattle.cfi_script.specs.Quiet.{IsQuiet};
 
-use crate::cursor::{Cursor, at_first, end_of_turn, turn_to};
+use crate::cursor::{Cursor, at_first, turn_to};
 use crate::meddler::Meddler;
 use rv_machine::{Change, Machine};
 use rv_word::NoMemory;
@@ -154,27 +154,31 @@ fn next_from(changes: &[(u64, Change)], from: u64) -> u64
     }
 }
 
+/// A machine's hart with a number; hart 0 where it has none with it.
+fn hart_of(seen: &Machine, hart: u8) -> u8
+    ensures hart { result ≡ hart_below (length seen.now.resting) hart }
+    ensures below { result < length seen.now.resting }
+{
+    if hart < seen.harts() { hart } else { 0 }
+}
+
 impl Meddler for Script {
     ghost use Rattle.cfi_script.specs.Script.{script_plan};
 
     ghost plan = { λ s. script_plan s };
 
     fn hart(&mut self, step: u64, seen: &Machine) -> u8 {
-        let hart = turn_to(self.turns.as_slice(), &mut self.cursor, step);
-        if hart < seen.harts() { hart } else { 0 }
+        let (hart, _) = turn_to(self.turns.as_slice(), &mut self.cursor, step);
+        hart_of(seen, hart)
+    }
+
+    fn turn(&mut self, step: u64, seen: &Machine) -> (u8, u64) {
+        let (hart, until) = turn_to(self.turns.as_slice(), &mut self.cursor, step);
+        (hart_of(seen, hart), until)
     }
 
     fn quiet_until(&self, step: u64) -> u64 {
         if self.from <= step { self.next } else { step }
-    }
-
-    fn one_hart_until(&self, step: u64) -> u64 {
-        let end = end_of_turn(self.turns.as_slice(), self.cursor);
-        if self.cursor.before <= step && step < end {
-            end
-        } else {
-            step
-        }
     }
 
     fn meddle(

@@ -1,5 +1,5 @@
 -- A run that is under way: what is left of it leads to what the whole leads to.
-use Rattle.std.proofs.Common.{◌≡◌, ◌<◌, ◌==◌, ℕ, suc, ◌+◌, ◌-◌, Bool, true, false, List, [], ◌∷◌, ◌++◌, length, map, Option, Some, None, refl, sym, ◌∙◌, ap, subst, arith, append_assoc, append-nil, eq-eqb}
+use Rattle.std.proofs.Common.{◌≡◌, ◌≤◌, ◌<◌, ◌==◌, ℕ, suc, ◌+◌, ◌-◌, Bool, true, false, List, [], ◌∷◌, ◌++◌, length, map, Option, Some, None, refl, sym, ◌∙◌, ap, subst, arith, append_assoc, append-nil, eq-eqb}
 use Rattle.std.specs.Prelude.{slice_get}
 use Rattle.std.specs.List.{AllByRecursion}
 use Rattle.std.proofs.lemmas.List.{length-append}
@@ -19,7 +19,7 @@ use Rattle.cfi_rules.specs.Walks.{if_own, if_starts, walk_of}
 use Rattle.cfi_script.specs.Plan.{Plan, Planned, harts_of, numbered, planned, step_of, steps_of}
 use Rattle.cfi_step.specs.Report.{end_of, break_at}
 use Rattle.rv_code.specs.SameMachine.{IsSameMachine}
-use Rattle.cfi_step.specs.Running.{is_stop, AreNoted, IsOver, StaysFrom, trails_of}
+use Rattle.cfi_step.specs.Running.{is_stop, AreNoted, IsOver, StaysFrom}
 use Rattle.cfi_step.specs.Taken.{AreTurnsOf}
 use Rattle.cfi_step.specs.Trail.{IsTrailOf, TrailParts}
 use Rattle.cfi_step.specs.declared.report.RunEnd.{RunEnd}
@@ -129,21 +129,21 @@ module _ (p : Profile) (image : Contents) (count : ℕ) (harts : Harts) (s : Sha
       subst (λ (turn : Turn). AllByRecursion (IsInPlace p words) (trail_of p words k (newer k) (if_ran turn (steps_taken p then.harts then.shared steps)))) ran
       (rest_in (IsInPlace p words) (t.0 == k) (begin_of k) (trail_of p words k (newer k) (if_ran then.turn (steps_taken p then.harts then.shared steps))) (begun steps all k))
 
-  pub may_end : (place : Place) × MayEnd place pc then.turn
-  may_end =
+  -- the step's own instruction is in its place
+  pub own_in_place : IsInPlace p words (begin_of t.0)
+  own_in_place =
       let own = subst (λ (b : Bool). AllByRecursion (IsInPlace p words) (if_own_begin b (begin_of t.0) (trail_of p words t.0 (newer t.0) (if_ran then.turn (steps_taken p then.harts then.shared []))))) (eq-eqb t.0 t.0 refl) (begun [] tt t.0) in
-      let (place, there, word, ends) = own.0 in
-      (place, ends)
+      own.0
+
+  pub has_end : (result : RunAfter) → result ≡ then → (end : RunEnd) × (end_of result.turn ≡ Some end)
+  has_end result e =
+      let (place, there, word, may) = own_in_place in
+      subst (λ (a : RunAfter). (end : RunEnd) × (end_of a.turn ≡ Some end)) (sym e) (named place pc then.turn may)
 
   pub stays_next : (result : RunAfter) → result ≡ then → is_stop result.turn ≡ false → (at : ℕ → ℕ) × StaysFrom p image count at result.harts result.shared
   stays_next result e on =
       subst (λ (a : RunAfter). is_stop a.turn ≡ false → (at : ℕ → ℕ) × StaysFrom p image count at a.harts a.shared) (sym e)
       (λ goes. (newer, stays_here (ran_of then.turn goes))) on
-
-  pub has_end : (result : RunAfter) → result ≡ then → (end : RunEnd) × (end_of result.turn ≡ Some end)
-  has_end result e =
-      let (place, may) = may_end in
-      subst (λ (a : RunAfter). (end : RunEnd) × (end_of a.turn ≡ Some end)) (sym e) (named place pc then.turn may)
 
 -- ---- the next step
 
@@ -153,7 +153,7 @@ pub record Took (q p : Profile) (image : Contents) (count : ℕ) (t : Planned) (
   pub allowed : IsStepOf count (step_of t)
   pub made : after.made ≡ before.made ++ map (λ c. (k, c)) t.1
   pub taken : (harts : List ℕ) → length harts ≡ k → AreTurnsOf harts before.taken → AreTurnsOf (harts ++ t.0 ∷ []) after.taken
-  pub noted : AreNoted p (code_words image.code) t.0 (harts_in before.machine t.0).pc (trails_of before) (trails_of after)
+  pub noted : AreNoted p (code_words image.code) t.0 (harts_in before.machine t.0).pc before.trails.items after.trails.items
 
 abbrev pub step_at : Plan → ℕ → ℕ → Running → Planned
 step_at plan k count before = (plan.hart k count (harts_in before.machine) (harts_share before.machine), plan.changes k count (harts_in before.machine) (harts_share before.machine))
@@ -214,12 +214,12 @@ module _ (p : Profile) (image : Contents) (count : ℕ) (harts0 : Harts) (s0 : S
   unfolding planned
   planned_on ran = ap (λ turn. t ∷ if_ran turn later) ran
 
-  next_here : Continues p image count harts0 s0 whole k harts s (planned p plan count k harts s (suc n)) before.made before.taken (trails_of before)
+  next_here : Continues p image count harts0 s0 whole k harts s (planned p plan count k harts s (suc n)) before.made before.taken before.trails.items
       → reached.turn ≡ Ran → Took p p image count t k before after turn
-      → Continues p image count harts0 s0 whole (k + 1) reached.harts reached.shared later after.made after.taken (trails_of after)
+      → Continues p image count harts0 s0 whole (k + 1) reached.harts reached.shared later after.made after.taken after.trails.items
   unfolding numbered
   next_here continues ran took =
-      let here : Continues p image count harts0 s0 whole k harts s (t ∷ later) before.made before.taken (trails_of before) = rw (planned_on ran) at continues in
+      let here : Continues p image count harts0 s0 whole k harts s (t ∷ later) before.made before.taken before.trails.items = rw (planned_on ran) at continues in
       let (front, len, turns, all_turns) = here.turns in
       record {
         steps = omega (arith, here.steps);
@@ -252,24 +252,24 @@ module _ (p : Profile) (image : Contents) (count : ℕ) (harts0 : Harts) (s0 : S
 
   -- the step ran: the run goes on
   pub next : (limit : ℕ) → limit - k ≡ suc n → is_stop turn ≡ false
-      → Continues p image count harts0 s0 whole k harts s (planned p plan count k harts s (limit - k)) before.made before.taken (trails_of before)
+      → Continues p image count harts0 s0 whole k harts s (planned p plan count k harts s (limit - k)) before.made before.taken before.trails.items
       → Took p p image count t k before after turn
-      → Continues p image count harts0 s0 whole (k + 1) (harts_in after.machine) (harts_share after.machine) (planned p plan count (k + 1) (harts_in after.machine) (harts_share after.machine) n) after.made after.taken (trails_of after)
+      → Continues p image count harts0 s0 whole (k + 1) (harts_in after.machine) (harts_share after.machine) (planned p plan count (k + 1) (harts_in after.machine) (harts_share after.machine) n) after.made after.taken after.trails.items
   next limit left on continues took =
-      let here : Continues p image count harts0 s0 whole k harts s (planned p plan count k harts s (suc n)) before.made before.taken (trails_of before) = rw left at continues in
-      subst (λ (a : RunAfter). is_stop a.turn ≡ false → Continues p image count harts0 s0 whole (k + 1) a.harts a.shared (planned p plan count (k + 1) a.harts a.shared n) after.made after.taken (trails_of after)) (sym took.stepped)
+      let here : Continues p image count harts0 s0 whole k harts s (planned p plan count k harts s (suc n)) before.made before.taken before.trails.items = rw left at continues in
+      subst (λ (a : RunAfter). is_stop a.turn ≡ false → Continues p image count harts0 s0 whole (k + 1) a.harts a.shared (planned p plan count (k + 1) a.harts a.shared n) after.made after.taken after.trails.items) (sym took.stepped)
       (λ goes. next_here here (ran_of reached.turn goes) took) on
 
   -- the step stopped the run
   pub stopped : (limit : ℕ) → limit - k ≡ suc n → (end : RunEnd) → is_stop turn ≡ true
-      → Continues p image count harts0 s0 whole k harts s (planned p plan count k harts s (limit - k)) before.made before.taken (trails_of before)
-      → Took p p image count t k before after turn → length after.resting.items ≡ count → after.taken.hart < count
+      → Continues p image count harts0 s0 whole k harts s (planned p plan count k harts s (limit - k)) before.made before.taken before.trails.items
+      → Took p p image count t k before after turn → length after.trails.items ≡ count → after.taken.hart < count → after.taken.since ≤ k + 1
       → end_of turn ≡ Some end
       → IsOver p image count harts0 s0 whole end (k + 1) after
   unfolding numbered
-  stopped limit left end stop continues took each last is_end =
+  stopped limit left end stop continues took each last since is_end =
       let halts : is_stop reached.turn ≡ true = ap (λ (a : RunAfter). is_stop a.turn) (sym took.stepped) ∙ stop in
-      let here : Continues p image count harts0 s0 whole k harts s (t ∷ []) before.made before.taken (trails_of before) = rw (left, planned_stop halts) at continues in
+      let here : Continues p image count harts0 s0 whole k harts s (t ∷ []) before.made before.taken before.trails.items = rw (left, planned_stop halts) at continues in
       let final : run p harts0 s0 (steps_of whole) ≡ run_after after.machine turn = here.final ∙ run_stop halts ∙ sym took.stepped in
       let (front, len, turns, all_turns) = here.turns in
       record {
@@ -279,6 +279,7 @@ module _ (p : Profile) (image : Contents) (count : ℕ) (harts0 : Harts) (s0 : S
         events = ap (λ (a : RunAfter). a.shared.events) (sym final);
         made = took.made ∙ none_after before.made (map (λ c. (k, c)) t.1) ∙ sym here.changes;
         taken = subst (λ (harts : List ℕ). AreTurnsOf harts after.taken) (sym all_turns) (took.taken front len turns);
+        since = since;
         each = each;
         last = last;
         walks = λ j now there.
@@ -291,12 +292,12 @@ module _ (p : Profile) (image : Contents) (count : ℕ) (harts0 : Harts) (s0 : S
 -- no step is left
 pub all_taken : (p : Profile) (image : Contents) (count : ℕ) (harts0 : Harts) (s0 : Shared) (whole : List Planned) (plan : Plan) (k limit : ℕ) (running : Running)
     → limit - k ≡ 0
-    → Continues p image count harts0 s0 whole k (harts_in running.machine) (harts_share running.machine) (planned p plan count k (harts_in running.machine) (harts_share running.machine) (limit - k)) running.made running.taken (trails_of running)
-    → length running.resting.items ≡ count → running.taken.hart < count
+    → Continues p image count harts0 s0 whole k (harts_in running.machine) (harts_share running.machine) (planned p plan count k (harts_in running.machine) (harts_share running.machine) (limit - k)) running.made running.taken running.trails.items
+    → length running.trails.items ≡ count → running.taken.hart < count → running.taken.since ≤ k
     → IsOver p image count harts0 s0 whole ends.Limit k running
 unfolding planned run walk_of steps_taken numbered
-all_taken p image count harts0 s0 whole plan k limit running left continues each last =
-    let here : Continues p image count harts0 s0 whole k (harts_in running.machine) (harts_share running.machine) [] running.made running.taken (trails_of running) = rw left at continues in
+all_taken p image count harts0 s0 whole plan k limit running left continues each last since =
+    let here : Continues p image count harts0 s0 whole k (harts_in running.machine) (harts_share running.machine) [] running.made running.taken running.trails.items = rw left at continues in
     let (front, len, turns, all_turns) = here.turns in
     record {
       ending = ap (λ (a : RunAfter). end_of a.turn) here.final;
@@ -305,6 +306,7 @@ all_taken p image count harts0 s0 whole plan k limit running left continues each
       events = ap (λ (a : RunAfter). a.shared.events) (sym here.final);
       made = sym (append-nil running.made) ∙ sym here.changes;
       taken = subst (λ (harts : List ℕ). AreTurnsOf harts running.taken) (sym (all_turns ∙ append-nil front)) turns;
+      since = since;
       each = each;
       last = last;
       walks = λ j now there.

@@ -1,5 +1,6 @@
 mod Changes
 mod Continues
+mod InCode
 mod InTurns
 mod Noting
 mod PairProfile

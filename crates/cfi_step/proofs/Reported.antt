@@ -1,13 +1,13 @@
 -- How a run begins, and what its report says when it is over.
-use Rattle.std.proofs.Common.{◌≡◌, ◌<◌, ℕ, List, [], ◌∷◌, length, map, Some, refl, sym, ◌∙◌, ap, subst, arith}
+use Rattle.std.proofs.Common.{◌≡◌, ◌<◌, ℕ, List, [], ◌∷◌, length, map, None, Some, refl, sym, ◌∙◌, ap, subst, arith}
 use Rattle.std.specs.Prelude.{slice_get}
 use Rattle.std.specs.List.{All}
-use Rattle.std.proofs.lemmas.List.{length-map, length-set}
+use Rattle.std.proofs.lemmas.List.{length-map}
 use Rattle.std.proofs.lemmas.Option.{slice_get-map}
 use Rattle.rv_image.specs.Image.{Contents}
 use Rattle.rv_image.specs.MemoryMap.{MayRun, Profile, profile_of}
 use Rattle.rv_word.proofs.Cases.{mapped}
-use Rattle.rv_code.specs.State.{Harts, Shared, start_hart, start_shared}
+use Rattle.rv_code.specs.State.{Harts, Shared, last_exit, start_hart, start_shared}
 use Rattle.rv_machine.specs.Harts.{harts_in, harts_share}
 use Rattle.cfi_graph.specs.Graph.{GraphParts}
 use Rattle.cfi_unit.specs.Prologue.{OPENING}
@@ -22,7 +22,7 @@ use Rattle.cfi_script.specs.Plan.{Plan, Planned, harts_of, numbered, planned, st
 use Rattle.cfi_script.specs.Turns.{turns_of}
 use Rattle.cfi_step.specs.Report.{AreWalked, IsReport, IsWalkOf, stopping_hart}
 use Rattle.rv_code.specs.SameMachine.{IsSameMachine}
-use Rattle.cfi_step.specs.Running.{IsBegun, IsOver, StaysFrom, trails_of}
+use Rattle.cfi_step.specs.Running.{IsBegun, IsOver, StaysFrom}
 use Rattle.cfi_step.specs.Taken.{AreTurnsOf}
 use Rattle.cfi_step.specs.Trail.{IsTrailOf, told_of}
 use Rattle.cfi_step.specs.declared.report.HartWalk.{HartWalk}
@@ -33,19 +33,21 @@ use Rattle.cfi_step.specs.declared.running.Running.{Running}
 -- a run of a safe pair that is to begin
 pub begins : (p : Profile) (image : Contents) (graph : GraphParts) (input : List ℕ) (count : ℕ) (running : Running) → IsSafe p image graph → MayRun p count
     → length running.machine.resting ≡ count → harts_in running.machine ≡ start_hart → harts_share running.machine ≡ start_shared image input
-    → IsSameMachine (profile_of running.machine.processor.memory.version) p → running.made ≡ [] → AreTurnsOf [] running.taken → running.taken.hart ≡ 0
-    → running.machine.current ≡ 0 → length running.resting.items ≡ count → All (IsTrailOf []) (trails_of running) → running.quiet ≡ 0 → running.still ≡ 0 → IsBegun p image running
-begins p image graph input count running safe may counted harts shared profile made taken last current each empty quiet still = record {
+    → IsSameMachine (profile_of running.machine.processor.memory.version) p → running.made ≡ [] → AreTurnsOf [] running.taken → running.taken.hart ≡ 0 → running.taken.since ≡ 0
+    → running.machine.current ≡ 0 → length running.trails.items ≡ count → All (IsTrailOf []) running.trails.items → running.quiet ≡ 0
+    → last_exit (harts_share running.machine).events ≡ None → IsBegun p image running
+begins p image graph input count running safe may counted harts shared profile made taken last since current each empty quiet going = record {
   profile = profile;
   made = made;
   taken = taken;
   last = last;
+  since = since;
   current = current;
   some = omega (arith, may.some, counted);
   each = each ∙ sym counted;
   empty = empty;
   quiet = quiet;
-  still = still;
+  going = going;
   stays = (
     λ k. 0,
     subst (λ (n : ℕ). StaysFrom p image n (λ k. 0) (harts_in running.machine) (harts_share running.machine)) (sym counted)
@@ -72,7 +74,7 @@ pub record Tells (end : RunEnd) (k : ℕ) (after : Running) (report : RunReport)
   pub output : report.output ≡ after.machine.processor.calls.output
   pub events : report.events ≡ after.machine.processor.calls.events
   pub made : report.made ≡ after.made
-  pub walks : report.walks ≡ map told_of (trails_of after)
+  pub walks : report.walks ≡ map told_of after.trails.items
 
 module _ (p : Profile) (image : Contents) (input : List ℕ) (count : ℕ) (whole : List Planned) (end : RunEnd) (k : ℕ) (after : Running) (report : RunReport)
     (over : IsOver p image count start_hart (start_shared image input) whole end k after) (tells : Tells end k after report) where
@@ -85,8 +87,8 @@ module _ (p : Profile) (image : Contents) (input : List ℕ) (count : ℕ) (whol
   walk_told : (j : ℕ) (told : HartWalk) → slice_get report.walks j ≡ Some told
       → IsWalkOf (walk_of p (code_words image.code) j (steps_taken p start_hart (start_shared image input) (steps_of whole))) told
   walk_told j told at =
-      let there : slice_get (map told_of (trails_of after)) j ≡ Some told = rw tells.walks at at in
-      let (t, first, is) = mapped told_of (slice_get (trails_of after) j) told (sym (slice_get-map told_of (trails_of after) j) ∙ there) in
+      let there : slice_get (map told_of after.trails.items) j ≡ Some told = rw tells.walks at at in
+      let (t, first, is) = mapped told_of (slice_get after.trails.items j) told (sym (slice_get-map told_of after.trails.items j) ∙ there) in
       let trail = over.walks j t first in
       subst (λ (w : HartWalk). IsWalkOf (walk_of p (code_words image.code) j (steps_taken p start_hart (start_shared image input) (steps_of whole))) w) is
       (record { walk = trail.0; trail = trail.1 })
@@ -100,7 +102,7 @@ module _ (p : Profile) (image : Contents) (input : List ℕ) (count : ℕ) (whol
     output = tells.output ∙ over.output;
     events = tells.events ∙ over.events;
     made = all_made;
-    harts = ap length tells.walks ∙ length-map (trails_of after) told_of ∙ length-set after.resting.items after.taken.hart after.trail ∙ over.each;
+    harts = ap length tells.walks ∙ length-map after.trails.items told_of ∙ over.each;
     walks = walk_told;
   }
 

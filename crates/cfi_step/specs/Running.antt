@@ -1,11 +1,11 @@
 -- What a run that is under way comes to, from the state at which it began. Only private contracts cite this.
-use Rattle.std.specs.Prelude.{◌≡◌, ◌≤◌, ◌<◌, ◌+◌, ◌==◌, ℕ, Bool, true, false, List, [], ◌∷◌, ◌++◌, length, map, slice_get, slice_set, Some}
+use Rattle.std.specs.Prelude.{◌≡◌, ◌≤◌, ◌<◌, ◌+◌, ◌==◌, ℕ, Bool, true, false, List, [], ◌∷◌, ◌++◌, length, map, slice_get, Some, None}
 use Rattle.std.specs.List.{All, AllByRecursion}
 use Rattle.rv_image.specs.Image.{Contents}
 use Rattle.rv_image.specs.MemoryMap.{Profile, profile_of}
 use Rattle.rv_code.specs.SameMachine.{IsSameMachine}
 use Rattle.rv_code.specs.Run.{HartStep, IsDataChange, disturbed, run}
-use Rattle.rv_code.specs.State.{Harts, Shared}
+use Rattle.rv_code.specs.State.{Harts, Shared, last_exit}
 use Rattle.rv_code.specs.declared.turn.Turn.{Turn}
 use Rattle.rv_code.specs.declared.turn.Turn.TheVariants.{Ran, Exit, Break, LoadFault, StoreFault, FetchFault, Illegal}
 use Rattle.rv_machine.specs.Harts.{MachineParts, harts_in, harts_share}
@@ -38,11 +38,6 @@ StaysFrom p image count newest harts s =
     (steps : List HartStep) → AreStepsOf count steps → (k : ℕ)
     → AllByRecursion (IsInPlace p (code_words image.code)) (trail_of p (code_words image.code) k (newest k) (steps_taken p harts s steps))
 
--- the trails of all harts: that of the hart that took the last step stands apart, and what stands at its place says
--- nothing
-abbrev pub trails_of : Running → List TrailParts
-trails_of running = slice_set running.resting.items running.taken.hart running.trail
-
 -- what a plan has for the next step of a machine
 abbrev pub hart_in_plan : Plan → ℕ → MachineParts → ℕ
 hart_in_plan plan step m = plan.hart step (length m.resting) (harts_in m) (harts_share m)
@@ -64,17 +59,18 @@ IsStill from next plan count hart =
 -- than steps were taken, and what is known of the plan
 pub record IsReady (plan : Plan) (steps : ℕ) (running : Running) : Type 0 where
   pub last : running.taken.hart < length running.machine.resting
+  pub since : running.taken.since ≤ steps
   pub current : running.machine.current ≡ running.taken.hart
-  pub each : length running.resting.items ≡ length running.machine.resting
-  pub walked : (k : ℕ) (t : TrailParts) → slice_get (trails_of running) k ≡ Some t → t.count ≤ steps
+  pub each : length running.trails.items ≡ length running.machine.resting
+  pub walked : (k : ℕ) (t : TrailParts) → slice_get running.trails.items k ≡ Some t → t.count ≤ steps
   pub quiet : IsQuietPlan steps running.quiet plan
-  pub still : IsStill steps running.still plan (length running.machine.resting) running.taken.hart
 
 -- the hart of the next step is chosen and selected, and the changes before it are made
 pub record IsPrepared (plan : Plan) (step : ℕ) (before after : Running) : Type 0 where
   pub hart : after.taken.hart ≡ hart_in_plan plan step before.machine
   pub below : after.taken.hart < length before.machine.resting
   pub current : after.machine.current ≡ after.taken.hart
+  pub since : after.taken.since ≤ step
   pub taken : (harts : List ℕ) → length harts ≡ step → AreTurnsOf harts before.taken → AreTurnsOf (harts ++ after.taken.hart ∷ []) after.taken
   pub allowed : AllByRecursion IsDataChange (changes_of (changes_in_plan plan step before.machine))
   pub harts : harts_in after.machine ≡ harts_in before.machine
@@ -82,10 +78,8 @@ pub record IsPrepared (plan : Plan) (step : ℕ) (before after : Running) : Type
   pub made : after.made ≡ before.made ++ map (λ c. (step, c)) (changes_in_plan plan step before.machine)
   pub count : length after.machine.resting ≡ length before.machine.resting
   pub version : after.machine.processor.memory.version ≡ before.machine.processor.memory.version
-  pub each : length after.resting.items ≡ length before.resting.items
-  pub trails : trails_of after ≡ trails_of before
+  pub trails : after.trails.items ≡ before.trails.items
   pub quiet : IsQuietPlan (step + 1) after.quiet plan
-  pub still : IsStill (step + 1) after.still plan (length before.machine.resting) after.taken.hart
 
 -- the walk of the hart that steps goes on to its pc, where something starts there, and the other harts' walks stay
 pub record IsNoted (p : Profile) (words : List ℕ) (hart pc k : ℕ) (before after : TrailParts) : Type 0 where
@@ -102,13 +96,14 @@ pub record IsBegun (p : Profile) (image : Contents) (running : Running) : Type 0
   pub made : running.made ≡ []
   pub taken : AreTurnsOf [] running.taken
   pub last : running.taken.hart ≡ 0
+  pub since : running.taken.since ≡ 0
   pub current : running.machine.current ≡ 0
   pub some : 1 ≤ length running.machine.resting
-  pub each : length running.resting.items ≡ length running.machine.resting
-  pub empty : All (IsTrailOf []) (trails_of running)
+  pub each : length running.trails.items ≡ length running.machine.resting
+  pub empty : All (IsTrailOf []) running.trails.items
   pub quiet : running.quiet ≡ 0
-  pub still : running.still ≡ 0
   pub stays : (newest : ℕ → ℕ) × StaysFrom p image (length running.machine.resting) newest (harts_in running.machine) (harts_share running.machine)
+  pub going : last_exit (harts_share running.machine).events ≡ None
 
 -- the run of so many harts from a state in these steps is over
 pub record IsOver (p : Profile) (image : Contents) (count : ℕ) (harts : Harts) (s : Shared) (steps : List Planned) (end : RunEnd) (k : ℕ) (after : Running) : Type 0 where
@@ -118,7 +113,8 @@ pub record IsOver (p : Profile) (image : Contents) (count : ℕ) (harts : Harts)
   pub events : after.machine.processor.calls.events ≡ (run p harts s (steps_of steps)).shared.events
   pub made : after.made ≡ numbered 0 steps
   pub taken : AreTurnsOf (harts_of steps) after.taken
-  pub each : length after.resting.items ≡ count
+  pub since : after.taken.since ≤ k
+  pub each : length after.trails.items ≡ count
   pub last : after.taken.hart < count
-  pub walks : (j : ℕ) (t : TrailParts) → slice_get (trails_of after) j ≡ Some t → IsTrailOf (walk_of p (code_words image.code) j (steps_taken p harts s (steps_of steps))) t
+  pub walks : (j : ℕ) (t : TrailParts) → slice_get after.trails.items j ≡ Some t → IsTrailOf (walk_of p (code_words image.code) j (steps_taken p harts s (steps_of steps))) t
   pub allowed : AreStepsOf count (steps_of steps)

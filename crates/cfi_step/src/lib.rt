@@ -16,6 +16,7 @@ mod report;
 mod running;
 mod runs;
 mod starts;
+mod stretch;
 mod trail;
 mod turns;
 mod walks;

@@ -13,11 +13,12 @@ ghost use Rattle.cfi_script.specs.Plan.{planned, steps_of};
 ghost use Rattle.cfi_script.specs.Script.{IsScript, script_plan};
 ghost use Rattle.cfi_step.specs.Report.{AreWalked, IsReport};
 ghost use Rattle.cfi_step.specs.Running.{IsBegun, IsOver};
-ghost use Rattle.cfi_step.specs.Starts.{AreStartsOf};
+ghost use Rattle.cfi_step.specs.Starts.{AreStartsOf, LiesInCode};
 
 use crate::report::{RunEnd, RunReport, end_of};
-use crate::running::{Running, is_stop};
-use crate::starts::Starts;
+use crate::running::Running;
+use crate::starts::{Starts, lies_in_code};
+use crate::stretch::Halt;
 use cfi_script::Meddler;
 use cfi_verify::Checked;
 use rv_word::NoMemory;
@@ -33,6 +34,7 @@ fn finish<M: Meddler>(
     running: &mut Running,
 ) -> Result<(RunEnd, u64), NoMemory>
     requires starts { AreStartsOf (pair_profile checked.now.image checked.now.graph) (code_words checked.now.image.code) starts.now }
+    requires inside { LiesInCode (pair_profile checked.now.image checked.now.graph) (code_words checked.now.image.code) }
     requires begun { IsBegun (pair_profile checked.now.image checked.now.graph) checked.now.image running.old }
     ensures over { IfOk result (λ r. IsOver (pair_profile checked.now.image checked.now.graph) checked.now.image (length running.old.machine.resting)
         (harts_in running.old.machine) (harts_share running.old.machine)
@@ -42,15 +44,11 @@ fn finish<M: Meddler>(
 {
     let mut steps = 0;
     while steps < limit {
-        let turn = running.turn(alloc, checked, meddler, steps)?;
-        steps += 1;
-        if is_stop(turn) {
-            return Ok((end_of(turn), steps));
-        }
-        let (last, taken) = running.stretch(starts, steps, limit)?;
-        steps = taken;
-        if is_stop(last) {
-            return Ok((end_of(last), steps));
+        let until = running.choose(alloc, meddler, steps, limit)?;
+        match running.go_on(starts, steps, until) {
+            Ok(()) => steps = until,
+            Err(Halt::Stopped(turn, taken)) => return Ok((end_of(turn), taken)),
+            Err(Halt::NoMemory) => return Err(NoMemory),
         }
     }
     Ok((RunEnd::Limit, steps))
@@ -92,6 +90,7 @@ pub fn run<M: Meddler>(
     ensures kept { meddler.new ≡ meddler.old }
 {
     checked.is_safe();
+    lies_in_code(checked);
     let mut running = Running::new(alloc, checked.image(), input, harts)?;
     let starts = Starts::of(alloc, checked)?;
     let (end, steps) = finish(alloc, checked, &starts, meddler, limit, &mut running)?;

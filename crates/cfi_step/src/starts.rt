@@ -1,11 +1,13 @@
 //! Where something starts in the code of an image.
 
-ghost use Rattle.std.specs.Prelude.{◌≡◌, IfOk, slice_get};
+ghost use Rattle.std.specs.Prelude.{◌≡◌, ◌<◌, ◌^◌, ℕ, IfOk, Some, length, slice_get, slice_index};
+ghost use Rattle.cfi_rules.specs.Laws.{AreBytes};
 ghost use Rattle.cfi_rules.specs.Rules.{pair_profile};
 ghost use Rattle.cfi_rules.specs.Split.{code_words};
-ghost use Rattle.cfi_step.specs.Starts.{AreStartsOf};
+ghost use Rattle.cfi_step.specs.Starts.{AreStartsOf, LiesInCode};
 
 use cfi_verify::Checked;
+use rv_image::Image;
 use rv_image::memory_map::CODE_START;
 use rv_word::NoMemory;
 use std::alloc::Global;
@@ -38,10 +40,34 @@ impl Starts {
         Ok(Starts { words })
     }
 
-    /// Whether something starts at the word with a number, if the code has that word.
-    pub(crate) fn get(&self, word: usize) -> Option<bool>
-        ensures { result ≡ slice_get self.now word }
+    /// Whether something starts at the word with a number. Nothing is tested.
+    #[inline(always)]
+    pub(crate) fn at(&self, word: usize) -> bool
+        requires { word < length self.now }
+        ensures { Some result ≡ slice_get self.now word }
     {
-        self.words.get(word).copied()
+        self.words[word]
     }
+}
+
+/// Tells a proof that each word of what stands at an address is one of the code; nothing is computed.
+pub(crate) fn lies_in_code(checked: &Checked<'_>)
+    ensures { LiesInCode (pair_profile checked.now.image checked.now.graph) (code_words checked.now.image.code) }
+{
+    are_bytes(checked.image());
+}
+
+/// An image's code and data are bytes, of the lengths that an image has.
+fn are_bytes(image: &Image<'_>)
+    ensures { AreBytes image.now }
+{
+    are_small(image.code());
+    are_small(image.init());
+}
+
+fn are_small(bytes: &[u8])
+    ensures { (k : ℕ) → slice_index bytes.now k < 2 ^ 8 }
+{
+    // Tells the proof the range of each byte.
+    let _len = bytes.len();
 }

@@ -1,6 +1,6 @@
 //! The harts of a run's steps, as turns.
 
-ghost use Rattle.std.specs.Prelude.{◌≡◌, ◌≢◌, ◌==◌, ◌++◌, ◌∷◌, [], ℕ, List, length, IfOk, OnOk, OnErr};
+ghost use Rattle.std.specs.Prelude.{◌≡◌, ◌≢◌, ◌≤◌, ◌==◌, ◌++◌, ◌∷◌, [], ℕ, List, length, IfOk, OnOk, OnErr};
 ghost use Rattle.cfi_script.specs.Turns.{turns_of};
 ghost use Rattle.cfi_step.specs.Report.{last_hart};
 ghost use Rattle.cfi_step.specs.Taken.{AreTurnsOf};
@@ -78,6 +78,7 @@ impl TakenTurns {
     pub(crate) fn new(alloc: Global) -> TakenTurns
         ensures none { AreTurnsOf [] result }
         ensures hart { result.hart ≡ 0 }
+        ensures since { result.since ≡ 0 }
     {
         TakenTurns {
             ended: Turns::new(alloc),
@@ -89,6 +90,8 @@ impl TakenTurns {
     /// A hart takes the step with a number.
     #[inline(always)]
     pub(crate) fn take(&mut self, hart: u8, step: u64) -> Result<(), NoMemory>
+        requires { self.old.since ≤ step }
+        ensures since { OnOk result (self.new.since ≤ step) }
         ensures taken { OnOk result ((harts : List ℕ) → length harts ≡ step → AreTurnsOf harts self.old → AreTurnsOf (harts ++ hart ∷ []) self.new) }
         ensures hart { OnOk result (self.new.hart ≡ hart) }
     {
@@ -100,7 +103,9 @@ impl TakenTurns {
 
     /// Another hart takes the step with a number.
     fn turn_to(&mut self, hart: u8, step: u64) -> Result<(), NoMemory>
-        requires { hart ≢ self.old.hart }
+        requires other { hart ≢ self.old.hart }
+        requires since { self.old.since ≤ step }
+        ensures since { OnOk result (self.new.since ≤ step) }
         ensures taken { OnOk result ((harts : List ℕ) → length harts ≡ step → AreTurnsOf harts self.old → AreTurnsOf (harts ++ hart ∷ []) self.new) }
         ensures hart { OnOk result (self.new.hart ≡ hart) }
     {
@@ -112,10 +117,11 @@ impl TakenTurns {
 
     /// The turn that goes on ends, after so many steps of the run.
     fn close(&mut self, steps: u64) -> Result<(), NoMemory>
+        requires { self.old.since ≤ steps }
         ensures ended { OnOk result ((harts : List ℕ) → length harts ≡ steps → AreTurnsOf harts self.old → self.new.ended ≡ turns_of harts) }
         ensures hart { self.new.hart ≡ self.old.hart }
     {
-        let taken = steps.saturating_sub(self.since);
+        let taken = steps - self.since;
         if taken > 0 {
             self.ended.push(self.hart, taken)?;
         }
@@ -132,6 +138,7 @@ impl TakenTurns {
 
     /// The turns of a run of so many steps.
     pub(crate) fn into_turns(mut self, steps: u64) -> Result<Turns, NoMemory>
+        requires { self.since ≤ steps }
         ensures { IfOk result (λ turns. (harts : List ℕ) → length harts ≡ steps → AreTurnsOf harts self → turns ≡ turns_of harts) }
     {
         self.close(steps)?;

@@ -6,6 +6,7 @@ abbrev pub invariant-loop-index : goal.invariant-loop-index
 invariant-loop-index l = record {
   after : ComesAfter l.turns l.index l.before;
   reached : l.before ≤ l.step;
+  within : l.index ≤ length l.turns;
 }
 
 abbrev pub decreases-loop-index : goal.decreases-loop-index

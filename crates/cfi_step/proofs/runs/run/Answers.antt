@@ -2,7 +2,7 @@ use Rattle.std.proofs.Common.{◌≡◌, ◌∙◌, ap, length, subst, sym}
 use Rattle.cfi_rules.specs.Rules.{pair_profile}
 use Rattle.rv_image.specs.MemoryMap.{profile_of}
 use Rattle.rv_image.specs.declared.version.ImageVersion.{ImageVersion}
-use Rattle.rv_code.specs.State.{start_hart, start_shared}
+use Rattle.rv_code.specs.State.{Shared, last_exit, start_hart, start_shared}
 use Rattle.rv_machine.specs.Harts.{harts_in, harts_share}
 use Rattle.cfi_rules.proofs.Starts.{machine_may_start}
 use Rattle.cfi_rules.proofs.Walks.{safe_walks}
@@ -16,6 +16,7 @@ use Rattle.cfi_step.proofs.Replay.{in_order, replays}
 use Rattle.cfi_step.proofs.runs.run.Goals as goal
 
 pub finish-requires-clause-begun : goal.finish-requires-clause-begun
+unfolding last_exit
 finish-requires-clause-begun g c =
     let image = c.args.checked.now.image in
     let started = c.in_ok-running.ensures in
@@ -23,7 +24,7 @@ finish-requires-clause-begun g c =
     let version = rw c.image.ensures.value at started.version in
     begins (pair_profile image c.args.checked.now.graph) image c.args.checked.now.graph c.args.input.now c.args.harts c.in_ok-running.running c.is_safe.ensures
     (may_run c.args.checked.now.graph.version image.version c.args.harts c.requires)
-    started.count started.harts shared (ap (λ (v : ImageVersion). (profile_of v).shadow_size) version ∙ same_machine c.args.checked.now.graph.version image.version) started.made started.taken started.last started.current started.each started.empty started.quiet started.still
+    started.count started.harts shared (ap (λ (v : ImageVersion). (profile_of v).shadow_size) version ∙ same_machine c.args.checked.now.graph.version image.version) started.made started.taken started.last started.since started.current started.each started.empty started.quiet (ap (λ (s : Shared). last_exit s.events) shared)
 
 pub returns-clause-report : goal.returns-clause-report
 returns-clause-report g c =

@@ -20,6 +20,5 @@ loop-change-preserved c =
       count = c.make.ensures.count ∙ c.loop-change.invariant.count;
       version = c.make.ensures.version ∙ c.loop-change.invariant.version;
       taken = c.make.ensures.taken ∙ c.loop-change.invariant.taken;
-      trail = c.make.ensures.trail ∙ c.loop-change.invariant.trail;
-      resting = c.make.ensures.resting ∙ c.loop-change.invariant.resting;
+      trails = c.make.ensures.trails ∙ c.loop-change.invariant.trails;
     }

@@ -15,6 +15,5 @@ invariant-loop-change l = record {
   count : length l.self.machine.resting ≡ length l.initial.self.machine.resting;
   version : l.self.machine.processor.memory.version ≡ l.initial.self.machine.processor.memory.version;
   taken : l.self.taken ≡ l.initial.self.taken;
-  trail : l.self.trail ≡ l.initial.self.trail;
-  resting : l.self.resting ≡ l.initial.self.resting;
+  trails : l.self.trails ≡ l.initial.self.trails;
 }

@@ -1,7 +1,7 @@
 use Rattle.std.proofs.Common.{sym, subst}
 use Rattle.cfi_step.specs.Trail.{IsTrailOf, TrailParts}
 use Rattle.cfi_step.proofs.Turned.{ring_takes}
-use Rattle.cfi_step.proofs.trail.Notes.note.Goals as goal
+use Rattle.cfi_step.proofs.trail.Trail.note.Goals as goal
 
 pub returns-clause-walk : goal.returns-clause-walk
 returns-clause-walk c walk of =
