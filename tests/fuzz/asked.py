@@ -7,7 +7,7 @@ import random
 from tests.fuzz.answers import wrong
 
 KIB = 1 << 10
-USUAL, MACHINE = 176 * KIB, 320 * KIB  # bytes of a call without its files, and of a machine's table of pages and the first of them
+USUAL, MACHINE = 184 * KIB, 320 * KIB  # bytes of a call without its files, and of a machine's table of pages and the first of them
 BASE = {b"run": USUAL + MACHINE, b"compare": USUAL + 2 * MACHINE, b"compare-link": USUAL + 2 * MACHINE}
 TIMES, SECONDS, BLOCK = 64, 1, 64 * KIB
 COMMANDS = (b"rewrite", b"verify", b"run", b"compare", b"harden", b"link", b"compare-link")

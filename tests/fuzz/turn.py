@@ -14,7 +14,7 @@ each call:
 - it changes, makes and removes no file but the three of a `rewrite`, a `harden` or a `link` that ends with status 0 or 4;
 - it takes at most a second of a processor, or one for each 64 KiB that it reads, prints or writes;
 - its memory is at most 64 times what it reads, prints and writes, beside what each call has: the pages of the program and of the
-  C library, and 176 KiB; for `run` also 320 KiB, a machine's table of pages and the first of them, for `compare` and `compare-link`
+  C library, and 184 KiB; for `run` also 320 KiB, a machine's table of pages and the first of them, for `compare` and `compare-link`
   those of two, and 256 bytes for each of STEPS, since they hold the system calls of both;
 - what is hardened, `verify` accepts, `compare` or `compare-link` takes and never says `differs` of, and `run` runs, to its end
   within as many steps for each of the program's as the form has; and `run` says of a pair that is refused or rejected just what
